@@ -1,0 +1,113 @@
+//! DHCP unique identifiers.
+
+ghost use Rattle.std.specs.Prelude.{◌≡◌, ◌≤◌, ◌↔◌, ℕ, List, length, Ok, IfOk, IsErrOf, string_bytes};
+ghost use Rattle.text_fields.specs.Octets.{hex};
+ghost use Rattle.client_id.specs.Octets.{padded};
+ghost use Rattle.client_id.specs.Duid.{IsDuid, IsHex, duid_in, duid_of};
+
+use crate::error::ClientIdError;
+use std::alloc::Global;
+use std::marker::Model;
+use text_fields::{is_hex, octets_of};
+
+/// A DHCP unique identifier (RFC 8415, section 11): 3 to 130 octets, the two of its type included.
+/// Contracts see the list of its octets.
+#[derive(Clone, Copy, Debug, PartialEq, Eq, Hash)]
+pub struct Duid {
+    bytes: [u8; 130],
+    len: u8,
+}
+
+impl Model for Duid {
+    ghost use Rattle.std.specs.Prelude.{List, ℕ, length, take};
+    ghost use Rattle.client_id.specs.Octets.{IsPadded, padded};
+
+    ghost Value = { List ℕ };
+
+    ghost view = { λ d. take d.len d.bytes };
+
+    ghost invariant = { λ d. IsPadded d.bytes d.len };
+
+    ghost inverse = { λ octets. record { bytes = padded octets; len = length octets } };
+
+    ghost use Rattle.client_id.specs.PaddedLaws.{padded-take, length-take_len};
+
+    ghost inverse_ok = { λ d h i. record { bytes = padded-take d.bytes d.len h i; len = length-take_len d.bytes d.len h i } };
+}
+
+#[tactic(auto, using(crate::proofs::Filling::filled_zeros))]
+fn filled(octets: &[u8]) -> [u8; 130]
+    requires { length octets.now ≤ 130 }
+    ensures { result ≡ padded octets.now }
+{
+    let mut bytes = [0u8; 130];
+    bytes[..octets.len()].copy_from_slice(octets);
+    bytes
+}
+
+#[tactic(auto, using(crate::proofs::TextLaws::odd_hex, crate::proofs::TextLaws::even_hex, crate::proofs::TextLaws::long_hex, crate::proofs::TextLaws::duid_found))]
+fn read_hex(text: &[u8]) -> Result<Duid, ClientIdError>
+    ensures { result ≡ duid_of text.now }
+{
+    if !is_hex(text) {
+        return Err(ClientIdError::Hex);
+    }
+    if text.len() > 260 {
+        return Err(ClientIdError::TooLong);
+    }
+    let mut buffer = [0u8; 130];
+    let octets = &mut buffer[..text.len() / 2];
+    match octets_of(text, octets) {
+        Some(()) => Duid::from_bytes(octets),
+        None => Err(ClientIdError::Hex),
+    }
+}
+
+impl Duid {
+    /// The identifier of these octets: `TooShort` for fewer than 3, `TooLong` for more than 130.
+    #[tactic(auto, using(crate::proofs::Filling::is_padded))]
+    pub fn from_bytes(octets: &[u8]) -> Result<Duid, ClientIdError>
+        ensures { result ≡ duid_in octets.now }
+    {
+        if octets.len() < 3 {
+            return Err(ClientIdError::TooShort);
+        }
+        if octets.len() > 130 {
+            return Err(ClientIdError::TooLong);
+        }
+        Ok(Duid {
+            bytes: filled(octets),
+            len: octets.len() as u8,
+        })
+    }
+
+    /// The octets: 3 to 130.
+    pub fn as_bytes(&self) -> &[u8]
+        ensures octets { result.now ≡ self.now }
+        ensures whole { IsDuid result.now }
+    {
+        &self.bytes[..self.len as usize]
+    }
+
+    /// The identifier that lower-case digits spell, two for each octet: `Hex` where they spell no octets,
+    /// else as `from_bytes`.
+    pub fn from_hex(text: &[u8]) -> Result<Duid, ClientIdError>
+        // What is read is spelled so.
+        ensures found { IfOk result (λ d. (text.now ≡ hex d) × IsDuid d) }
+        // What is spelled so is read.
+        ensures only { (octets : List ℕ) → IsDuid octets → text.now ≡ hex octets → result ≡ Ok octets }
+        // Digits come before lengths.
+        ensures hex { IsErrOf result ClientIdError.Hex ↔ ¬ (IsHex text.now) }
+        ensures exact { result ≡ duid_of text.now }
+    {
+        read_hex(text)
+    }
+
+    /// Two lower-case digits for each octet; `Memory` where a growth was refused.
+    pub fn to_hex(&self, alloc: Global) -> Result<String, ClientIdError>
+        ensures { IfOk result (λ text. string_bytes text ≡ hex self.now) }
+    {
+        let text = hex::encode(alloc, self.as_bytes())?;
+        Ok(text)
+    }
+}

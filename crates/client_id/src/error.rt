@@ -1,0 +1,31 @@
+//! Why octets or digits are no identifier.
+
+ghost use Rattle.std.specs.Prelude.{◌≡◌};
+ghost use Rattle.client_id.specs.declared.error.ClientIdError.TheVariants.{Memory};
+
+use std::alloc::AllocError;
+use thiserror::Error;
+
+#[derive(Clone, Copy, Debug, PartialEq, Eq, Error)]
+pub enum ClientIdError {
+    /// A DUID has at least 3 octets, the two of its type included.
+    #[error("a DUID has at least 3 octets")]
+    TooShort,
+    /// A DUID has at most 130 octets.
+    #[error("a DUID has at most 130 octets")]
+    TooLong,
+    /// The text is no row of lower-case hexadecimal digits, two for each octet.
+    #[error("identifiers are written in pairs of lower-case hexadecimal digits")]
+    Hex,
+    /// A growth was refused.
+    #[error("out of memory")]
+    Memory,
+}
+
+impl From<AllocError> for ClientIdError {
+    ghost from_gives = { λ _ e. e ≡ Memory };
+
+    fn from(_e: AllocError) -> ClientIdError {
+        ClientIdError::Memory
+    }
+}

@@ -1,0 +1,13 @@
+//! Why a number is no time.
+
+use thiserror::Error;
+
+#[derive(Clone, Copy, Debug, PartialEq, Eq, Error)]
+pub enum LeadTimeError {
+    /// A reading is at most 2^48 ms.
+    #[error("a reading is at most 2^48 ms")]
+    ReadingTooLarge,
+    /// A skew is at most a day.
+    #[error("a skew is at most 86,400,000 ms")]
+    SkewTooLarge,
+}

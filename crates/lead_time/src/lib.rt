@@ -1,0 +1,12 @@
+//! What a clock showed, and how far it may be from true time.
+#![tactic(auto)]
+
+mod bounds;
+mod error;
+mod reading;
+mod skew;
+
+pub use bounds::{earliest, latest};
+pub use error::LeadTimeError;
+pub use reading::Reading;
+pub use skew::Skew;

@@ -1,0 +1,59 @@
+-- The canonical text of a prefix: eight groups of four lower-case digits, a slash, the length (RFC 4291, sections 2.2 and 2.3).
+use Rattle.std.specs.Prelude.{◌≡◌, ℕ, zero, suc, ◌+◌, ◌*◌, ◌/◌, ◌%◌, ◌^◌, ◌==◌, List, [], ◌∷◌, ◌++◌, length, Option, Some, None, map, nat_le, if◌then◌else◌}
+use Rattle.std.specs.Fmt.{decimal}
+use Rattle.text_fields.specs.Reading.{◌>>=◌}
+use Rattle.text_fields.specs.Pieces.{joined, split}
+use Rattle.text_fields.specs.Octets.{hex, octets_of}
+use Rattle.text_fields.specs.Number.{number_of}
+use Rattle.prefix_range.specs.Prefix.{Prefix, size_of}
+
+-- the lowest 16 n bits of an address as n groups, the highest first
+abbrev pub groups_of : ℕ → ℕ → List ℕ
+groups_of zero address = []
+groups_of (suc n) address = groups_of n (address / 65536) ++ address % 65536 ∷ []
+
+-- the four digits of a group
+abbrev pub group_text : ℕ → List ℕ
+group_text group = hex (group / 256 ∷ group % 256 ∷ [])
+
+abbrev pub address_text : ℕ → List ℕ
+address_text address = joined 58 (map group_text (groups_of 8 address))
+
+abbrev pub prefix_text : Prefix → List ℕ
+prefix_text p = joined 47 (address_text p.address ∷ decimal p.length ∷ [])
+
+-- The same, read.
+
+-- the group that two octets are
+abbrev pub group_in : List ℕ → Option ℕ
+group_in (high ∷ low ∷ []) = Some (256 * high + low)
+group_in _ = None
+
+-- the group that four digits spell
+unfoldable pub group_of : List ℕ → Option ℕ
+group_of word = octets_of word >>= group_in
+
+-- the address that groups so far and some more make
+unfoldable pub address_on : ℕ → List (List ℕ) → Option ℕ
+address_on address [] = Some address
+address_on address (word ∷ words) = do
+  group ← group_of word
+  address_on (65536 * address + group) words
+
+unfoldable pub address_of : List ℕ → Option ℕ
+address_of text = if length (split 58 text) == 8 then address_on 0 (split 58 text) else None
+
+-- the prefix of an address and a length
+abbrev pub made : ℕ → ℕ → Option Prefix
+made address length = if nat_le length 128 then (if address % size_of length == 0 then Some (record { address = address; length = length }) else None) else None
+
+abbrev pub parts_prefix : List (List ℕ) → Option Prefix
+parts_prefix (address ∷ length ∷ []) = do
+  a ← address_of address
+  n ← number_of length
+  made a n
+parts_prefix _ = None
+
+-- the prefix that a word spells in canonical form
+unfoldable pub prefix_word : List ℕ → Option Prefix
+prefix_word word = parts_prefix (split 47 word)

@@ -1,0 +1,31 @@
+//! Why numbers or texts are no prefix.
+
+ghost use Rattle.std.specs.Prelude.{◌≡◌};
+ghost use Rattle.prefix_range.specs.declared.error.PrefixError.TheVariants.{Memory};
+
+use std::alloc::AllocError;
+use thiserror::Error;
+
+#[derive(Clone, Copy, Debug, PartialEq, Eq, Error)]
+pub enum PrefixError {
+    /// A prefix has at most 128 bits.
+    #[error("a prefix has at most 128 bits")]
+    LengthOver128,
+    /// A bit of the address past the length is set.
+    #[error("a bit past the prefix's length is set")]
+    HostBits,
+    /// The text is not in the canonical form.
+    #[error("a prefix is eight groups of four lower-case digits, a slash and its length")]
+    NotCanonical,
+    /// A growth was refused.
+    #[error("out of memory")]
+    Memory,
+}
+
+impl From<AllocError> for PrefixError {
+    ghost from_gives = { λ _ e. e ≡ Memory };
+
+    fn from(_e: AllocError) -> PrefixError {
+        PrefixError::Memory
+    }
+}

@@ -1,0 +1,10 @@
+//! Prefixes of IPv6 addresses, as sets of addresses and as text (RFC 4291).
+#![tactic(auto)]
+
+mod error;
+mod pool;
+mod prefix;
+
+pub use error::PrefixError;
+pub use pool::unit;
+pub use prefix::Prefix;

@@ -1,0 +1,9 @@
+pub mod Cutting
+pub mod Digits
+pub mod HexLaws
+pub mod Steps
+pub mod PieceLaws
+pub mod NumberLaws
+pub mod OctetLaws
+pub mod WordLaws
+pub mod DigitTests
