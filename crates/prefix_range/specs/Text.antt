@@ -1,5 +1,5 @@
 -- The canonical text of a prefix: eight groups of four lower-case digits, a slash, the length (RFC 4291, sections 2.2 and 2.3).
-use Rattle.std.specs.Prelude.{◌≡◌, ℕ, zero, suc, ◌+◌, ◌*◌, ◌/◌, ◌%◌, ◌^◌, ◌==◌, List, [], ◌∷◌, ◌++◌, length, Option, Some, None, map, nat_le, if◌then◌else◌}
+use Rattle.std.specs.Prelude.{ℕ, zero, suc, ◌+◌, ◌*◌, ◌/◌, ◌%◌, ◌^◌, ◌==◌, List, [], ◌∷◌, ◌++◌, length, Option, Some, None, map, nat_lt, nat_le, if◌then◌else◌}
 use Rattle.std.specs.Fmt.{decimal}
 use Rattle.text_fields.specs.Reading.{◌>>=◌}
 use Rattle.text_fields.specs.Pieces.{joined, split}
@@ -33,15 +33,22 @@ group_in _ = None
 unfoldable pub group_of : List ℕ → Option ℕ
 group_of word = octets_of word >>= group_in
 
--- the address that groups so far and some more make
-unfoldable pub address_on : ℕ → List (List ℕ) → Option ℕ
-address_on address [] = Some address
-address_on address (word ∷ words) = do
-  group ← group_of word
-  address_on (65536 * address + group) words
+-- an address so far with one more group, where it fits 128 bits
+unfoldable pub with_group : ℕ → ℕ → Option ℕ
+with_group address group = if nat_lt (65536 * address + group) (2 ^ 128) then Some (65536 * address + group) else None
 
-unfoldable pub address_of : List ℕ → Option ℕ
-address_of text = if length (split 58 text) == 8 then address_on 0 (split 58 text) else None
+-- the address that the groups so far make with this many more
+unfoldable pub address_on : ℕ → ℕ → List (List ℕ) → Option ℕ
+address_on zero address [] = Some address
+address_on zero address (word ∷ words) = None
+address_on (suc n) address [] = None
+address_on (suc n) address (word ∷ words) = do
+  group ← group_of word
+  more ← with_group address group
+  address_on n more words
+
+abbrev pub address_of : List ℕ → Option ℕ
+address_of text = address_on 8 0 (split 58 text)
 
 -- the prefix of an address and a length
 abbrev pub made : ℕ → ℕ → Option Prefix
