@@ -1,2 +1,4 @@
 pub mod Ends
 pub mod Units
+pub mod Groups
+pub mod TextLaws

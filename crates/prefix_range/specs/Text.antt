@@ -1,6 +1,7 @@
 -- The canonical text of a prefix: eight groups of four lower-case digits, a slash, the length (RFC 4291, sections 2.2 and 2.3).
-use Rattle.std.specs.Prelude.{ℕ, zero, suc, ◌+◌, ◌*◌, ◌/◌, ◌%◌, ◌^◌, ◌==◌, List, [], ◌∷◌, ◌++◌, length, Option, Some, None, map, nat_lt, nat_le, if◌then◌else◌}
+use Rattle.std.specs.Prelude.{ℕ, zero, suc, ◌+◌, ◌*◌, ◌/◌, ◌%◌, ◌^◌, ◌==◌, List, [], ◌∷◌, ◌++◌, length, Option, Some, None, map, option_map, nat_lt, nat_le, if◌then◌else◌}
 use Rattle.std.specs.Fmt.{decimal}
+use Rattle.std.specs.Int.{w16, to_be_bytes, from_be_bytes}
 use Rattle.text_fields.specs.Reading.{◌>>=◌}
 use Rattle.text_fields.specs.Pieces.{joined, split}
 use Rattle.text_fields.specs.Octets.{hex, octets_of}
@@ -8,15 +9,15 @@ use Rattle.text_fields.specs.Number.{number_of}
 use Rattle.prefix_range.specs.Prefix.{Prefix, size_of}
 
 -- the lowest 16 n bits of an address as n groups, the highest first
-abbrev pub groups_of : ℕ → ℕ → List ℕ
+unfoldable pub groups_of : ℕ → ℕ → List ℕ
 groups_of zero address = []
 groups_of (suc n) address = groups_of n (address / 65536) ++ address % 65536 ∷ []
 
 -- the four digits of a group
 abbrev pub group_text : ℕ → List ℕ
-group_text group = hex (group / 256 ∷ group % 256 ∷ [])
+group_text group = hex (to_be_bytes w16 group)
 
-abbrev pub address_text : ℕ → List ℕ
+unfoldable pub address_text : ℕ → List ℕ
 address_text address = joined 58 (map group_text (groups_of 8 address))
 
 abbrev pub prefix_text : Prefix → List ℕ
@@ -24,14 +25,9 @@ prefix_text p = joined 47 (address_text p.address ∷ decimal p.length ∷ [])
 
 -- The same, read.
 
--- the group that two octets are
-abbrev pub group_in : List ℕ → Option ℕ
-group_in (high ∷ low ∷ []) = Some (256 * high + low)
-group_in _ = None
-
 -- the group that four digits spell
 unfoldable pub group_of : List ℕ → Option ℕ
-group_of word = octets_of word >>= group_in
+group_of word = if length word == 4 then option_map (from_be_bytes w16) (octets_of word) else None
 
 -- an address so far with one more group, where it fits 128 bits
 unfoldable pub with_group : ℕ → ℕ → Option ℕ

@@ -69,3 +69,11 @@ octets_are_bytes (x ∷ xs) h (suc i) = octets_are_bytes xs h.1 i
 -- the four octets of a number
 pub are_octets : (n : ℕ) → AreOctets (to_be_bytes w32 n)
 are_octets n = (omega arith, (omega arith, (omega arith, (omega arith, tt))))
+
+-- no digit is a colon
+colon_lacks : (n : ℕ) → n < 16 → hex_digit n ≢ 58
+colon_lacks n lt e = grind (arith, nat_tests)
+
+pub hex_lacks_colon : (xs : List ℕ) → AreOctets xs → Lacks 58 (hex xs)
+hex_lacks_colon [] h = tt
+hex_lacks_colon (x ∷ xs) h = (colon_lacks (x / 16) (omega (arith, h.0)), (colon_lacks (x % 16) (omega arith), hex_lacks_colon xs h.1))

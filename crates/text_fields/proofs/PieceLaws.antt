@@ -63,3 +63,14 @@ joined-behind stop piece [] = sym (append-nil piece)
 joined-behind stop piece (next ∷ pieces) =
     ap (λ (t : List ℕ). piece ++ stop ∷ t) (joined-behind stop next pieces)
     ∙ ap (λ (t : List ℕ). piece ++ t) (sym (flat_map-cons (λ (p : List ℕ). stop ∷ p) next pieces))
+
+-- pieces that lack an octet, side by side
+pub Lacks-append : (stop : ℕ) (a b : List ℕ) → Lacks stop a → Lacks stop b → Lacks stop (a ++ b)
+Lacks-append stop [] b ha hb = hb
+Lacks-append stop (x ∷ a) b ha hb = (ha.0, Lacks-append stop a b ha.1 hb)
+
+-- and joined by another octet
+pub Lacks-joined : (stop other : ℕ) (pieces : List (List ℕ)) → AllLack stop pieces → other ≢ stop → Lacks stop (joined other pieces)
+Lacks-joined stop other [] h ne = tt
+Lacks-joined stop other (piece ∷ []) h ne = h.0
+Lacks-joined stop other (piece ∷ next ∷ pieces) h ne = Lacks-append stop piece (other ∷ joined other (next ∷ pieces)) h.0 (ne, Lacks-joined stop other (next ∷ pieces) h.1 ne)
