@@ -1,1 +1,3 @@
 pub mod Journals
+pub mod Order
+pub mod Tests

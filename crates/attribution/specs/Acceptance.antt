@@ -1,0 +1,75 @@
+-- What an accepted certificate shows.
+use Rattle.std.specs.Prelude.{◌≡◌, ◌≢◌, ℕ, ◌+◌, ◌*◌, ◌<◌, ◌≤◌, ◌⊎◌, List, [], ◌∷◌, All, Contains as Has}
+use Rattle.prefix_range.specs.Prefix.{HasAddress, Contains, Overlaps}
+use Rattle.binding_rules.specs.declared.role.Role.{Role}
+use Rattle.binding_rules.specs.declared.role.Role.TheVariants.{Primary, Secondary}
+use Rattle.journal_text.specs.declared.event.Event.TheVariants.{Grant, Close}
+use Rattle.journal_text.specs.declared.event.Lease.{Lease}
+use Rattle.journal_text.specs.declared.line.Line.{Line}
+use Rattle.causal_order.specs.declared.reference.Ref.{Ref}
+use Rattle.causal_order.specs.Journals.{Journals, journal_of, Names}
+use Rattle.causal_order.specs.Order.{WrittenBy, WrittenFrom}
+use Rattle.certificate.specs.declared.claim.Certificate.{Certificate}
+use Rattle.certificate.specs.declared.claim.Piece.{Piece}
+use Rattle.certificate.specs.declared.claim.Foreign.{Foreign}
+use Rattle.certificate.specs.declared.claim.Reason.{Reason}
+use Rattle.certificate.specs.declared.claim.Reason.TheVariants.{Early, Late, Released}
+use Rattle.attribution.specs.Run.{Step, IsRun, KeepsSkew, Leaves, Holds, HoldsWhole, infinity}
+
+-- the line grants the lease
+abbrev pub Grants : Journals → Ref → Lease → Type 0
+Grants js r g = (l : Line) × Names js r l × (l.event ≡ Grant g)
+
+-- The grant carries the piece: it is the holder's, of a prefix round the one asked of; it was written by the piece's
+-- beginning, and it lasts to the piece's end (RFC 8415, section 21.22).
+pub record IsCarried (js : Journals) (skew : ℕ) (c : Certificate) (p : Piece) : Type 0 where
+  pub lease : Lease
+  pub grants : Grants js p.grant lease
+  pub holder : lease.client ≡ c.holder
+  pub round : Contains lease.prefix c.prefix
+  pub latest : ℕ
+  pub written_by : WrittenBy js p.latest p.grant latest
+  pub begun : latest + skew ≤ p.from
+  pub earliest : ℕ
+  pub written_from : WrittenFrom js p.earliest p.grant earliest
+  pub lasts : (lease.valid ≡ infinity) ⊎ (p.to + skew ≤ earliest + 1000 * lease.valid)
+
+-- the pieces have positive length, and lie end to end from the one moment to the other
+abbrev pub Tile : ℕ → ℕ → List Piece → Type 0
+Tile from to [] = from ≡ to
+Tile from to (p ∷ ps) = (p.from ≡ from) × (p.from < p.to) × Tile p.to to ps
+
+-- The lease, granted at r, does not touch [from, to): it ended before, or began after. No line of a journal gives a lease back
+-- yet, so no reason of that kind holds.
+abbrev pub IsOutside : Journals → ℕ → Ref → Lease → ℕ → ℕ → Reason → Type 0
+IsOutside js skew r g from to (Early chain) = (g.valid ≢ infinity) × ((x : ℕ) × WrittenBy js chain r x × (x + skew + 1000 * g.valid ≤ from))
+IsOutside js skew r g from to (Late chain) = (x : ℕ) × WrittenFrom js chain r x × (to + skew ≤ x)
+IsOutside js skew r g from to (Released release order chain) = ⊥
+
+-- a line at or past this reading closes the journal
+abbrev pub ClosesFrom : List Line → ℕ → Type 0
+ClosesFrom lines reading = (l : Line) × Has lines l × (l.event ≡ Close) × (reading ≤ l.reading)
+
+pub record IsAccepted (js : Journals) (skew : ℕ) (c : Certificate) : Type 0 where
+  pub interval : c.from < c.to
+  pub closed : (side : Role) → ClosesFrom (journal_of js side) (c.to + skew)
+  pub tiled : Tile c.from c.to c.pieces
+  pub some : c.pieces ≢ []
+  pub carried : All (IsCarried js skew c) c.pieces
+  pub covered : (r : Ref) (g : Lease) → Grants js r g → g.client ≢ c.holder → Overlaps g.prefix c.prefix
+      → (f : Foreign) × Has c.foreign f × (f.grant ≡ r)
+  pub outside : All (λ f. (g : Lease) × Grants js f.grant g × IsOutside js skew f.grant g c.from c.to f.reason) c.foreign
+
+-- That client had a valid delegation of the whole prefix at every moment of the interval, and no other client had a
+-- valid delegation of any address in it.
+pub record IsTrueIn (run : List Step) (c : Certificate) : Type 0 where
+  pub held : (m : ℕ) → c.from ≤ m → m < c.to → HoldsWhole run c.prefix c.holder m
+  pub alone : (m address : ℕ) (client : List ℕ) → c.from ≤ m → m < c.to → HasAddress c.prefix address → Holds run address client m → client ≡ c.holder
+
+-- true in every run of the pair that leaves these journals, with each clock within the skew of true time
+abbrev pub IsTrueInEveryRun : (Role → List Line → Type 0) → Journals → ℕ → Certificate → Type 0
+IsTrueInEveryRun IsLegal js skew c = (run : List Step) → IsRun IsLegal run → KeepsSkew skew run → Leaves run Primary js.a → Leaves run Secondary js.b → IsTrueIn run c
+
+-- the headline: what is accepted is true
+abbrev pub AcceptedIsTrue : (Role → List Line → Type 0) → Type 0
+AcceptedIsTrue IsLegal = (js : Journals) (skew : ℕ) (c : Certificate) → IsAccepted js skew c → IsTrueInEveryRun IsLegal js skew c

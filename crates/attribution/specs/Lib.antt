@@ -1,0 +1,6 @@
+pub mod Run
+pub mod Legal
+pub mod Acceptance
+pub mod FirstRefusal
+pub mod Tests
+pub mod Listing
