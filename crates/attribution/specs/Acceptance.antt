@@ -3,17 +3,17 @@ use Rattle.std.specs.Prelude.{◌≡◌, ◌≢◌, ℕ, ◌+◌, ◌*◌, ◌<�
 use Rattle.prefix_range.specs.Prefix.{HasAddress, Contains, Overlaps}
 use Rattle.binding_rules.specs.declared.role.Role.{Role}
 use Rattle.binding_rules.specs.declared.role.Role.TheVariants.{Primary, Secondary}
-use Rattle.journal_text.specs.declared.event.Event.TheVariants.{Grant, Close}
-use Rattle.journal_text.specs.declared.event.Lease.{Lease}
-use Rattle.journal_text.specs.declared.line.Line.{Line}
+use Rattle.journal_lines.specs.declared.event.Event.TheVariants.{Grant, Close}
+use Rattle.journal_lines.specs.declared.event.Lease.{Lease}
+use Rattle.journal_lines.specs.declared.line.Line.{Line}
 use Rattle.causal_order.specs.declared.reference.Ref.{Ref}
 use Rattle.causal_order.specs.Journals.{Journals, journal_of, Names}
 use Rattle.causal_order.specs.Order.{WrittenBy, WrittenFrom}
-use Rattle.certificate.specs.declared.claim.Certificate.{Certificate}
-use Rattle.certificate.specs.declared.claim.Piece.{Piece}
-use Rattle.certificate.specs.declared.claim.Foreign.{Foreign}
-use Rattle.certificate.specs.declared.claim.Reason.{Reason}
-use Rattle.certificate.specs.declared.claim.Reason.TheVariants.{Early, Late, Released}
+use Rattle.claims.specs.declared.certificate.Certificate.{Certificate}
+use Rattle.claims.specs.declared.certificate.Piece.{Piece}
+use Rattle.claims.specs.declared.certificate.Foreign.{Foreign}
+use Rattle.claims.specs.declared.certificate.Reason.{Reason}
+use Rattle.claims.specs.declared.certificate.Reason.TheVariants.{Early, Late, Released}
 use Rattle.attribution.specs.Run.{Step, IsRun, KeepsSkew, Leaves, Holds, HoldsWhole, infinity}
 
 -- the line grants the lease

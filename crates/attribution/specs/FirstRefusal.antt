@@ -3,15 +3,15 @@ use Rattle.std.specs.Prelude.{◌≡◌, ◌≢◌, ℕ, ◌+◌, ◌*◌, ◌<�
 use Rattle.prefix_range.specs.Prefix.{Contains, Overlaps}
 use Rattle.binding_rules.specs.declared.role.Role.{Role}
 use Rattle.binding_rules.specs.declared.role.Role.TheVariants.{Primary, Secondary}
-use Rattle.journal_text.specs.declared.event.Lease.{Lease}
+use Rattle.journal_lines.specs.declared.event.Lease.{Lease}
 use Rattle.causal_order.specs.declared.reference.Ref.{Ref}
 use Rattle.causal_order.specs.Journals.{Journals, journal_of}
 use Rattle.causal_order.specs.Order.{WrittenBy, WrittenFrom}
-use Rattle.certificate.specs.declared.claim.Certificate.{Certificate}
-use Rattle.certificate.specs.declared.claim.Piece.{Piece}
-use Rattle.certificate.specs.declared.claim.Foreign.{Foreign}
+use Rattle.claims.specs.declared.certificate.Certificate.{Certificate}
+use Rattle.claims.specs.declared.certificate.Piece.{Piece}
+use Rattle.claims.specs.declared.certificate.Foreign.{Foreign}
 use Rattle.attribution.specs.declared.verdict.Verdict.{Verdict}
-use Rattle.attribution.specs.declared.verdict.Verdict.TheVariants.{Accepted, EmptyInterval, PastEnd, PieceGap, PieceGrant, Uncovered, Reason}
+use Rattle.attribution.specs.declared.verdict.Verdict.TheVariants.{Accepted, Journal, Certificate as NoCertificate, EmptyInterval, PastEnd, PieceGap, PieceGrant, Uncovered, Reason}
 use Rattle.attribution.specs.Run.{infinity}
 use Rattle.attribution.specs.Acceptance.{Grants, IsOutside, ClosesFrom, IsAccepted}
 
@@ -88,8 +88,10 @@ IsCovered js c = (r : Ref) (g : Lease) → IsForeign js c r g → IsNamed c r
 abbrev pub ReasonHolds : Journals → ℕ → Certificate → Foreign → Type 0
 ReasonHolds js skew c f = (g : Lease) × Grants js f.grant g × IsOutside js skew f.grant g c.from c.to f.reason
 
--- The verdict on the certificate: each condition before it is met, and its own is not.
+-- The verdict on the certificate: each condition before it is met, and its own is not. (The refusals of texts are no matter of it.)
 abbrev pub IsVerdict : Journals → ℕ → Certificate → Verdict → Type 0
+IsVerdict js skew c (Journal side fault) = ⊥
+IsVerdict js skew c (NoCertificate fault) = ⊥
 IsVerdict js skew c EmptyInterval = c.from < c.to → ⊥
 IsVerdict js skew c (PastEnd Primary) = (c.from < c.to) × (Reaches js skew c Primary → ⊥)
 IsVerdict js skew c (PastEnd Secondary) = (c.from < c.to) × Reaches js skew c Primary × (Reaches js skew c Secondary → ⊥)

@@ -1,8 +1,8 @@
 -- Journals that break no rule.
 use Rattle.std.specs.Prelude.{◌≡◌, ◌≢◌, ℕ, ◌+◌, ◌^◌, ◌<◌, ◌≤◌, List, Some, slice_get}
 use Rattle.binding_rules.specs.declared.role.Role.{Role}
-use Rattle.journal_text.specs.declared.event.Event.TheVariants.{Close}
-use Rattle.journal_text.specs.declared.line.Line.{Line}
+use Rattle.journal_lines.specs.declared.event.Event.TheVariants.{Close}
+use Rattle.journal_lines.specs.declared.line.Line.{Line}
 
 -- Rule 1: numbers count from 1 up to 2^20, readings never fall and are at most 2^48, nothing follows a close line.
 pub record KeepsRule1 (lines : List Line) : Type 0 where

@@ -1,9 +1,9 @@
 -- What an auditor has to look at: the lines that concern the prefix asked of.
 use Rattle.std.specs.Prelude.{◌≡◌, ℕ, List, Some, slice_get, Contains as Has}
 use Rattle.prefix_range.specs.Prefix.{Prefix, Overlaps}
-use Rattle.journal_text.specs.declared.event.Event.{Event}
-use Rattle.journal_text.specs.declared.event.Event.TheVariants.{Grant}
-use Rattle.journal_text.specs.declared.line.Line.{Line}
+use Rattle.journal_lines.specs.declared.event.Event.{Event}
+use Rattle.journal_lines.specs.declared.event.Event.TheVariants.{Grant}
+use Rattle.journal_lines.specs.declared.line.Line.{Line}
 use Rattle.causal_order.specs.declared.reference.Ref.{Ref}
 use Rattle.causal_order.specs.Journals.{Journals, Names}
 

@@ -2,10 +2,11 @@
 use Rattle.std.specs.Prelude.{◌≡◌, ◌≢◌, ℕ, ◌+◌, ◌*◌, ◌<◌, ◌≤◌, ◌⊎◌, Bool, true, false, List, [], ◌∷◌, Some, slice_get, map, filter, if◌then◌else◌}
 use Rattle.prefix_range.specs.Prefix.{Prefix, HasAddress, Contains}
 use Rattle.binding_rules.specs.declared.role.Role.{Role}
-use Rattle.journal_text.specs.declared.event.Event.{Event}
-use Rattle.journal_text.specs.declared.event.Event.TheVariants.{Grant, Close}
-use Rattle.journal_text.specs.declared.event.Lease.{Lease}
-use Rattle.journal_text.specs.declared.line.Line.{Line}
+use Rattle.journal_lines.specs.declared.event.Event.{Event}
+use Rattle.journal_lines.specs.declared.event.Event.TheVariants.{Grant, Close}
+use Rattle.journal_lines.specs.declared.event.Lease.{Lease}
+use Rattle.journal_lines.specs.declared.line.Line.{Line}
+use Rattle.journal_lines.specs.Close.{until_close}
 use Rattle.causal_order.specs.Tests.{is_side}
 
 -- one event of one server, at a moment
@@ -13,15 +14,6 @@ pub record Step : Type 0 where
   pub side : Role
   pub moment : ℕ
   pub line : Line
-
-abbrev pub is_close : Event → Bool
-is_close Close = true
-is_close _ = false
-
--- the lines up to and with the first close line
-abbrev pub until_close : List Line → List Line
-until_close [] = []
-until_close (l ∷ ls) = if is_close l.event then l ∷ [] else l ∷ until_close ls
 
 -- all lines of a side, also those after its close line
 abbrev pub lines_of : Role → List Step → List Line

@@ -3,19 +3,20 @@ use Rattle.std.specs.Prelude.{ℕ, ◌+◌, ◌*◌, ◌/◌, ◌^◌, min, max,
 use Rattle.std.specs.List.{list_any}
 use Rattle.std.specs.Str.{bytes_eq}
 use Rattle.prefix_range.specs.Prefix.{Prefix, size_of}
-use Rattle.journal_text.specs.declared.event.Event.{Event}
-use Rattle.journal_text.specs.declared.event.Event.TheVariants.{Grant}
-use Rattle.journal_text.specs.declared.event.Lease.{Lease}
-use Rattle.journal_text.specs.declared.line.Line.{Line}
+use Rattle.journal_lines.specs.declared.event.Event.{Event}
+use Rattle.journal_lines.specs.declared.event.Event.TheVariants.{Grant}
+use Rattle.journal_lines.specs.declared.event.Lease.{Lease}
+use Rattle.journal_lines.specs.declared.line.Line.{Line}
 use Rattle.causal_order.specs.declared.reference.Ref.{Ref}
 use Rattle.causal_order.specs.Journals.{Journals, line_of}
 use Rattle.causal_order.specs.Tests.{some_and, same_ref, written_by, written_from}
-use Rattle.certificate.specs.declared.claim.Certificate.{Certificate}
-use Rattle.certificate.specs.declared.claim.Piece.{Piece}
-use Rattle.certificate.specs.declared.claim.Foreign.{Foreign}
-use Rattle.certificate.specs.declared.claim.Reason.{Reason}
-use Rattle.certificate.specs.declared.claim.Reason.TheVariants.{Early, Late, Released}
-use Rattle.attribution.specs.Run.{is_close, infinity}
+use Rattle.claims.specs.declared.certificate.Certificate.{Certificate}
+use Rattle.claims.specs.declared.certificate.Piece.{Piece}
+use Rattle.claims.specs.declared.certificate.Foreign.{Foreign}
+use Rattle.claims.specs.declared.certificate.Reason.{Reason}
+use Rattle.claims.specs.declared.certificate.Reason.TheVariants.{Early, Late, Released}
+use Rattle.journal_lines.specs.Close.{is_close}
+use Rattle.attribution.specs.Run.{infinity}
 use Rattle.attribution.specs.FirstRefusal.{begin_at}
 
 abbrev pub granted_by : Event → Option Lease

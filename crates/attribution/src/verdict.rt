@@ -2,21 +2,28 @@
 
 use binding_rules::Role;
 use causal_order::Ref;
+use claims::CertificateFault;
+use journal_lines::JournalFault;
 
-/// What an auditor answers about a certificate over two journals.
+/// What an auditor answers about a certificate over two journals. Where it refuses, the first condition that
+/// isn't met, in this order.
 #[derive(Clone, Copy, Debug, PartialEq, Eq)]
 pub enum Verdict {
     /// The certificate is true in every run of the pair that leaves the journals.
     Accepted,
+    /// This side's text is no journal of that side.
+    Journal(Role, JournalFault),
+    /// The third text is no certificate.
+    Certificate(CertificateFault),
     /// The interval has no moment.
     EmptyInterval,
     /// The interval ends later than this side's journal shows.
     PastEnd(Role),
     /// The piece, counted from 1, doesn't begin where it must or has no moment; one past the last where the
     /// pieces end too early or there is none.
-    PieceGap(u32),
+    PieceGap(u64),
     /// The piece, counted from 1, isn't carried by the grant that it names.
-    PieceGrant(u32),
+    PieceGrant(u64),
     /// The least grant to another client that touches the prefix and that no foreign entry names.
     Uncovered(Ref),
     /// The grant of the first foreign entry that doesn't hold.

@@ -6,7 +6,7 @@ use Rattle.std.proofs.lemmas.Bool.{le-leb, leb-true}
 use Rattle.std.proofs.lemmas.Bool.Decides.{Decides-eqb, Decides-ltb, Decides-and, Decides-like}
 use Rattle.binding_rules.specs.declared.role.Role.{Role}
 use Rattle.binding_rules.specs.declared.role.Role.TheVariants.{Primary, Secondary}
-use Rattle.journal_text.specs.declared.line.Line.{Line}
+use Rattle.journal_lines.specs.declared.line.Line.{Line}
 use Rattle.causal_order.specs.declared.reference.Ref.{Ref}
 use Rattle.causal_order.specs.Journals.{Journals, journal_of, Names, line_of}
 use Rattle.causal_order.specs.Order.{IsLater, IsChain, EndsWith, Leads, WrittenBy, WrittenFrom}
@@ -48,7 +48,7 @@ line_by : (b : Bool) (r : Ref) (o : Option Line) (l : Line) → nat_lt 0 r.numbe
 line_by true r o l e h = ((decides_lt 0 r.number).0 e, h)
 line_by false r o l e h = absurd (cc)
 
-line_names : (js : Journals) (r : Ref) (l : Line) → line_of js r ≡ Some l → Names js r l
+pub line_names : (js : Journals) (r : Ref) (l : Line) → line_of js r ≡ Some l → Names js r l
 line_names js r l h = line_by (nat_lt 0 r.number) r (slice_get (journal_of js r.side) (r.number - 1)) l refl h
 
 pub names_line : (js : Journals) (r : Ref) (l : Line) → Names js r l → line_of js r ≡ Some l

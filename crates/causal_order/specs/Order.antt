@@ -1,7 +1,7 @@
 -- What two journals say of the moments at which their lines were written. A message reaches a partner after it was sent, and
 -- a journal's lines stand in the order in which they were written (RFC 8156, section 9: messages between the partners).
 use Rattle.std.specs.Prelude.{◌≡◌, ℕ, ◌<◌, List, [], ◌∷◌}
-use Rattle.journal_text.specs.declared.line.Line.{Line}
+use Rattle.journal_lines.specs.declared.line.Line.{Line}
 use Rattle.causal_order.specs.declared.reference.Ref.{Ref}
 use Rattle.causal_order.specs.Journals.{Journals, Names}
 

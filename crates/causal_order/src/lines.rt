@@ -4,7 +4,7 @@ ghost use Rattle.std.specs.Prelude.{◌≡◌};
 ghost use Rattle.causal_order.specs.Journals.{Journals, line_of};
 
 use crate::reference::Ref;
-use journal_text::Line;
+use journal_lines::Line;
 
 /// Two journals whose lines can be asked for.
 pub trait Lines {

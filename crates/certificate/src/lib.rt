@@ -1,8 +1,6 @@
-//! Certificates: who is said to have held which prefix when, and the evidence for it.
+//! The text of certificates.
 #![tactic(auto)]
 
-mod claim;
-mod lists;
-
-pub use claim::{Certificate, Clear, Foreign, Piece, Reason, Why};
-pub use lists::{ClearList, ForeignList, PieceList};
+pub use claims::{
+    Certificate, CertificateFault, Clear, ClearList, Foreign, ForeignList, Piece, PieceList, Reason, Why,
+};

@@ -2,7 +2,7 @@
 
 ghost use Rattle.std.specs.Prelude.{◌≡◌};
 
-use crate::claim::{Clear, Foreign, Piece};
+use crate::certificate::{Clear, Foreign, Piece};
 use std::marker::Model;
 
 /// Entries that clear releases, in the order in which they are written. Contracts see the list.
@@ -13,7 +13,7 @@ pub struct ClearList {
 
 impl Model for ClearList {
     ghost use Rattle.std.specs.Prelude.{List};
-    ghost use Rattle.certificate.specs.declared.claim.Clear.{Clear as ClearValue};
+    ghost use Rattle.claims.specs.declared.certificate.Clear.{Clear as ClearValue};
 
     ghost Value = { List ClearValue };
 
@@ -42,7 +42,7 @@ pub struct PieceList {
 
 impl Model for PieceList {
     ghost use Rattle.std.specs.Prelude.{List};
-    ghost use Rattle.certificate.specs.declared.claim.Piece.{Piece as PieceValue};
+    ghost use Rattle.claims.specs.declared.certificate.Piece.{Piece as PieceValue};
 
     ghost Value = { List PieceValue };
 
@@ -71,7 +71,7 @@ pub struct ForeignList {
 
 impl Model for ForeignList {
     ghost use Rattle.std.specs.Prelude.{List};
-    ghost use Rattle.certificate.specs.declared.claim.Foreign.{Foreign as ForeignValue};
+    ghost use Rattle.claims.specs.declared.certificate.Foreign.{Foreign as ForeignValue};
 
     ghost Value = { List ForeignValue };
 

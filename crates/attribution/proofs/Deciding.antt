@@ -1,0 +1,186 @@
+-- The tests decide their relations.
+use Rattle.std.specs.Prelude.{◌≡◌, ℕ, ◌+◌, ◌-◌, ◌*◌, ◌/◌, ◌^◌, ◌<◌, ◌≤◌, ◌⊎◌, min, max, Bool, true, false, ◌&&◌, ◌||◌, ◌==◌, nat_le, nat_lt, List, [], ◌∷◌, length, Option, Some, None, slice_get, Contains as Has, slice_index_or}
+use Rattle.std.specs.Bool.{Decides}
+use Rattle.std.specs.Str.{bytes_eq}
+use Rattle.std.specs.List.{list_any}
+use Rattle.std.proofs.Common.{zero, suc, arith, sym, ◌∙◌, ap, subst, inl, inr, refl}
+use Rattle.std.proofs.lemmas.Bool.{cases_lt}
+use Rattle.std.proofs.lemmas.Bool.Decides.{Decides-eqb, Decides-and, Decides-or, Decides-not, Decides-like}
+use Rattle.std.proofs.lemmas.Slice.Eq.{bytes_eq-Decides}
+use Rattle.std.proofs.lemmas.Nat.{pow_pos}
+use Rattle.std.proofs.Math.Nat.{add-mul, one-mul, div-mul-le_self, lt-div-mul-add, div-eq_of_lt-le}
+use Rattle.prefix_range.specs.Prefix.{Prefix, size_of, Contains, Overlaps}
+use Rattle.journal_lines.specs.declared.event.Event.{Event}
+use Rattle.journal_lines.specs.declared.event.Event.TheVariants.{Grant, Close}
+use Rattle.journal_lines.specs.declared.event.Lease.{Lease}
+use Rattle.journal_lines.specs.declared.line.Line.{Line}
+use Rattle.causal_order.specs.declared.reference.Ref.{Ref}
+use Rattle.causal_order.specs.Journals.{Journals, Names, line_of}
+use Rattle.causal_order.specs.Order.{WrittenBy, WrittenFrom}
+use Rattle.causal_order.specs.Tests.{some_and, same_ref}
+use Rattle.causal_order.proofs.Deciding.{decides_le, decides_lt, decides_ref, decides_some, line_names, names_line, decides_written_by, decides_written_from}
+use Rattle.claims.specs.declared.certificate.Certificate.{Certificate}
+use Rattle.claims.specs.declared.certificate.Piece.{Piece}
+use Rattle.claims.specs.declared.certificate.Foreign.{Foreign}
+use Rattle.claims.specs.declared.certificate.Reason.{Reason}
+use Rattle.claims.specs.declared.certificate.Reason.TheVariants.{Early, Late, Released}
+use Rattle.journal_lines.specs.Close.{is_close}
+use Rattle.attribution.specs.Run.{infinity}
+use Rattle.attribution.specs.Acceptance.{Grants, IsOutside, ClosesFrom}
+use Rattle.attribution.specs.FirstRefusal.{begin_at, IsInPlace, IsGranted, IsNamed, IsUncovered, ReasonHolds}
+use Rattle.attribution.specs.Tests.{granted_by, granted_at, lease_of, first_of, past_of, contains, overlaps, is_in_place, closes_from, is_granted, is_named, is_uncovered, is_outside, reason_holds}
+
+-- some item
+pub has_cases : {X : Type 0} (x y : X) (xs : List X) (k : ℕ) → k < length (x ∷ xs) → slice_index_or (x ∷ xs) k y ≡ y → (x ≡ y) ⊎ Has xs y
+has_cases x y xs zero lt e = inl e
+has_cases x y xs (suc k) lt e = inr (k, omega arith, e)
+
+pub decides_any : {X : Type 0} (test : X → Bool) (P : X → Type 0) → ((x : X) → Decides (test x) (P x)) → (xs : List X) → Decides (list_any test xs) ((x : X) × Has xs x × P x)
+decides_any test P each [] = (λ h. cc, λ h. let l = h.1.1 in absurd (omega arith))
+decides_any test P each (x ∷ xs) = Decides-like (test x || list_any test xs)
+    (λ h. elim h [ inl p ↦ (x, (0, omega arith, refl), p) | inr r ↦ (r.0, (suc r.1.0, (let l = r.1.1 in omega arith), r.1.2), r.2) ])
+    (λ h. elim (has_cases x h.0 xs h.1.0 h.1.1 h.1.2) [ inl e ↦ inl (subst P (sym e) h.2) | inr r ↦ inr (h.0, r, h.2) ])
+    (Decides-or (test x) (list_any test xs) (each x) (decides_any test P each xs))
+
+granted_is : (e : Event) (g : Lease) → granted_by e ≡ Some g → e ≡ Grant g
+granted_is (Grant x) g h = cc
+granted_is _ g h = cc
+
+granted_at_is : (js : Journals) (r : Ref) (g : Lease) (o : Option Line) → line_of js r ≡ o → granted_at o ≡ Some g → Grants js r g
+granted_at_is js r g None e h = cc
+granted_at_is js r g (Some l) e h = (l, line_names js r l e, granted_is l.event g h)
+
+pub lease_grants : (js : Journals) (r : Ref) (g : Lease) → lease_of js r ≡ Some g → Grants js r g
+lease_grants js r g h = granted_at_is js r g (line_of js r) refl h
+
+pub grants_lease : (js : Journals) (r : Ref) (g : Lease) → Grants js r g → lease_of js r ≡ Some g
+grants_lease js r g h = ap granted_at (names_line js r h.0 h.1) ∙ ap granted_by h.2
+
+pub decides_lease : (js : Journals) (r : Ref) (test : Lease → Bool) (P : Lease → Type 0) → ((g : Lease) → Decides (test g) (P g)) → Decides (some_and (lease_of js r) test) ((g : Lease) × Grants js r g × P g)
+decides_lease js r test P each = Decides-like (some_and (lease_of js r) test) (λ h. (h.0, lease_grants js r h.0 h.1, h.2)) (λ h. (h.0, grants_lease js r h.0 h.1, h.2)) (decides_some (lease_of js r) test P each)
+
+-- Prefixes.
+size_positive : (n : ℕ) → 0 < size_of n
+size_positive n = pow_pos (128 - n)
+
+next_times : (k s : ℕ) → (k + 1) * s ≡ k * s + s
+next_times k s = simp (add-mul, one-mul)
+
+-- the addresses of a prefix lie from its first up to the one past its last
+within_first : (p : Prefix) (a : ℕ) → a / size_of p.length ≡ p.address / size_of p.length → (first_of p ≤ a) × (a < past_of p)
+within_first p a e =
+    let s = size_of p.length in
+    let x = div-mul-le_self a s in
+    let y = lt-div-mul-add {a = a} {b = s} (size_positive p.length) in
+    let f : a / s * s ≡ first_of p = ap (λ n. n * s) e in
+    (omega arith, omega arith)
+
+first_within : (p : Prefix) (a : ℕ) → first_of p ≤ a → a < past_of p → a / size_of p.length ≡ p.address / size_of p.length
+first_within p a ge lt = div-eq_of_lt-le (size_of p.length) ge (let e = next_times (p.address / size_of p.length) (size_of p.length) in omega arith)
+
+-- p's addresses below the limit hold q's
+Holds : (limit first past low end : ℕ) → Type 0
+Holds limit first past low end = (a : ℕ) → a < limit → low ≤ a → a < end → (first ≤ a) × (a < past)
+
+holds_to : (limit first past low end : ℕ) → (limit ≤ low) ⊎ ((first ≤ low) × (min end limit ≤ past)) → Holds limit first past low end
+unfolding Holds
+holds_to limit first past low end (inl h) a lt ge le = absurd (omega arith)
+holds_to limit first past low end (inr h) a lt ge le = (omega arith, omega arith)
+
+holds_from : (limit first past low end : ℕ) → low < end → Holds limit first past low end → (low < limit) ⊎ (limit ≤ low) → (limit ≤ low) ⊎ ((first ≤ low) × (min end limit ≤ past))
+unfolding Holds
+holds_from limit first past low end some h (inr le) = inl le
+holds_from limit first past low end some h (inl lt) =
+    let x = h low lt (omega arith) some in
+    let y = h (min end limit - 1) (omega arith) (omega arith) (omega arith) in
+    inr (omega arith, omega arith)
+
+first_lt_past : (p : Prefix) → first_of p < past_of p
+first_lt_past p = let s = size_positive p.length in omega arith
+
+pub decides_contains : (p q : Prefix) → Decides (contains p q) (Contains p q)
+unfolding Holds
+decides_contains p q = Decides-like (contains p q)
+    (λ h a there.
+    let w = within_first q a there.1 in
+    let x = holds_to (2 ^ 128) (first_of p) (past_of p) (first_of q) (past_of q) h a there.0 w.0 w.1 in
+    (there.0, first_within p a x.0 x.1))
+    (λ h. holds_from (2 ^ 128) (first_of p) (past_of p) (first_of q) (past_of q) (first_lt_past q)
+    (λ a lt ge le. within_first p a (h a (lt, first_within q a ge le)).1)
+    (cases_lt (first_of q) (2 ^ 128)))
+    (Decides-or _ _ (decides_le (2 ^ 128) (first_of q)) (Decides-and _ _ (decides_le (first_of p) (first_of q)) (decides_le (min (past_of q) (2 ^ 128)) (past_of p))))
+
+meet_at : (limit f p g q : ℕ) → max f g < min (min p q) limit → (max f g < limit) × (f ≤ max f g) × (max f g < p) × (g ≤ max f g) × (max f g < q)
+meet_at limit f p g q h = (omega arith, omega arith, omega arith, omega arith, omega arith)
+
+meet_of : (limit f p g q a : ℕ) → a < limit → f ≤ a → a < p → g ≤ a → a < q → max f g < min (min p q) limit
+meet_of limit f p g q a x b c d e = omega arith
+
+pub decides_overlaps : (p q : Prefix) → Decides (overlaps p q) (Overlaps p q)
+decides_overlaps p q = Decides-like (overlaps p q)
+    (λ h.
+    let m = meet_at (2 ^ 128) (first_of p) (past_of p) (first_of q) (past_of q) h in
+    (max (first_of p) (first_of q), (m.0, first_within p (max (first_of p) (first_of q)) m.1 m.2), (m.0, first_within q (max (first_of p) (first_of q)) m.3 m.4)))
+    (λ h.
+    let x = within_first p h.0 h.1.1 in
+    let y = within_first q h.0 h.2.1 in
+    meet_of (2 ^ 128) (first_of p) (past_of p) (first_of q) (past_of q) h.0 h.1.0 x.0 x.1 y.0 y.1)
+    (decides_lt (max (first_of p) (first_of q)) (min (min (past_of p) (past_of q)) (2 ^ 128)))
+
+-- Conditions.
+close_is : (e : Event) → is_close e ≡ true → e ≡ Close
+close_is Close h = refl
+close_is _ h = cc
+
+decides_close : (e : Event) → Decides (is_close e) (e ≡ Close)
+decides_close e = (close_is e, λ h. ap is_close h)
+
+pub decides_closes : (lines : List Line) (reading : ℕ) → Decides (closes_from lines reading) (ClosesFrom lines reading)
+decides_closes lines reading = Decides-like (closes_from lines reading) (λ h. (h.0, h.1, h.2.0, h.2.1)) (λ h. (h.0, h.1, (h.2, h.3)))
+    (decides_any _ (λ l. (l.event ≡ Close) × (reading ≤ l.reading)) (λ l. Decides-and _ _ (decides_close l.event) (decides_le reading l.reading)) lines)
+
+pub decides_in_place : (c : Certificate) (k : ℕ) → Decides (is_in_place c k) (IsInPlace c k)
+decides_in_place c k = Decides-like (is_in_place c k)
+    (λ h. elim h [ inl x ↦ inl (x.0, x.1, x.2.0, x.2.1) | inr x ↦ inr (x.0, x.1.0, x.1.1) ])
+    (λ h. elim h [ inl x ↦ inl (x.0, x.1, (x.2, x.3)) | inr x ↦ inr (x.0, (x.1, x.2)) ])
+    (Decides-or _ _ (decides_some (slice_get c.pieces k) _ (λ p. (p.from ≡ begin_at c.from c.pieces k) × (p.from < p.to)) (λ p. Decides-and _ _ (Decides-eqb p.from (begin_at c.from c.pieces k)) (decides_lt p.from p.to)))
+    (Decides-and _ _ (Decides-eqb k (length c.pieces)) (Decides-and _ _ (decides_lt 0 k) (Decides-eqb (begin_at c.from c.pieces k) c.to))))
+
+pub decides_granted : (js : Journals) (skew : ℕ) (c : Certificate) (p : Piece) → Decides (is_granted js skew c p) (IsGranted js skew c p)
+decides_granted js skew c p = Decides-like (is_granted js skew c p)
+    (λ h. record {
+      lease = h.0;
+      grants = h.1;
+      holder = h.2.0;
+      round = h.2.1.0;
+      latest = h.2.1.1.0.0;
+      written_by = h.2.1.1.0.1;
+      begun = h.2.1.1.0.2;
+      earliest = h.2.1.1.1.0;
+      written_from = h.2.1.1.1.1;
+      lasts = h.2.1.1.1.2;
+    })
+    (λ h. (h.lease, h.grants, (h.holder, (h.round, ((h.latest, h.written_by, h.begun), (h.earliest, h.written_from, h.lasts))))))
+    (decides_lease js p.grant _ (λ g. (g.client ≡ c.holder) × (Contains g.prefix c.prefix
+    × (((x : ℕ) × WrittenBy js p.latest p.grant x × (x + skew ≤ p.from)) × ((x : ℕ) × WrittenFrom js p.earliest p.grant x × ((g.valid ≡ infinity) ⊎ (p.to + skew ≤ x + 1000 * g.valid))))))
+    (λ g. Decides-and _ _ (bytes_eq-Decides g.client c.holder) (Decides-and _ _ (decides_contains g.prefix c.prefix)
+    (Decides-and _ _ (decides_written_by js p.latest p.grant _ (λ x. x + skew ≤ p.from) (λ x. decides_le (x + skew) p.from))
+    (decides_written_from js p.earliest p.grant _ (λ x. (g.valid ≡ infinity) ⊎ (p.to + skew ≤ x + 1000 * g.valid))
+    (λ x. Decides-or _ _ (Decides-eqb g.valid infinity) (decides_le (p.to + skew) (x + 1000 * g.valid))))))))
+
+pub decides_named : (c : Certificate) (r : Ref) → Decides (is_named c r) (IsNamed c r)
+decides_named c r = decides_any _ (λ f. f.grant ≡ r) (λ f. decides_ref f.grant r) c.foreign
+
+pub decides_uncovered : (js : Journals) (c : Certificate) (r : Ref) → Decides (is_uncovered js c r) (IsUncovered js c r)
+decides_uncovered js c r = Decides-like (is_uncovered js c r) (λ h. (h.0, (h.1, h.2.0.0, h.2.0.1), h.2.1)) (λ h. (h.0, h.1.0, ((h.1.1, h.1.2), h.2)))
+    (decides_lease js r _ (λ g. (¬ (g.client ≡ c.holder) × Overlaps g.prefix c.prefix) × ¬ (IsNamed c r))
+    (λ g. Decides-and _ _ (Decides-and _ _ (Decides-not (bytes_eq g.client c.holder) (bytes_eq-Decides g.client c.holder)) (decides_overlaps g.prefix c.prefix)) (Decides-not (is_named c r) (decides_named c r))))
+
+pub decides_outside : (js : Journals) (skew : ℕ) (r : Ref) (g : Lease) (from to : ℕ) (reason : Reason) → Decides (is_outside js skew r g from to reason) (IsOutside js skew r g from to reason)
+decides_outside js skew r g from to (Early chain) =
+    Decides-and _ _ (Decides-not (g.valid == infinity) (Decides-eqb g.valid infinity)) (decides_written_by js chain r _ (λ x. x + skew + 1000 * g.valid ≤ from) (λ x. decides_le (x + skew + 1000 * g.valid) from))
+decides_outside js skew r g from to (Late chain) = decides_written_from js chain r _ (λ x. to + skew ≤ x) (λ x. decides_le (to + skew) x)
+decides_outside js skew r g from to (Released release order chain) = (λ h. absurd (cc), λ h. absurd h)
+
+pub decides_reason : (js : Journals) (skew : ℕ) (c : Certificate) (f : Foreign) → Decides (reason_holds js skew c f) (ReasonHolds js skew c f)
+decides_reason js skew c f = decides_lease js f.grant _ (λ g. IsOutside js skew f.grant g c.from c.to f.reason) (λ g. decides_outside js skew f.grant g c.from c.to f.reason)

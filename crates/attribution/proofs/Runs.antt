@@ -1,0 +1,368 @@
+-- The headline over these definitions, whatever a legal journal is.
+use Rattle.std.specs.Prelude.{◌≡◌, ◌≢◌, ℕ, ◌+◌, ◌-◌, ◌*◌, ◌<◌, ◌≤◌, ◌⊎◌, Bool, true, false, List, [], ◌∷◌, Some, slice_get, map, filter, length, slice_index_or, if◌then◌else◌}
+use Rattle.std.specs.Str.{bytes_eq}
+use Rattle.std.proofs.Common.{zero, suc, arith, sym, ◌∙◌, ap, subst, inl, inr, refl}
+use Rattle.std.proofs.lemmas.Bool.{cases_lt}
+use Rattle.std.proofs.lemmas.Option.{slice_get_read}
+use Rattle.std.proofs.lemmas.Slice.Eq.{bytes_eq-Decides}
+use Rattle.prefix_range.specs.Prefix.{HasAddress}
+use Rattle.binding_rules.specs.declared.role.Role.{Role}
+use Rattle.binding_rules.specs.declared.role.Role.TheVariants.{Primary, Secondary}
+use Rattle.journal_lines.specs.declared.event.Event.{Event}
+use Rattle.journal_lines.specs.declared.event.Event.TheVariants.{Open, Pool, Grant, Close}
+use Rattle.journal_lines.specs.declared.event.Lease.{Lease}
+use Rattle.journal_lines.specs.declared.line.Line.{Line}
+use Rattle.journal_lines.specs.Close.{is_close, until_close}
+use Rattle.causal_order.specs.declared.reference.Ref.{Ref}
+use Rattle.causal_order.specs.Journals.{Journals, journal_of, Names}
+use Rattle.causal_order.specs.Order.{IsLater, IsChain, EndsWith, Leads, WrittenBy, WrittenFrom}
+use Rattle.causal_order.specs.Tests.{is_side}
+use Rattle.causal_order.proofs.Deciding.{decides_side}
+use Rattle.claims.specs.declared.certificate.Certificate.{Certificate}
+use Rattle.claims.specs.declared.certificate.Piece.{Piece}
+use Rattle.claims.specs.declared.certificate.Foreign.{Foreign}
+use Rattle.claims.specs.declared.certificate.Reason.{Reason}
+use Rattle.claims.specs.declared.certificate.Reason.TheVariants.{Early, Late, Released}
+use Rattle.attribution.specs.Run.{Step, lines_of, At, IsOpenAt, IsRun, KeepsSkew, IsValidAt, Holds, HoldsWhole, infinity}
+use Rattle.attribution.specs.Acceptance.{Grants, IsCarried, Tile, IsOutside, ClosesFrom, IsAccepted, AcceptedIsTrue}
+
+-- how many of the first i steps are the side's
+abbrev pub count : Role → List Step → ℕ → ℕ
+count side [] i = 0
+count side (s ∷ ss) zero = 0
+count side (s ∷ ss) (suc i) = (if is_side side s.side then 1 else 0) + count side ss i
+
+side_same : (a b : Role) → is_side a b ≡ true → b ≡ a
+side_same a b h = (decides_side a b).0 h
+
+side_refl : (a : Role) → is_side a a ≡ true
+side_refl a = (decides_side a a).1 refl
+
+not_close : (e : Event) → is_close e ≡ false → e ≢ Close
+not_close e h = λ k. let q : is_close e ≡ true = ap is_close k in cc
+
+close_is : (e : Event) → is_close e ≡ true → e ≡ Close
+close_is Close h = refl
+close_is (Open a b c) h = cc
+close_is (Pool a b) h = cc
+close_is (Grant a) h = cc
+
+-- where a side's line stands in the run
+pub record Stands (run : List Step) (side : Role) (k i : ℕ) (s : Step) : Type 0 where
+  pub here : At run i s
+  pub of : s.side ≡ side
+  pub open_there : IsOpenAt run i s
+  pub before : count side run i ≡ k
+
+open_front : (s : Step) (ss : List Step) (i : ℕ) (t : Step) → (s.side ≡ t.side → s.line.event ≢ Close) → IsOpenAt ss i t → IsOpenAt (s ∷ ss) (suc i) t
+open_front s ss i t first rest zero u lt at same = let e : s ≡ u = cc in subst (λ (x : Step). x.line.event ≢ Close) e (first (ap (λ (x : Step). x.side) e ∙ same))
+open_front s ss i t first rest (suc j) u lt at same = rest j u (omega arith) at same
+
+open_here : (s : Step) (ss : List Step) → IsOpenAt (s ∷ ss) 0 s
+open_here s ss j t lt at same = absurd (omega arith)
+
+stands_on : (s : Step) (ss : List Step) (side : Role) (k i : ℕ) (t : Step) → (s.side ≡ side → s.line.event ≢ Close) → Stands ss side k i t
+    → Stands (s ∷ ss) side ((if is_side side s.side then 1 else 0) + k) (suc i) t
+stands_on s ss side k i t first there = record {
+  here = there.here;
+  of = there.of;
+  open_there = open_front s ss i t (λ e. first (e ∙ there.of)) there.open_there;
+  before = ap (λ n. (if is_side side s.side then 1 else 0) + n) there.before;
+}
+
+-- the line k of the side stands somewhere in the run
+abbrev pub IsPlaced : List Step → Role → ℕ → Line → Type 0
+IsPlaced run side k l = (i : ℕ) × (s : Step) × Stands run side k i s × (s.line ≡ l)
+
+placed_by_close : (s : Step) (ss : List Step) (side : Role) (l : Line)
+    → ((k : ℕ) → slice_get (until_close (lines_of side ss)) k ≡ Some l → IsPlaced ss side k l)
+    → (b : Bool) → is_close s.line.event ≡ b → (k : ℕ) → is_side side s.side ≡ true
+    → slice_get (if b then s.line ∷ [] else s.line ∷ until_close (lines_of side ss)) k ≡ Some l
+    → IsPlaced (s ∷ ss) side k l
+placed_by_close s ss side l rest true c zero e h = (0, s, record { here = refl; of = side_same side s.side e; open_there = open_here s ss; before = refl }, cc)
+placed_by_close s ss side l rest true c (suc k) e h = absurd (cc)
+placed_by_close s ss side l rest false c zero e h = (0, s, record { here = refl; of = side_same side s.side e; open_there = open_here s ss; before = refl }, cc)
+placed_by_close s ss side l rest false c (suc k) e h =
+    let r : IsPlaced ss side k l = rest k h in
+    let there = stands_on s ss side k r.0 r.1 (λ _. not_close s.line.event c) r.2 in
+    (suc r.0, r.1, subst (λ n. Stands (s ∷ ss) side n (suc r.0) r.1) (rw e (omega arith)) there, r.3)
+
+placed_by_side : (s : Step) (ss : List Step) (side : Role) (l : Line)
+    → ((k : ℕ) → slice_get (until_close (lines_of side ss)) k ≡ Some l → IsPlaced ss side k l)
+    → (b : Bool) → is_side side s.side ≡ b → (k : ℕ)
+    → slice_get (until_close (map (λ x. x.line) (if b then s ∷ filter (λ x. is_side side x.side) ss else filter (λ x. is_side side x.side) ss))) k ≡ Some l
+    → IsPlaced (s ∷ ss) side k l
+placed_by_side s ss side l rest true e k h = placed_by_close s ss side l rest (is_close s.line.event) refl k e h
+placed_by_side s ss side l rest false e k h =
+    let r : IsPlaced ss side k l = rest k h in
+    let never : s.side ≡ side → s.line.event ≢ Close = λ same. let q : is_side side s.side ≡ true = subst (λ x. is_side side x ≡ true) (sym same) (side_refl side) in absurd (cc) in
+    let there = stands_on s ss side k r.0 r.1 never r.2 in
+    (suc r.0, r.1, subst (λ n. Stands (s ∷ ss) side n (suc r.0) r.1) (rw e (omega arith)) there, r.3)
+
+-- each line of a side's journal stands in the run
+pub place : (run : List Step) (side : Role) (k : ℕ) (l : Line) → slice_get (until_close (lines_of side run)) k ≡ Some l → IsPlaced run side k l
+place [] side k l h = absurd (cc)
+place (s ∷ ss) side k l h = placed_by_side s ss side l (λ n g. place ss side n l g) (is_side side s.side) refl k h
+
+-- no step of the side before i closes it
+abbrev pub NoneCloses : List Step → Role → ℕ → Type 0
+NoneCloses run side i = (j : ℕ) (t : Step) → j < i → At run j t → t.side ≡ side → t.line.event ≢ Close
+
+none_on : (s : Step) (ss : List Step) (side : Role) (i : ℕ) → NoneCloses (s ∷ ss) side (suc i) → NoneCloses ss side i
+none_on s ss side i none j t lt at of = none (suc j) t (omega arith) at of
+
+-- what stands open in the run is a line of its side's journal
+line_by_close : (s : Step) (rest : List Line) (k : ℕ) (b : Bool) → is_close s.line.event ≡ b → s.line.event ≢ Close → (l : Line)
+    → slice_get rest k ≡ Some l
+    → slice_get (if b then s.line ∷ [] else s.line ∷ rest) (1 + k) ≡ Some l
+line_by_close s rest k true c open_there l h = absurd (open_there (close_is s.line.event c))
+line_by_close s rest k false c open_there l h = let e : 1 + k ≡ suc k = omega arith in rw e h
+
+first_by_close : (s : Step) (rest : List Line) (b : Bool) → slice_get (if b then s.line ∷ [] else s.line ∷ rest) 0 ≡ Some s.line
+first_by_close s rest true = refl
+first_by_close s rest false = refl
+
+line_by_side : (s t : Step) (ss : List Step) (side : Role) (i : ℕ) (b : Bool) → is_side side s.side ≡ b → (s.side ≡ side → s.line.event ≢ Close)
+    → slice_get (until_close (lines_of side ss)) (count side ss i) ≡ Some t.line
+    → slice_get (until_close (map (λ x. x.line) (if b then s ∷ filter (λ x. is_side side x.side) ss else filter (λ x. is_side side x.side) ss))) ((if b then 1 else 0) + count side ss i) ≡ Some t.line
+line_by_side s t ss side i true e none h = line_by_close s (until_close (lines_of side ss)) (count side ss i) (is_close s.line.event) refl (none (side_same side s.side e)) t.line h
+line_by_side s t ss side i false e none h = let z : 0 + count side ss i ≡ count side ss i = omega arith in rw z h
+
+pub line_at : (run : List Step) (side : Role) (i : ℕ) (s : Step) → At run i s → s.side ≡ side → NoneCloses run side i
+    → slice_get (until_close (lines_of side run)) (count side run i) ≡ Some s.line
+line_at [] side i s at of none = absurd (cc)
+line_at (t ∷ ts) side zero s at of none =
+    let e : t ≡ s = cc in
+    let q : is_side side t.side ≡ true = subst (λ (x : Role). is_side side x ≡ true) (sym (ap (λ (x : Step). x.side) e ∙ of)) (side_refl side) in
+    rw q (first_by_close t (until_close (lines_of side ts)) (is_close t.line.event) ∙ ap (λ (x : Step). Some x.line) e)
+line_at (t ∷ ts) side (suc i) s at of none =
+    line_by_side t s ts side i (is_side side t.side) refl (λ same. none 0 t (omega arith) refl same) (line_at ts side i s at of (none_on t ts side i none))
+
+-- how many come before does not fall, and grows past a step of the side
+count_le : (side : Role) (run : List Step) (i j : ℕ) → i ≤ j → count side run i ≤ count side run j
+count_le side [] i j h = omega arith
+count_le side (s ∷ ss) zero j h = omega arith
+count_le side (s ∷ ss) (suc i) zero h = absurd (omega arith)
+count_le side (s ∷ ss) (suc i) (suc j) h = let r = count_le side ss i j (omega arith) in omega arith
+
+count_lt : (side : Role) (run : List Step) (i j : ℕ) (s : Step) → At run i s → s.side ≡ side → i < j → count side run i < count side run j
+count_lt side [] i j s at of lt = absurd (cc)
+count_lt side (t ∷ ts) i zero s at of lt = absurd (omega arith)
+count_lt side (t ∷ ts) zero (suc j) s at of lt =
+    let e : t ≡ s = cc in
+    let q : is_side side t.side ≡ true = subst (λ (x : Role). is_side side x ≡ true) (sym (ap (λ (x : Step). x.side) e ∙ of)) (side_refl side) in
+    rw q (omega arith)
+count_lt side (t ∷ ts) (suc i) (suc j) s at of lt = let r = count_lt side ts i j s at of (omega arith) in omega arith
+
+-- of two places of a side the one with the smaller number comes first
+earlier_by : (run : List Step) (side : Role) (k n i j : ℕ) (s t : Step) → Stands run side k i s → Stands run side n j t → k < n → (i < j) ⊎ (j ≤ i) → i < j
+earlier_by run side k n i j s t a b lt (inl h) = h
+earlier_by run side k n i j s t a b lt (inr h) = let r = count_le side run j i h in let x = a.before in let y = b.before in absurd (omega arith)
+
+earlier : (run : List Step) (side : Role) (k n i j : ℕ) (s t : Step) → Stands run side k i s → Stands run side n j t → k < n → i < j
+earlier run side k n i j s t a b lt = earlier_by run side k n i j s t a b lt (cases_lt i j)
+
+-- a line has one place
+one_place_by : (run : List Step) (side : Role) (k i j : ℕ) (s t : Step) → Stands run side k i s → Stands run side k j t → (i < j) ⊎ (j ≤ i) → (j < i) ⊎ (i ≤ j) → i ≡ j
+one_place_by run side k i j s t a b (inr le) (inr ge) = omega arith
+one_place_by run side k i j s t a b (inl lt) q = let r = count_lt side run i j s a.here a.of lt in let x = a.before in let y = b.before in absurd (omega arith)
+one_place_by run side k i j s t a b (inr le) (inl lt) = let r = count_lt side run j i t b.here b.of lt in let x = a.before in let y = b.before in absurd (omega arith)
+
+one_place : (run : List Step) (side : Role) (k i j : ℕ) (s t : Step) → Stands run side k i s → Stands run side k j t → i ≡ j
+one_place run side k i j s t a b = one_place_by run side k i j s t a b (cases_lt i j) (cases_lt j i)
+
+-- the run and the two journals that it leaves
+pub record Setting (IsLegal : Role → List Line → Type 0) (js : Journals) (skew : ℕ) (run : List Step) : Type 0 where
+  pub is_run : IsRun IsLegal run
+  pub clocks : KeepsSkew skew run
+  pub left : (side : Role) → journal_of js side ≡ until_close (lines_of side run)
+
+-- where a reference's line stands
+pub record RefAt (js : Journals) (run : List Step) (r : Ref) (i : ℕ) (s : Step) : Type 0 where
+  pub positive : 0 < r.number
+  pub stands : Stands run r.side (r.number - 1) i s
+  pub names : Names js r s.line
+
+module _ (IsLegal : Role → List Line → Type 0) (js : Journals) (skew : ℕ) (run : List Step) (world : Setting IsLegal js skew run) where
+  ref_at : (r : Ref) (l : Line) → Names js r l → (i : ℕ) × (s : Step) × RefAt js run r i s × (s.line ≡ l)
+  ref_at r l n =
+      let h : slice_get (until_close (lines_of r.side run)) (r.number - 1) ≡ Some l = subst (λ ls. slice_get ls (r.number - 1) ≡ Some l) (world.left r.side) n.1 in
+      let p = place run r.side (r.number - 1) l h in
+      (p.0, p.1, record { positive = n.0; stands = p.2; names = (n.0, n.1 ∙ ap (λ x. Some x) (sym p.3)) }, p.3)
+
+  -- a reference names one line
+  one_line : (r : Ref) (l m : Line) → Names js r l → Names js r m → l ≡ m
+  one_line r l m a b = let p = a.1 in let q = b.1 in cc
+
+  -- what stands open in the run is a line of its journal
+  line_there : (i : ℕ) (s : Step) → At run i s → IsOpenAt run i s → RefAt js run (record { side = s.side; number = count s.side run i + 1 }) i s
+  line_there i s at open_there =
+      let k : (count s.side run i + 1) - 1 ≡ count s.side run i = omega arith in
+      let h : slice_get (journal_of js s.side) (count s.side run i) ≡ Some s.line = subst (λ ls. slice_get ls (count s.side run i) ≡ Some s.line) (sym (world.left s.side)) (line_at run s.side i s at refl open_there) in
+      record {
+        positive = omega arith;
+        stands = rw k (record { here = at; of = refl; open_there = open_there; before = refl });
+        names = (omega arith, rw k h);
+      }
+
+  same_at : (r : Ref) (i j : ℕ) (s t : Step) → RefAt js run r i s → RefAt js run r j t → i ≡ j
+  same_at r i j s t a b = one_place run r.side (r.number - 1) i j s t a.stands b.stands
+
+  later_at : (r q : Ref) (i j : ℕ) (s t : Step) → IsLater r q → RefAt js run r i s → RefAt js run q j t → i < j
+  later_at r q i j s t later a b =
+      let there : Stands run r.side (q.number - 1) j t = subst (λ side. Stands run side (q.number - 1) j t) later.0 b.stands in
+      let x = a.positive in
+      earlier run r.side (r.number - 1) (q.number - 1) i j s t a.stands there (omega arith)
+
+  chain_head : (r : Ref) (rest : List Ref) → IsChain js (r ∷ rest) → (l : Line) × Names js r l
+  chain_head r [] c = c
+  chain_head r (s ∷ rs) c = c.0
+
+  -- the lines of a chain stand in its order
+  chain_at : (rest : List Ref) (r q : Ref) (i j : ℕ) (s t : Step) → IsChain js (r ∷ rest) → EndsWith (r ∷ rest) q → RefAt js run r i s → RefAt js run q j t
+      → (i ≤ j) × (2 ≤ length (r ∷ rest) → i < j)
+  chain_at [] r q i j s t c e a b =
+      let same = same_at q i j s t (subst (λ x. RefAt js run x i s) e a) b in
+      (omega arith, λ two. absurd (omega arith))
+  chain_at (u ∷ us) r q i j s t c e a b =
+      let head = chain_head u us c.2 in
+      let n = ref_at u head.0 head.1 in
+      let first = later_at r u i n.0 s n.1 c.1 a n.2 in
+      let rest = (chain_at us u q n.0 j n.1 t c.2 e n.2 b).0 in
+      (omega arith, λ two. omega arith)
+
+  leads_at : (chain : List Ref) (r q : Ref) (i j : ℕ) (s t : Step) → Leads js chain r q → RefAt js run r i s → RefAt js run q j t
+      → (i ≤ j) × (2 ≤ length chain → i < j)
+  leads_at chain r q i j s t l a b =
+      let c : IsChain js (r ∷ l.rest) = subst (IsChain js) l.begins l.links in
+      let e : EndsWith (r ∷ l.rest) q = subst (λ x. EndsWith x q) l.begins l.ends in
+      let both = chain_at l.rest r q i j s t c e a b in
+      (both.0, λ two. both.1 (subst (λ (x : List Ref). 2 ≤ length x) l.begins two))
+
+  written_by : (chain : List Ref) (r : Ref) (x i : ℕ) (s : Step) → WrittenBy js chain r x → RefAt js run r i s → s.moment ≤ x + skew
+  written_by chain r x i s w a =
+      let p = ref_at w.end w.line w.names in
+      let le = (leads_at chain r w.end i p.0 s p.1 w.leads a p.2).0 in
+      let time = world.is_run.in_time i p.0 s p.1 le a.stands.here p.2.stands.here in
+      let near = (world.clocks p.0 p.1 p.2.stands.here p.2.stands.open_there).1 in
+      let read : p.1.line.reading ≡ x = ap (λ (l : Line). l.reading) p.3 ∙ w.read in
+      omega arith
+
+  written_from : (chain : List Ref) (r : Ref) (x i : ℕ) (s : Step) → WrittenFrom js chain r x → RefAt js run r i s → x ≤ s.moment + skew
+  written_from chain r x i s w a =
+      let p = ref_at w.begin w.line w.names in
+      let le = (leads_at chain w.begin r p.0 i p.1 s w.leads p.2 a).0 in
+      let time = world.is_run.in_time p.0 i p.1 s le p.2.stands.here a.stands.here in
+      let near = (world.clocks p.0 p.1 p.2.stands.here p.2.stands.open_there).0 in
+      let read : p.1.line.reading ≡ x = ap (λ (l : Line). l.reading) p.3 ∙ w.read in
+      omega arith
+
+  -- A step stands open, or its moment is at or past the end.
+  open_or_late_by : (side : Role) (to n i : ℕ) (c s : Step) → Stands run side (count side run n) n c → to ≤ c.moment → At run i s → s.side ≡ side
+      → (n < i) ⊎ (i ≤ n) → IsOpenAt run i s ⊎ (to ≤ s.moment)
+  open_or_late_by side to n i c s closes late at of (inl lt) = inr (let x = world.is_run.in_time n i c s (omega arith) closes.here at in omega arith)
+  open_or_late_by side to n i c s closes late at of (inr le) = inl (λ j u lt here same. closes.open_there j u (omega arith) here ((same ∙ of) ∙ sym closes.of))
+
+  -- each line stands somewhere before the side's steps past `to`
+  open_or_late : (to i : ℕ) (s : Step) → ClosesFrom (journal_of js s.side) (to + skew) → At run i s → IsOpenAt run i s ⊎ (to ≤ s.moment)
+  open_or_late to i s closes at =
+      let k = closes.1.0 in
+      let found : slice_get (journal_of js s.side) k ≡ Some closes.0 = slice_get_read (journal_of js s.side) (length (journal_of js s.side)) k closes.0 refl closes.1.1 (sym closes.1.2) in
+      let k' : (k + 1) - 1 ≡ k = omega arith in
+      let p = ref_at (record { side = s.side; number = k + 1 }) closes.0 (omega arith, rw k' found) in
+      let near = (world.clocks p.0 p.1 p.2.stands.here p.2.stands.open_there).0 in
+      let read : p.1.line.reading ≡ closes.0.reading = ap (λ (l : Line). l.reading) p.3 in
+      let late = closes.3 in
+      let there : Stands run s.side (count s.side run p.0) p.0 p.1 = record { here = p.2.stands.here; of = p.2.stands.of; open_there = p.2.stands.open_there; before = refl } in
+      open_or_late_by s.side to p.0 i p.1 s there (omega arith) at refl (cases_lt p.0 i)
+
+  -- a grant that carries a piece is valid in it
+  carries : (p : Piece) (c : Certificate) → IsCarried js skew c p → ((side : Role) → ClosesFrom (journal_of js side) (c.to + skew)) → p.to ≤ c.to
+      → (m : ℕ) → p.from ≤ m → m < p.to → HoldsWhole run c.prefix c.holder m
+  carries p c h closed within m from to =
+      let a = ref_at p.grant h.grants.0 h.grants.1 in
+      let grants : a.1.line.event ≡ Grant h.lease = ap (λ (l : Line). l.event) a.3 ∙ h.grants.2 in
+      let by = written_by p.latest p.grant h.latest a.0 a.1 h.written_by a.2 in
+      let since = written_from p.earliest p.grant h.earliest a.0 a.1 h.written_from a.2 in
+      let begun = h.begun in
+      let ends : (h.lease.valid ≡ infinity) ⊎ (m < a.1.moment + 1000 * h.lease.valid) = elim h.lasts [ inl x ↦ inl x | inr x ↦ inr (omega arith) ] in (
+        a.0,
+        h.lease,
+        record {
+          step = a.1;
+          here = a.2.stands.here;
+          grants = grants;
+          begun = omega arith;
+          lasts = ends;
+        },
+        h.holder,
+        h.round,
+      )
+
+  -- another client's lease that does not touch the interval is not valid in it
+  outside_invalid : (r : Ref) (g : Lease) (from to m i : ℕ) (reason : Reason) (v : IsValidAt run i g m) → IsOutside js skew r g from to reason
+      → RefAt js run r i v.step → from ≤ m → m < to → ⊥
+  outside_invalid r g from to m i (Early chain) v out a ge lt =
+      let x = written_by chain r out.1.0 i v.step out.1.1 a in
+      let y = out.1.2 in
+      elim v.lasts [ inl e ↦ out.0 e | inr z ↦ absurd (omega arith) ]
+  outside_invalid r g from to m i (Late chain) v out a ge lt =
+      let x = written_from chain r out.0 i v.step out.1 a in
+      let y = out.2 in
+      let z = v.begun in
+      absurd (omega arith)
+  outside_invalid r g from to m i (Released release order chain) v out a ge lt = out
+
+  -- pieces that lie end to end do not go back, and meet every moment
+  tile_forward : (ps : List Piece) (from to : ℕ) → Tile from to ps → from ≤ to
+  tile_forward [] from to h = let e : from ≡ to = h in omega arith
+  tile_forward (p ∷ ps) from to h = let r = tile_forward ps p.to to h.2 in let a = h.0 in let b = h.1 in omega arith
+
+  Meets : List Piece → ℕ → ℕ → Type 0
+  Meets ps to m = (k : ℕ) × (p : Piece) × (k < length ps) × (slice_index_or ps k p ≡ p) × (p.from ≤ m) × (m < p.to) × (p.to ≤ to)
+
+  tile_meets_by : (p : Piece) (ps : List Piece) (from to m : ℕ) → Tile from to (p ∷ ps) → from ≤ m → (p.to ≤ m → Meets ps to m) → (m < p.to) ⊎ (p.to ≤ m) → Meets (p ∷ ps) to m
+  unfolding Meets
+  tile_meets_by p ps from to m t ge rest (inl lt) = (0, p, omega arith, refl, (let a = t.0 in omega arith), lt, tile_forward ps p.to to t.2)
+  tile_meets_by p ps from to m t ge rest (inr le) = let r = rest le in (suc r.0, r.1, (let x = r.2 in omega arith), r.3, r.4, r.5, r.6)
+
+  tile_meets : (ps : List Piece) (from to m : ℕ) → Tile from to ps → from ≤ m → m < to → Meets ps to m
+  tile_meets [] from to m t ge lt = let e : from ≡ to = t in absurd (omega arith)
+  tile_meets (p ∷ ps) from to m t ge lt = tile_meets_by p ps from to m t ge (λ le. tile_meets ps p.to to m t.2 le lt) (cases_lt m p.to)
+
+  -- an accepted certificate is true in this run
+  held : (c : Certificate) → IsAccepted js skew c → (m : ℕ) → c.from ≤ m → m < c.to → HoldsWhole run c.prefix c.holder m
+  unfolding Meets
+  held c ok m ge lt =
+      let t = tile_meets c.pieces c.from c.to m ok.tiled ge lt in
+      carries t.1 c (subst (IsCarried js skew c) t.3 (ok.carried t.0 t.1 t.2)) ok.closed t.6 m t.4 t.5
+
+  alone_by : (c : Certificate) → IsAccepted js skew c → (m address i : ℕ) (g : Lease) (v : IsValidAt run i g m) → c.from ≤ m → m < c.to
+      → HasAddress c.prefix address → HasAddress g.prefix address → g.client ≢ c.holder → IsOpenAt run i v.step ⊎ (c.to ≤ v.step.moment) → ⊥
+  alone_by c ok m address i g v ge lt mine theirs differs (inr late) = let x = v.begun in absurd (omega arith)
+  alone_by c ok m address i g v ge lt mine theirs differs (inl open_there) =
+      let a = line_there i v.step v.here open_there in
+      let f = ok.covered (record { side = v.step.side; number = count v.step.side run i + 1 }) g (v.step.line, a.names, v.grants) differs (address, theirs, mine) in
+      let r : Ref = record { side = v.step.side; number = count v.step.side run i + 1 } in
+      let out = subst (λ (x : Foreign). (h : Lease) × Grants js x.grant h × IsOutside js skew x.grant h c.from c.to x.reason) f.1.2 (ok.outside f.1.0 f.0 f.1.1) in
+      let at_r = subst (λ x. (h : Lease) × Grants js x h × IsOutside js skew x h c.from c.to f.0.reason) f.2 out in
+      let one : at_r.1.0 ≡ v.step.line = one_line r at_r.1.0 v.step.line at_r.1.1 a.names in
+      let same : Grant at_r.0 ≡ Grant g = (sym at_r.1.2 ∙ ap (λ (l : Line). l.event) one) ∙ v.grants in
+      let lease : at_r.0 ≡ g = cc in
+      outside_invalid r g c.from c.to m i f.0.reason v (subst (λ x. IsOutside js skew r x c.from c.to f.0.reason) lease at_r.2) a ge lt
+
+  alone : (c : Certificate) → IsAccepted js skew c → (m address : ℕ) (client : List ℕ) → c.from ≤ m → m < c.to → HasAddress c.prefix address
+      → Holds run address client m → client ≡ c.holder
+  alone c ok m address client ge lt mine h = by_test (bytes_eq client c.holder) refl where
+    by_test : (b : Bool) → bytes_eq client c.holder ≡ b → client ≡ c.holder
+    by_test true e = (bytes_eq-Decides client c.holder).0 e
+    by_test false e =
+        let differs : h.1.client ≢ c.holder = λ same. let q = (bytes_eq-Decides client c.holder).1 (sym h.3 ∙ same) in absurd (cc) in
+        absurd (alone_by c ok m address h.0 h.1 h.2 ge lt mine h.4 differs (open_or_late c.to h.0 h.2.step (ok.closed h.2.step.side) h.2.here))
+
+-- what is accepted is true in every run that leaves these journals
+pub headline : (IsLegal : Role → List Line → Type 0) → AcceptedIsTrue IsLegal
+headline IsLegal js skew c ok run is_run clocks left_a left_b =
+    let left : (side : Role) → journal_of js side ≡ until_close (lines_of side run) = λ side. elim side as (λ x. journal_of js x ≡ until_close (lines_of x run)) [ Primary ↦ left_a.0 | Secondary ↦ left_b.0 ] in
+    let world : Setting IsLegal js skew run = record { is_run = is_run; clocks = clocks; left = left } in
+    record { held = held IsLegal js skew run world c ok; alone = alone IsLegal js skew run world c ok }
