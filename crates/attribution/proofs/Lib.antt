@@ -1,3 +1,4 @@
 pub mod Deciding
 pub mod Refusals
+pub mod Tiling
 pub mod Runs

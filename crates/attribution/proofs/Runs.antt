@@ -24,13 +24,9 @@ use Rattle.claims.specs.declared.certificate.Foreign.{Foreign}
 use Rattle.claims.specs.declared.certificate.Reason.{Reason}
 use Rattle.claims.specs.declared.certificate.Reason.TheVariants.{Early, Late, Released}
 use Rattle.attribution.specs.Run.{Step, lines_of, At, IsOpenAt, IsRun, KeepsSkew, IsValidAt, Holds, HoldsWhole, infinity}
+use Rattle.attribution.specs.Laws.{count, Stands, Setting, RefAt, ChainsStandInOrder, BoundsHold, LateAfterClose}
+use Rattle.attribution.proofs.Tiling.{pieces_meet}
 use Rattle.attribution.specs.Acceptance.{Grants, IsCarried, Tile, IsOutside, ClosesFrom, IsAccepted, AcceptedIsTrue}
-
--- how many of the first i steps are the side's
-abbrev pub count : Role → List Step → ℕ → ℕ
-count side [] i = 0
-count side (s ∷ ss) zero = 0
-count side (s ∷ ss) (suc i) = (if is_side side s.side then 1 else 0) + count side ss i
 
 side_same : (a b : Role) → is_side a b ≡ true → b ≡ a
 side_same a b h = (decides_side a b).0 h
@@ -46,13 +42,6 @@ close_is Close h = refl
 close_is (Open a b c) h = cc
 close_is (Pool a b) h = cc
 close_is (Grant a) h = cc
-
--- where a side's line stands in the run
-pub record Stands (run : List Step) (side : Role) (k i : ℕ) (s : Step) : Type 0 where
-  pub here : At run i s
-  pub of : s.side ≡ side
-  pub open_there : IsOpenAt run i s
-  pub before : count side run i ≡ k
 
 open_front : (s : Step) (ss : List Step) (i : ℕ) (t : Step) → (s.side ≡ t.side → s.line.event ≢ Close) → IsOpenAt ss i t → IsOpenAt (s ∷ ss) (suc i) t
 open_front s ss i t first rest zero u lt at same = let e : s ≡ u = cc in subst (λ (x : Step). x.line.event ≢ Close) e (first (ap (λ (x : Step). x.side) e ∙ same))
@@ -170,18 +159,6 @@ one_place_by run side k i j s t a b (inr le) (inl lt) = let r = count_lt side ru
 
 one_place : (run : List Step) (side : Role) (k i j : ℕ) (s t : Step) → Stands run side k i s → Stands run side k j t → i ≡ j
 one_place run side k i j s t a b = one_place_by run side k i j s t a b (cases_lt i j) (cases_lt j i)
-
--- the run and the two journals that it leaves
-pub record Setting (IsLegal : Role → List Line → Type 0) (js : Journals) (skew : ℕ) (run : List Step) : Type 0 where
-  pub is_run : IsRun IsLegal run
-  pub clocks : KeepsSkew skew run
-  pub left : (side : Role) → journal_of js side ≡ until_close (lines_of side run)
-
--- where a reference's line stands
-pub record RefAt (js : Journals) (run : List Step) (r : Ref) (i : ℕ) (s : Step) : Type 0 where
-  pub positive : 0 < r.number
-  pub stands : Stands run r.side (r.number - 1) i s
-  pub names : Names js r s.line
 
 module _ (IsLegal : Role → List Line → Type 0) (js : Journals) (skew : ℕ) (run : List Step) (world : Setting IsLegal js skew run) where
   ref_at : (r : Ref) (l : Line) → Names js r l → (i : ℕ) × (s : Step) × RefAt js run r i s × (s.line ≡ l)
@@ -313,29 +290,11 @@ module _ (IsLegal : Role → List Line → Type 0) (js : Journals) (skew : ℕ) 
       absurd (omega arith)
   outside_invalid r g from to m i (Released release order chain) v out a ge lt = out
 
-  -- pieces that lie end to end do not go back, and meet every moment
-  tile_forward : (ps : List Piece) (from to : ℕ) → Tile from to ps → from ≤ to
-  tile_forward [] from to h = let e : from ≡ to = h in omega arith
-  tile_forward (p ∷ ps) from to h = let r = tile_forward ps p.to to h.2 in let a = h.0 in let b = h.1 in omega arith
-
-  Meets : List Piece → ℕ → ℕ → Type 0
-  Meets ps to m = (k : ℕ) × (p : Piece) × (k < length ps) × (slice_index_or ps k p ≡ p) × (p.from ≤ m) × (m < p.to) × (p.to ≤ to)
-
-  tile_meets_by : (p : Piece) (ps : List Piece) (from to m : ℕ) → Tile from to (p ∷ ps) → from ≤ m → (p.to ≤ m → Meets ps to m) → (m < p.to) ⊎ (p.to ≤ m) → Meets (p ∷ ps) to m
-  unfolding Meets
-  tile_meets_by p ps from to m t ge rest (inl lt) = (0, p, omega arith, refl, (let a = t.0 in omega arith), lt, tile_forward ps p.to to t.2)
-  tile_meets_by p ps from to m t ge rest (inr le) = let r = rest le in (suc r.0, r.1, (let x = r.2 in omega arith), r.3, r.4, r.5, r.6)
-
-  tile_meets : (ps : List Piece) (from to m : ℕ) → Tile from to ps → from ≤ m → m < to → Meets ps to m
-  tile_meets [] from to m t ge lt = let e : from ≡ to = t in absurd (omega arith)
-  tile_meets (p ∷ ps) from to m t ge lt = tile_meets_by p ps from to m t ge (λ le. tile_meets ps p.to to m t.2 le lt) (cases_lt m p.to)
-
   -- an accepted certificate is true in this run
   held : (c : Certificate) → IsAccepted js skew c → (m : ℕ) → c.from ≤ m → m < c.to → HoldsWhole run c.prefix c.holder m
-  unfolding Meets
   held c ok m ge lt =
-      let t = tile_meets c.pieces c.from c.to m ok.tiled ge lt in
-      carries t.1 c (subst (IsCarried js skew c) t.3 (ok.carried t.0 t.1 t.2)) ok.closed t.6 m t.4 t.5
+      let t = pieces_meet c.pieces c.from c.to m ok.tiled ge lt in
+      carries t.0 c (subst (IsCarried js skew c) t.1.2 (ok.carried t.1.0 t.0 t.1.1)) ok.closed t.4 m t.2 t.3
 
   alone_by : (c : Certificate) → IsAccepted js skew c → (m address i : ℕ) (g : Lease) (v : IsValidAt run i g m) → c.from ≤ m → m < c.to
       → HasAddress c.prefix address → HasAddress g.prefix address → g.client ≢ c.holder → IsOpenAt run i v.step ⊎ (c.to ≤ v.step.moment) → ⊥
@@ -366,3 +325,14 @@ headline IsLegal js skew c ok run is_run clocks left_a left_b =
     let left : (side : Role) → journal_of js side ≡ until_close (lines_of side run) = λ side. elim side as (λ x. journal_of js x ≡ until_close (lines_of x run)) [ Primary ↦ left_a.0 | Secondary ↦ left_b.0 ] in
     let world : Setting IsLegal js skew run = record { is_run = is_run; clocks = clocks; left = left } in
     record { held = held IsLegal js skew run world c ok; alone = alone IsLegal js skew run world c ok }
+
+-- ---- the laws
+
+pub chains_stand : (IsLegal : Role → List Line → Type 0) → ChainsStandInOrder IsLegal
+chains_stand IsLegal js skew run world chain r q i j s t l a b = leads_at IsLegal js skew run world chain r q i j s t l a b
+
+pub bounds_hold : (IsLegal : Role → List Line → Type 0) → BoundsHold IsLegal
+bounds_hold IsLegal js skew run world chain r x i s a = (λ w. written_by IsLegal js skew run world chain r x i s w a, λ w. written_from IsLegal js skew run world chain r x i s w a)
+
+pub late_after_close : (IsLegal : Role → List Line → Type 0) → LateAfterClose IsLegal
+late_after_close IsLegal js skew run world to i s closes at = open_or_late IsLegal js skew run world to i s closes at

@@ -4,3 +4,5 @@ pub mod Acceptance
 pub mod FirstRefusal
 pub mod Tests
 pub mod Listing
+pub mod Laws
+pub mod VerdictText

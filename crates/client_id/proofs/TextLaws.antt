@@ -1,12 +1,12 @@
 -- The identifier that is read of a text is spelled so, and an identifier that is spelled is read again.
-use Rattle.std.proofs.Common.{◌≡◌, ◌≢◌, ℕ, ◌*◌, ◌<◌, ◌≤◌, ◌^◌, Bool, true, false, cond, eqb, ltb, List, length, [], ◌∷◌, ◌/◌, ◌%◌, zero, suc, get_or, Option, Some, None, Result, Ok, Err, refl, sym, ap, subst, ◌∙◌, arith}
+use Rattle.std.proofs.Common.{◌≡◌, ℕ, ◌*◌, ◌<◌, ◌^◌, Bool, true, false, cond, eqb, ltb, List, length, [], ◌∷◌, ◌/◌, ◌%◌, zero, suc, get_or, Option, Some, None, Result, Ok, Err, refl, sym, ap, subst, ◌∙◌, arith}
 use Rattle.std.specs.Prelude.{option_map, is_some}
 use Rattle.std.specs.Int.{w32, to_be_bytes, from_be_bytes}
-use Rattle.std.proofs.lemmas.Bool.{eqb-true, eq-eqb, ltb-false, le-ltb, lt-ltb}
+use Rattle.std.proofs.lemmas.Bool.{eqb-true, ltb-false, le-ltb, lt-ltb}
 use Rattle.std.proofs.lemmas.Nat.{be_bytes_4, from_be_bytes-to_be_bytes_4}
 use Rattle.hex.specs.Hex.{lower_digits, encode_with, encode_lower}
 use Rattle.text_fields.specs.Octets.{AreOctets, hex_digit, hex, octets_of}
-use Rattle.text_fields.proofs.Steps.{map_some, some_is, chosen}
+use Rattle.text_fields.proofs.Steps.{map_some, chosen}
 use Rattle.text_fields.proofs.OctetLaws.{octets_take, octets_again, length-hex, octets_are_bytes, are_octets}
 use Rattle.client_id.specs.declared.error.ClientIdError.{ClientIdError}
 use Rattle.client_id.specs.declared.error.ClientIdError.TheVariants.{TooShort, TooLong, Hex}

@@ -1,5 +1,5 @@
 -- DUIDs (RFC 8415, section 11.1: a type of two octets and 1 to 128 octets more) and IAIDs (section 12), in octets and in text.
-use Rattle.std.specs.Prelude.{◌≡◌, ℕ, ◌<◌, ◌≤◌, ◌^◌, ◌==◌, List, length, Option, Some, None, option_map, Result, Ok, Err, nat_lt, if◌then◌else◌}
+use Rattle.std.specs.Prelude.{◌≡◌, ℕ, ◌≤◌, ◌==◌, List, length, Option, Some, None, option_map, Result, Ok, Err, nat_lt, if◌then◌else◌}
 use Rattle.std.specs.Int.{w32, to_be_bytes, from_be_bytes}
 use Rattle.text_fields.specs.Octets.{AreOctets, hex, octets_of}
 use Rattle.client_id.specs.declared.error.ClientIdError.{ClientIdError}

@@ -1,7 +1,7 @@
 -- The groups of an address.
-use Rattle.std.proofs.Common.{◌≡◌, ◌≢◌, ℕ, zero, suc, ◌+◌, ◌-◌, ◌*◌, ◌/◌, ◌%◌, ◌<◌, ◌≤◌, ◌^◌, List, [], ◌∷◌, ◌++◌, length, Option, Some, None, Result, Ok, Err, refl, sym, ap, ◌∙◌, append_assoc, append-nil, add-one, sub-one, length-append, arith}
+use Rattle.std.proofs.Common.{◌≡◌, ◌≢◌, ℕ, zero, suc, ◌-◌, ◌/◌, ◌%◌, ◌<◌, ◌≤◌, List, [], ◌∷◌, ◌++◌, length, Some, None, refl, sym, ap, ◌∙◌, append_assoc, sub-one, length-append, arith}
 use Rattle.std.proofs.lemmas.List.{length-map, map-append}
-use Rattle.std.specs.Prelude.{map, option_map, OnOk}
+use Rattle.std.specs.Prelude.{map}
 use Rattle.text_fields.specs.Reading.{◌>>=◌}
 use Rattle.text_fields.specs.Pieces.{joined}
 use Rattle.prefix_range.specs.Text.{groups_of, group_text, address_text, group_of, with_group, address_on}
@@ -52,11 +52,6 @@ unfolding groups_of
 groups_one zero a some le = absurd (omega arith)
 groups_one (suc zero) a some le = refl
 groups_one (suc (suc n)) a some le = absurd (omega arith)
-
--- what is appended to what was appended
-pub pushed : {E : Type 0} (r : Result Unit E) (old mid new first last text : List ℕ) → OnOk r (new ≡ mid ++ last) → mid ≡ old ++ first → text ≡ first ++ last → OnOk r (new ≡ old ++ text)
-pushed (Ok x) old mid new first last text h m t = h ∙ (ap (λ (l : List ℕ). l ++ last) m ∙ (append_assoc old first last ∙ ap (λ (l : List ℕ). old ++ l) (sym t)))
-pushed (Err e) old mid new first last text h m t = tt
 
 -- an address whose groups were read, and no more are left
 pub read_whole : (left address : ℕ) (words : List (List ℕ)) → left ≡ 0 → words ≡ [] → address_on left address words ≡ Some address

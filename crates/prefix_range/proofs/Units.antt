@@ -1,5 +1,5 @@
 -- The units of a pool lie in rows of their own size.
-use Rattle.std.proofs.Common.{◌≡◌, ℕ, ◌+◌, ◌-◌, ◌*◌, ◌/◌, ◌%◌, ◌^◌, ◌<◌, ◌≤◌, ap, sym, ◌∙◌, subst, arith, inl, inr, refl, Option, Some, None, Result, Ok}
+use Rattle.std.proofs.Common.{◌≡◌, ℕ, ◌+◌, ◌-◌, ◌*◌, ◌/◌, ◌%◌, ◌^◌, ◌<◌, ◌≤◌, ap, sym, ◌∙◌, subst, arith, inl, inr, refl, Option, Some, Result, Ok}
 use Rattle.std.specs.Result.{result_ok}
 use Rattle.prefix_range.specs.declared.error.PrefixError.{PrefixError}
 use Rattle.std.specs.Prelude.{IfSome, IfNone}
@@ -7,7 +7,7 @@ use Rattle.std.proofs.lemmas.Nat.{pow-add, row_fits}
 use Rattle.std.proofs.lemmas.Bool.{cases_lt}
 use Rattle.std.proofs.Math.Nat.{add-mul, mul_assoc, mul-mod_left, lt_of_mul-lt-mul_right}
 use Rattle.std.proofs.Math.Pow.{pow-lt}
-use Rattle.prefix_range.specs.Prefix.{Prefix, size_of, IsPrefix, HasAddress, Contains}
+use Rattle.prefix_range.specs.Prefix.{Prefix, size_of, IsPrefix}
 use Rattle.prefix_range.specs.Unit.{IsUnit}
 use Rattle.prefix_range.proofs.Ends.{size_positive, row, ends_within, contains_by_ends, ends_contained}
 
@@ -36,12 +36,14 @@ unit_is pool length index h le most lt =
       short = most;
       address = omega (arith, many, fits, end, some);
       host_bits = ap (λ (n : ℕ). n % size) place ∙ mul-mod_left (k * m + index) size;
-    } in
-    (good, record {
-      inside = contains_by_ends pool (record { address = pool.address + index * size; length = length }) h good (omega arith) (omega (arith, many, fits));
-      bits = refl;
-      place = refl;
-    })
+    } in (
+      good,
+      record {
+        inside = contains_by_ends pool (record { address = pool.address + index * size; length = length }) h good (omega arith) (omega (arith, many, fits));
+        bits = refl;
+        place = refl;
+      },
+    )
 
 -- a unit is no longer than its pool is and lies within it
 pub unit_bounds : (pool : Prefix) (length index : ℕ) (u : Prefix) → IsPrefix pool → IsPrefix u → IsUnit pool length index u

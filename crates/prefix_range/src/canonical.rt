@@ -43,7 +43,11 @@ fn address_of(text: &[u8]) -> Option<u128>
         let group = group_of(groups.next_piece()?)?;
         address = with_group(address, group)?;
     }
-    if groups.is_done() { Some(address) } else { None }
+    if groups.is_done() {
+        Some(address)
+    } else {
+        None
+    }
 }
 
 #[tactic(auto, unfolding(crate::specs::Text::prefix_word))]

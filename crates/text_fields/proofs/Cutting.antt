@@ -1,5 +1,5 @@
 -- Cutting a text at its first stop.
-use Rattle.std.proofs.Common.{◌≡◌, ◌≢◌, ℕ, zero, suc, ◌<◌, ◌≤◌, List, [], ◌∷◌, length, get_or, take, drop, refl, arith, Bool, true, false, Option, Some, None, Bor}
+use Rattle.std.proofs.Common.{◌≡◌, ◌≢◌, ℕ, zero, suc, ◌<◌, List, [], ◌∷◌, length, get_or, take, drop, refl, arith, Bool, true, false, Option, Some, None, Bor}
 use Rattle.std.specs.Prelude.{◌==◌, if◌then◌else◌, IsTrue, is_some, not}
 use Rattle.std.proofs.lemmas.Bool.{eq-eqb, ne_eqb}
 use Rattle.text_fields.specs.Pieces.{split, in_front, pieces_left}

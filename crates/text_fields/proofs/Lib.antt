@@ -7,3 +7,4 @@ pub mod NumberLaws
 pub mod OctetLaws
 pub mod WordLaws
 pub mod DigitTests
+pub mod Appending

@@ -1,6 +1,5 @@
 -- Joining pieces and cutting them undo each other.
-use Rattle.std.proofs.Common.{◌≡◌, ◌≢◌, ℕ, List, [], ◌∷◌, ◌++◌, Bool, true, false, refl, sym, ap, ◌∙◌, append_assoc, append-nil, arith, inl, inr}
-use Rattle.std.specs.Prelude.{◌==◌, if◌then◌else◌}
+use Rattle.std.proofs.Common.{◌≡◌, ◌≢◌, ℕ, List, [], ◌∷◌, ◌++◌, refl, sym, ap, ◌∙◌, append_assoc, append-nil, inl, inr}
 use Rattle.std.proofs.lemmas.Bool.{eq-eqb, ne_eqb, cases_eq}
 use Rattle.std.proofs.lemmas.List.Concat.{flat_map-cons}
 use Rattle.text_fields.specs.Pieces.{joined, behind, ended, in_front, split, Lacks, AllLack}
@@ -38,7 +37,6 @@ joined-in_front stop b (piece ∷ next ∷ pieces) = refl
 joined-empty : (stop : ℕ) (pieces : List (List ℕ)) → pieces ≢ [] → joined stop ([] ∷ pieces) ≡ stop ∷ joined stop pieces
 joined-empty stop [] some = absurd (some refl)
 joined-empty stop (piece ∷ pieces) some = refl
-
 
 pub joined-split : (stop : ℕ) (text : List ℕ) → joined stop (split stop text) ≡ text
 unfolding split

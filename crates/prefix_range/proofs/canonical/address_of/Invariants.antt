@@ -1,4 +1,4 @@
-use Rattle.std.proofs.Common.{◌≡◌, ◌-◌, ◌≤◌}
+use Rattle.std.proofs.Common.{◌≡◌, ◌-◌}
 use Rattle.prefix_range.specs.Text.{address_on, address_of}
 use Rattle.prefix_range.proofs.canonical.address_of.Given as goal
 

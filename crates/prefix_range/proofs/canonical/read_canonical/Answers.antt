@@ -1,4 +1,4 @@
-use Rattle.std.proofs.Common.{◌≡◌, ◌∙◌, ap, sym, Some, None}
+use Rattle.std.proofs.Common.{◌∙◌, ap, sym}
 use Rattle.prefix_range.specs.Text.{prefix_word}
 use Rattle.prefix_range.proofs.TextLaws.{prefix_takes, prefix_again}
 use Rattle.prefix_range.proofs.canonical.read_canonical.Goals as goal

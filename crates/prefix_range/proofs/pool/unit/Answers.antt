@@ -1,6 +1,4 @@
-use Rattle.std.proofs.Common.{◌≡◌, ◌+◌, ◌*◌, ◌%◌, ◌<◌, ◌∙◌, sym, ap, arith, Some}
-use Rattle.prefix_range.specs.Prefix.{size_of}
-use Rattle.prefix_range.proofs.Ends.{size_positive}
+use Rattle.std.proofs.Common.{arith}
 use Rattle.prefix_range.proofs.Units.{unit_bounds, unit_found}
 use Rattle.prefix_range.proofs.pool.unit.Goals as goal
 use Rattle.prefix_range.proofs.pool.unit.Goals.{then-length-len-via-then-length-len, then-length-len-via-else-length-len+then-length-gt128}

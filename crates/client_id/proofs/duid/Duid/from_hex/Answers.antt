@@ -1,4 +1,4 @@
-use Rattle.std.proofs.Common.{◌≡◌, ◌∙◌, ap, sym, subst, List, ℕ, Result, Ok, Err}
+use Rattle.std.proofs.Common.{◌≡◌, ◌∙◌, ap, sym, List, ℕ, Result, Ok, Err}
 use Rattle.std.specs.Prelude.{IfOk}
 use Rattle.text_fields.specs.Octets.{hex}
 use Rattle.client_id.specs.declared.error.ClientIdError.{ClientIdError}

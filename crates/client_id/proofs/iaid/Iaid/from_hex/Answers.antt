@@ -1,4 +1,4 @@
-use Rattle.std.proofs.Common.{◌≡◌, ◌∙◌, ap, sym, Some, None, ℕ}
+use Rattle.std.proofs.Common.{◌∙◌, ap, sym}
 use Rattle.client_id.specs.Duid.{iaid_word}
 use Rattle.client_id.proofs.TextLaws.{iaid_takes, iaid_again}
 use Rattle.client_id.proofs.iaid.Iaid.from_hex.Goals as goal

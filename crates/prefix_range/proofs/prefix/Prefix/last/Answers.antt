@@ -1,5 +1,4 @@
-use Rattle.std.proofs.Common.{◌≡◌, ◌+◌, arith}
-use Rattle.prefix_range.specs.Prefix.{size_of}
+use Rattle.std.proofs.Common.{arith}
 use Rattle.prefix_range.proofs.Ends.{ends_within, is_last}
 use Rattle.prefix_range.proofs.prefix.Prefix.last.Goals as goal
 

@@ -1,4 +1,3 @@
-use Rattle.std.proofs.Common.{rules, sym, ap, ◌∙◌}
 use Rattle.text_fields.proofs.Cutting.{none_left}
 use Rattle.text_fields.proofs.pieces.Pieces.is_done.Goals as goal
 

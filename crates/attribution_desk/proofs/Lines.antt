@@ -1,0 +1,58 @@
+-- How long the first text of the input is.
+use Rattle.std.proofs.Common.{◌≡◌, ◌≢◌, ℕ, ◌+◌, ◌<◌, ◌≤◌, Bool, true, false, cond, List, [], ◌∷◌, ◌++◌, length, refl, sym, ap, ◌∙◌, length-append, arith}
+use Rattle.text_fields.specs.Pieces.{joined, split}
+use Rattle.text_fields.proofs.PieceLaws.{joined-split}
+use Rattle.attribution_desk.specs.Input.{begins_with_end, first_length, text_length}
+
+-- a list of lines, its first and the others
+pub line_last : (lines rest : List (List ℕ)) (line : List ℕ) → lines ≡ line ∷ rest → rest ≡ [] → first_length lines ≡ length line
+unfolding first_length
+line_last lines rest line e none = rw (e, none) refl
+
+ends_by : (b : Bool) (line : List ℕ) (later : ℕ) → b ≡ true → cond b (length line + 1) later ≡ length line + 1
+ends_by true line later e = refl
+ends_by false line later e = absurd cc
+
+goes_by : (b : Bool) (n later : ℕ) → b ≡ false → cond b n later ≡ later
+goes_by true n later e = absurd cc
+goes_by false n later e = refl
+
+pub line_ends : (lines rest : List (List ℕ)) (line : List ℕ) → lines ≡ line ∷ rest → rest ≢ [] → begins_with_end line ≡ true → first_length lines ≡ length line + 1
+unfolding first_length
+line_ends lines [] line e some t = absurd (some refl)
+line_ends lines (next ∷ rest) line e some t = rw e (ends_by (begins_with_end line) line (length line + 1 + first_length (next ∷ rest)) t)
+
+pub line_goes : (lines rest : List (List ℕ)) (line : List ℕ) → lines ≡ line ∷ rest → rest ≢ [] → begins_with_end line ≡ false → first_length lines ≡ length line + 1 + first_length rest
+unfolding first_length
+line_goes lines [] line e some t = absurd (some refl)
+line_goes lines (next ∷ rest) line e some t = rw e (goes_by (begins_with_end line) (length line + 1) (length line + 1 + first_length (next ∷ rest)) t)
+
+at_least : (b : Bool) (n more : ℕ) → n ≤ cond b n (n + more)
+at_least true n more = omega arith
+at_least false n more = omega arith
+
+pub line_more : (lines rest : List (List ℕ)) (line : List ℕ) → lines ≡ line ∷ rest → rest ≢ [] → length line + 1 ≤ first_length lines
+unfolding first_length
+line_more lines [] line e some = absurd (some refl)
+line_more lines (next ∷ rest) line e some = rw e (at_least (begins_with_end line) (length line + 1) (first_length (next ∷ rest)))
+
+pub lines_none : (lines : List (List ℕ)) → lines ≡ [] → first_length lines ≡ 0
+unfolding first_length
+lines_none lines e = rw e refl
+
+-- no text is longer than the input
+least_by : (b : Bool) (n later most : ℕ) → n ≤ most → later ≤ most → cond b n later ≤ most
+least_by true n later most p q = p
+least_by false n later most p q = q
+
+first_within : (lines : List (List ℕ)) → first_length lines ≤ length (joined 10 lines)
+unfolding first_length
+first_within [] = omega arith
+first_within (last ∷ []) = omega arith
+first_within (line ∷ next ∷ lines) =
+    let whole = length-append line (10 ∷ joined 10 (next ∷ lines)) in
+    let rest = first_within (next ∷ lines) in
+    least_by (begins_with_end line) (length line + 1) (length line + 1 + first_length (next ∷ lines)) (length (joined 10 (line ∷ next ∷ lines))) (omega (arith, whole)) (omega (arith, whole, rest))
+
+pub text_within : (input : List ℕ) → text_length input ≤ length input
+text_within input = omega (arith, first_within (split 10 input), ap length (joined-split 10 input))

@@ -1,0 +1,48 @@
+//! Why the desk gives no answer.
+
+ghost use Rattle.std.specs.Prelude.{◌≡◌};
+ghost use Rattle.attribution_desk.specs.declared.error.UsageError.TheVariants.{Memory as UsageMemory};
+ghost use Rattle.attribution_desk.specs.declared.error.DeskError.TheVariants.{Memory as DeskMemory};
+
+use std::alloc::AllocError;
+use thiserror::Error;
+
+/// Why words are no command.
+#[derive(Clone, Copy, Debug, PartialEq, Eq, Error)]
+pub enum UsageError {
+    #[error("fault Usage")]
+    Usage,
+    /// A growth was refused.
+    #[error("fault Memory")]
+    Memory,
+}
+
+impl From<AllocError> for UsageError {
+    ghost from_gives = { λ _ e. e ≡ UsageMemory };
+
+    fn from(_e: AllocError) -> UsageError {
+        UsageError::Memory
+    }
+}
+
+/// Why a command was not carried out.
+#[derive(Clone, Copy, Debug, PartialEq, Eq, Error)]
+pub enum DeskError {
+    /// The input failed, or did not end in time.
+    #[error("fault Read")]
+    Read,
+    /// The output failed.
+    #[error("fault Write")]
+    Write,
+    /// A growth was refused.
+    #[error("fault Memory")]
+    Memory,
+}
+
+impl From<AllocError> for DeskError {
+    ghost from_gives = { λ _ e. e ≡ DeskMemory };
+
+    fn from(_e: AllocError) -> DeskError {
+        DeskError::Memory
+    }
+}

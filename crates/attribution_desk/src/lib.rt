@@ -1,0 +1,10 @@
+//! The desk: a command line and standard input to one verdict line.
+#![tactic(auto)]
+
+mod command;
+mod error;
+mod input;
+
+pub use command::{Command, command_of};
+pub use error::{DeskError, UsageError};
+pub use input::{cut_text, read_input};
