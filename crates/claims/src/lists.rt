@@ -8,7 +8,7 @@ use std::marker::Model;
 /// Entries that clear releases, in the order in which they are written. Contracts see the list.
 #[derive(Debug, Drop)]
 pub struct ClearList {
-    entries: Vec<Clear>,
+    clear: Vec<Clear>,
 }
 
 impl Model for ClearList {
@@ -17,20 +17,20 @@ impl Model for ClearList {
 
     ghost Value = { List ClearValue };
 
-    ghost view = { λ l. l.entries.items };
+    ghost view = { λ l. l.clear.items };
 }
 
 impl ClearList {
-    pub fn new(entries: Vec<Clear>) -> ClearList
-        ensures { result ≡ entries.items }
+    pub fn new(clear: Vec<Clear>) -> ClearList
+        ensures { result ≡ clear.items }
     {
-        ClearList { entries }
+        ClearList { clear }
     }
 
     pub fn as_slice(&self) -> &[Clear]
         ensures { result.now ≡ self.now }
     {
-        &self.entries
+        &self.clear
     }
 }
 
@@ -66,7 +66,7 @@ impl PieceList {
 /// Other clients' grants, in the order in which they are written. Contracts see the list.
 #[derive(Debug, Drop)]
 pub struct ForeignList {
-    entries: Vec<Foreign>,
+    foreign: Vec<Foreign>,
 }
 
 impl Model for ForeignList {
@@ -75,19 +75,19 @@ impl Model for ForeignList {
 
     ghost Value = { List ForeignValue };
 
-    ghost view = { λ l. l.entries.items };
+    ghost view = { λ l. l.foreign.items };
 }
 
 impl ForeignList {
-    pub fn new(entries: Vec<Foreign>) -> ForeignList
-        ensures { result ≡ entries.items }
+    pub fn new(foreign: Vec<Foreign>) -> ForeignList
+        ensures { result ≡ foreign.items }
     {
-        ForeignList { entries }
+        ForeignList { foreign }
     }
 
     pub fn as_slice(&self) -> &[Foreign]
         ensures { result.now ≡ self.now }
     {
-        &self.entries
+        &self.foreign
     }
 }
