@@ -1,5 +1,5 @@
 -- The tests decide their relations.
-use Rattle.std.specs.Prelude.{◌≡◌, ℕ, ◌+◌, ◌-◌, ◌*◌, ◌/◌, ◌^◌, ◌<◌, ◌≤◌, ◌⊎◌, min, max, Bool, true, false, ◌&&◌, ◌||◌, ◌==◌, nat_le, nat_lt, List, [], ◌∷◌, length, Option, Some, None, slice_get, Contains as Has, slice_index_or}
+use Rattle.std.specs.Prelude.{◌≡◌, ℕ, ◌+◌, ◌-◌, ◌*◌, ◌/◌, ◌^◌, ◌<◌, ◌≤◌, ◌⊎◌, min, max, Bool, true, ◌||◌, ◌==◌, List, [], ◌∷◌, length, Option, Some, None, slice_get, Contains as Has, slice_index_or}
 use Rattle.std.specs.Bool.{Decides}
 use Rattle.std.specs.Str.{bytes_eq}
 use Rattle.std.specs.List.{list_any}
@@ -15,9 +15,9 @@ use Rattle.journal_lines.specs.declared.event.Event.TheVariants.{Grant, Close}
 use Rattle.journal_lines.specs.declared.event.Lease.{Lease}
 use Rattle.journal_lines.specs.declared.line.Line.{Line}
 use Rattle.causal_order.specs.declared.reference.Ref.{Ref}
-use Rattle.causal_order.specs.Journals.{Journals, Names, line_of}
+use Rattle.causal_order.specs.Journals.{Journals, line_of}
 use Rattle.causal_order.specs.Order.{WrittenBy, WrittenFrom}
-use Rattle.causal_order.specs.Tests.{some_and, same_ref}
+use Rattle.causal_order.specs.Tests.{some_and}
 use Rattle.causal_order.proofs.Deciding.{decides_le, decides_lt, decides_ref, decides_some, line_names, names_line, decides_written_by, decides_written_from}
 use Rattle.claims.specs.declared.certificate.Certificate.{Certificate}
 use Rattle.claims.specs.declared.certificate.Piece.{Piece}
@@ -132,7 +132,7 @@ close_is : (e : Event) → is_close e ≡ true → e ≡ Close
 close_is Close h = refl
 close_is _ h = cc
 
-decides_close : (e : Event) → Decides (is_close e) (e ≡ Close)
+pub decides_close : (e : Event) → Decides (is_close e) (e ≡ Close)
 decides_close e = (close_is e, λ h. ap is_close h)
 
 pub decides_closes : (lines : List Line) (reading : ℕ) → Decides (closes_from lines reading) (ClosesFrom lines reading)

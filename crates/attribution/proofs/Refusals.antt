@@ -14,7 +14,7 @@ use Rattle.claims.specs.declared.certificate.Foreign.{Foreign}
 use Rattle.attribution.specs.declared.verdict.Verdict.{Verdict}
 use Rattle.attribution.specs.declared.verdict.Verdict.TheVariants.{Accepted, Journal, Certificate as NoCertificate, EmptyInterval, PastEnd, PieceGap, PieceGrant, Uncovered, Reason}
 use Rattle.attribution.specs.Acceptance.{Grants, IsCarried, Tile, IsAccepted}
-use Rattle.attribution.specs.FirstRefusal.{ComesBefore, IsLeast, HoldsBefore, IsFirstNot, Reaches, begin_at, IsTiled, IsGap, IsGranted, IsUncovered, IsCovered, ReasonHolds, IsVerdict, AcceptsTheAccepted, OneVerdict}
+use Rattle.attribution.specs.FirstRefusal.{ComesBefore, IsLeast, IsFirstNot, Reaches, begin_at, IsTiled, IsGap, IsGranted, IsUncovered, IsCovered, ReasonHolds, IsVerdict, AcceptsTheAccepted, OneVerdict}
 
 -- a reference names one line, so it grants one lease
 pub one_lease : (js : Journals) (r : Ref) (g h : Lease) → Grants js r g → Grants js r h → g ≡ h

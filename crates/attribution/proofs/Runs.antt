@@ -1,5 +1,5 @@
 -- The headline over these definitions, whatever a legal journal is.
-use Rattle.std.specs.Prelude.{◌≡◌, ◌≢◌, ℕ, ◌+◌, ◌-◌, ◌*◌, ◌<◌, ◌≤◌, ◌⊎◌, Bool, true, false, List, [], ◌∷◌, Some, slice_get, map, filter, length, slice_index_or, if◌then◌else◌}
+use Rattle.std.specs.Prelude.{◌≡◌, ◌≢◌, ℕ, ◌+◌, ◌-◌, ◌*◌, ◌<◌, ◌≤◌, ◌⊎◌, Bool, true, false, List, [], ◌∷◌, Some, slice_get, map, filter, length, if◌then◌else◌}
 use Rattle.std.specs.Str.{bytes_eq}
 use Rattle.std.proofs.Common.{zero, suc, arith, sym, ◌∙◌, ap, subst, inl, inr, refl}
 use Rattle.std.proofs.lemmas.Bool.{cases_lt}
@@ -23,10 +23,10 @@ use Rattle.claims.specs.declared.certificate.Piece.{Piece}
 use Rattle.claims.specs.declared.certificate.Foreign.{Foreign}
 use Rattle.claims.specs.declared.certificate.Reason.{Reason}
 use Rattle.claims.specs.declared.certificate.Reason.TheVariants.{Early, Late, Released}
-use Rattle.attribution.specs.Run.{Step, lines_of, At, IsOpenAt, IsRun, KeepsSkew, IsValidAt, Holds, HoldsWhole, infinity}
+use Rattle.attribution.specs.Run.{Step, lines_of, At, IsOpenAt, IsValidAt, Holds, HoldsWhole, infinity}
 use Rattle.attribution.specs.Laws.{count, Stands, Setting, RefAt, ChainsStandInOrder, BoundsHold, LateAfterClose}
 use Rattle.attribution.proofs.Tiling.{pieces_meet}
-use Rattle.attribution.specs.Acceptance.{Grants, IsCarried, Tile, IsOutside, ClosesFrom, IsAccepted, AcceptedIsTrue}
+use Rattle.attribution.specs.Acceptance.{Grants, IsCarried, IsOutside, ClosesFrom, IsAccepted, AcceptedIsTrue}
 
 side_same : (a b : Role) → is_side a b ≡ true → b ≡ a
 side_same a b h = (decides_side a b).0 h

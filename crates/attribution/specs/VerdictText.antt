@@ -7,7 +7,6 @@ use Rattle.journal_lines.specs.declared.fault.JournalFault.{JournalFault}
 use Rattle.journal_lines.specs.declared.fault.JournalFault.TheVariants.{Head, Form, Number, Reading, End}
 use Rattle.claims.specs.declared.fault.CertificateFault.{CertificateFault}
 use Rattle.claims.specs.declared.fault.CertificateFault.TheVariants.{Head as NoHead, Form as NoForm, End as NoEnd}
-use Rattle.causal_order.specs.declared.reference.Ref.{Ref}
 use Rattle.attribution.specs.declared.verdict.Verdict.{Verdict}
 use Rattle.attribution.specs.declared.verdict.Verdict.TheVariants.{Accepted, Journal, Certificate, EmptyInterval, PastEnd, PieceGap, PieceGrant, Uncovered, Reason}
 

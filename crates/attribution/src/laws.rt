@@ -8,42 +8,35 @@ ghost use Rattle.attribution.specs.Legal.{IsLegal};
 /// What is accepted is true in every run of the pair that leaves the journals, with clocks within the skew.
 pub fn accepted_is_true()
     ensures { AcceptedIsTrue IsLegal }
-{
-}
+{}
 
 /// A certificate has at most one verdict, which is that it is accepted exactly where it is.
 pub fn verdict_is_one()
     ensures accepts { AcceptsTheAccepted }
     ensures one { OneVerdict }
-{
-}
+{}
 
 /// The lines of a chain were written in its order, in every run.
 pub fn chains_stand_in_order()
     ensures { ChainsStandInOrder IsLegal }
-{
-}
+{}
 
 /// A line's bounds hold under all clocks that are within the skew of true time.
 pub fn bounds_hold()
     ensures { BoundsHold IsLegal }
-{
-}
+{}
 
 /// What stands behind a close line was written at or after the end of the interval.
 pub fn late_after_close()
     ensures { LateAfterClose IsLegal }
-{
-}
+{}
 
 /// Pieces that lie end to end meet every moment.
 pub fn pieces_meet_every_moment()
     ensures { PiecesMeetEveryMoment }
-{
-}
+{}
 
 /// End points meet exactly where sets of addresses meet.
 pub fn end_points_decide()
     ensures { EndPointsDecide }
-{
-}
+{}

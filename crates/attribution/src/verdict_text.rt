@@ -27,7 +27,11 @@ fn push_place(out: &mut Vec<u8>, side: Role, number: u32) -> Result<(), AllocErr
     push_number(out, u64::from(number))
 }
 
-fn push_journal_refusal(out: &mut Vec<u8>, side: Role, fault: JournalFault) -> Result<(), AllocError>
+fn push_journal_refusal(
+    out: &mut Vec<u8>,
+    side: Role,
+    fault: JournalFault,
+) -> Result<(), AllocError>
     ensures { OnOk result (out.new.items ≡ out.old.items ++ journal_refusal side fault) }
 {
     match fault {

@@ -1,7 +1,7 @@
 -- The tests of chains and bounds decide their relations.
-use Rattle.std.specs.Prelude.{◌≡◌, ℕ, ◌-◌, ◌<◌, ◌≤◌, Bool, true, false, ◌&&◌, ◌==◌, nat_le, nat_lt, List, [], ◌∷◌, Option, Some, None, slice_get, if◌then◌else◌}
+use Rattle.std.specs.Prelude.{◌≡◌, ℕ, ◌-◌, ◌<◌, ◌≤◌, Bool, true, false, ◌&&◌, nat_le, nat_lt, List, [], ◌∷◌, Option, Some, None, slice_get, if◌then◌else◌}
 use Rattle.std.specs.Bool.{Decides}
-use Rattle.std.proofs.Common.{arith, sym, ◌∙◌, ap, subst, refl}
+use Rattle.std.proofs.Common.{sym, ◌∙◌, ap, subst, refl}
 use Rattle.std.proofs.lemmas.Bool.{le-leb, leb-true}
 use Rattle.std.proofs.lemmas.Bool.Decides.{Decides-eqb, Decides-ltb, Decides-and, Decides-like}
 use Rattle.binding_rules.specs.declared.role.Role.{Role}
@@ -77,12 +77,12 @@ decides_chain js (r ∷ s ∷ rs) = Decides-like (is_line js r && (is_later r s 
 decides_at : (o : Option Ref) (r : Ref) → Decides (is_at o r) (o ≡ Some r)
 decides_at o r = Decides-like (is_at o r) (λ h. h.1 ∙ ap (λ x. Some x) h.2) (λ e. (r, e, refl)) (decides_some o (λ s. same_ref s r) (λ s. s ≡ r) (λ s. decides_ref s r))
 
-last_ends : (chain : List Ref) (r : Ref) → last_of_chain chain ≡ Some r → EndsWith chain r
+pub last_ends : (chain : List Ref) (r : Ref) → last_of_chain chain ≡ Some r → EndsWith chain r
 last_ends [] r h = cc
 last_ends (s ∷ []) r h = cc
 last_ends (s ∷ t ∷ ts) r h = last_ends (t ∷ ts) r h
 
-ends_last : (chain : List Ref) (r : Ref) → EndsWith chain r → last_of_chain chain ≡ Some r
+pub ends_last : (chain : List Ref) (r : Ref) → EndsWith chain r → last_of_chain chain ≡ Some r
 ends_last [] r h = absurd h
 ends_last (s ∷ []) r h = ap (λ x. Some x) h
 ends_last (s ∷ t ∷ ts) r h = ends_last (t ∷ ts) r h
@@ -91,7 +91,7 @@ first_begins : (chain : List Ref) (r : Ref) → first_of_chain chain ≡ Some r 
 first_begins [] r h = absurd (cc)
 first_begins (s ∷ rs) r h = (rs, cc)
 
-leads_from : (js : Journals) (chain : List Ref) (r s : Ref) → IsChain js chain → first_of_chain chain ≡ Some r → last_of_chain chain ≡ Some s → Leads js chain r s
+pub leads_from : (js : Journals) (chain : List Ref) (r s : Ref) → IsChain js chain → first_of_chain chain ≡ Some r → last_of_chain chain ≡ Some s → Leads js chain r s
 leads_from js chain r s c f l = record { rest = (first_begins chain r f).0; begins = (first_begins chain r f).1; ends = last_ends chain s l; links = c }
 
 -- Bounds.

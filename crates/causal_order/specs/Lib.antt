@@ -1,3 +1,4 @@
 pub mod Journals
 pub mod Order
 pub mod Tests
+pub mod Bounds

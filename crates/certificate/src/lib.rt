@@ -1,6 +1,18 @@
-//! The text of certificates.
+//! The text of certificates: one spelling of each, and the first fault of a text that spells none.
 #![tactic(auto)]
 
+mod draft;
+mod error;
+mod fields;
+mod line;
+mod reading;
+#[cfg(test)]
+mod tests;
+mod text_lines;
+
 pub use claims::{
-    Certificate, CertificateFault, Clear, ClearList, Foreign, ForeignList, Piece, PieceList, Reason, Why,
+    Certificate, CertificateFault, Clear, ClearList, Foreign, ForeignList, Piece, PieceList,
+    Reason, Why,
 };
+pub use error::CertificateError;
+pub use reading::read;

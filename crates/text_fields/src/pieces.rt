@@ -3,6 +3,7 @@
 ghost use Rattle.std.specs.Prelude.{◌≡◌, ◌∷◌, ◌↔◌, [], IsTrue, MatchOption};
 ghost use Rattle.text_fields.specs.Pieces.{split};
 
+use memchr::memchr;
 use std::marker::Model;
 
 /// The pieces of a text between stops, from the front: words between spaces, lines between line feeds.
@@ -25,16 +26,13 @@ impl<'a> Model for Pieces<'a> {
 }
 
 /// The piece before the first stop and what stands behind it, or `None` where no stop is left.
-#[tactic(auto, using(crate::proofs::Cutting::split_found, crate::proofs::Cutting::split_none))]
 fn cut(text: &[u8], stop: u8) -> Option<(&[u8], &[u8])>
     ensures { MatchOption result (split stop text.now ≡ text.now ∷ []) (λ x. split stop text.now ≡ x.0.now ∷ split stop x.1.now) }
 {
-    for (i, b) in text.iter().enumerate() {
-        if *b == stop {
-            return Some((&text[..i], &text[i + 1..]));
-        }
+    match memchr(stop, text) {
+        Some(at) => Some((&text[..at], &text[at + 1..])),
+        None => None,
     }
-    None
 }
 
 impl<'a> Pieces<'a> {

@@ -2,6 +2,7 @@
 #![tactic(auto)]
 
 #[cfg(test)]
+mod audits;
 mod texts;
 #[cfg(test)]
 mod values;

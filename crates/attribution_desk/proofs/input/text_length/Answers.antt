@@ -1,5 +1,4 @@
-use Rattle.std.proofs.Common.{◌≡◌, ◌≢◌, ◌<◌, ◌≤◌, ◌+◌, ◌^◌, ◌∙◌, sym, [], List, ℕ, length, arith}
-use Rattle.attribution_desk.specs.Input.{first_length, text_length}
+use Rattle.std.proofs.Common.{◌≢◌, ◌∙◌, sym, [], arith}
 use Rattle.attribution_desk.proofs.Lines.{line_last, line_ends, line_goes, line_more, lines_none, text_within}
 use Rattle.attribution_desk.proofs.input.text_length.Goals as goal
 

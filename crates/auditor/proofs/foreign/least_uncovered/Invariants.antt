@@ -1,0 +1,5 @@
+use Rattle.auditor.proofs.Others.{IsLeastOf}
+use Rattle.auditor.proofs.foreign.least_uncovered.Given as goal
+
+abbrev pub invariant-loop-index : goal.invariant-loop-index
+invariant-loop-index g l = IsLeastOf (g.S.Lines.journals l.source) l.certificate (g.S.LineSource.given l.source l.certificate.prefix) l.index l.least

@@ -1,0 +1,5 @@
+pub mod Bounds
+pub mod Closing
+pub mod Overlaps
+pub mod Refusals
+pub mod Texts

@@ -1,0 +1,196 @@
+//! Whether a grant carries a piece, and whether it stays out of an interval.
+
+ghost use Rattle.std.specs.Prelude.{◌≡◌, ◌↔◌, ◌*◌, IsTrue, pos};
+ghost use Rattle.attribution.specs.Acceptance.{IsOutside};
+ghost use Rattle.attribution.specs.FirstRefusal.{IsGranted, ReasonHolds};
+ghost use Rattle.attribution.specs.Tests.{lease_of};
+ghost use Rattle.auditor.specs.Bounds.{IsLatestAt, IsEarliestAt, LastsTo, EndsBy, IsWrittenBy, IsWrittenFrom, IsOver, IsLasting, IsHolders, IsValidThroughout};
+
+use crate::source::LineSource;
+use causal_order::{Chain, Lines, Ref, earliest_of, first_of_chain, last_of_chain, latest_of};
+use claims::{Certificate, Foreign, Piece, Reason};
+use client_id::Duid;
+use journal_lines::{Event, Lease};
+use lead_time::{Reading, Skew};
+
+/// The lease that the line grants.
+pub fn lease_at<L: Lines>(lines: &L, at: Ref) -> Option<Lease>
+    ensures { result ≡ lease_of (L.journals lines.now) at }
+{
+    let line = lines.line(at)?;
+    match line.event {
+        Event::Grant(lease) => Some(lease),
+        _ => None,
+    }
+}
+
+/// The moment by which the chain shows the line to be written, in milliseconds: `None` where it is no chain from it.
+#[tactic(auto, using(crate::proofs::Bounds::latest_at, crate::proofs::Bounds::no_chain_from, crate::proofs::Bounds::begins_elsewhere))]
+fn latest_at<L: Lines>(lines: &L, chain: &Chain, at: Ref, skew: Skew) -> Option<i64>
+    ensures { IsLatestAt (L.journals lines.now) chain.now at skew result }
+{
+    let refs = chain.as_slice();
+    if first_of_chain(refs)? != at {
+        return None;
+    }
+    latest_of(lines, refs, skew)
+}
+
+/// The moment at which, or after which, the chain shows the line to be written, in milliseconds: `None` where it is
+/// no chain to it.
+#[tactic(auto, using(crate::proofs::Bounds::earliest_at, crate::proofs::Bounds::no_chain_to, crate::proofs::Bounds::ends_elsewhere))]
+fn earliest_at<L: Lines>(lines: &L, chain: &Chain, at: Ref, skew: Skew) -> Option<i64>
+    ensures { IsEarliestAt (L.journals lines.now) chain.now at skew result }
+{
+    let refs = chain.as_slice();
+    if last_of_chain(refs)? != at {
+        return None;
+    }
+    earliest_of(lines, refs, skew)
+}
+
+/// The lease's valid lifetime in milliseconds.
+fn lifetime_of(lease: &Lease) -> i64
+    ensures { result ≡ pos (1000 * lease.now.valid) }
+{
+    i64::from(lease.valid) * 1000
+}
+
+/// Whether the lease, granted at this moment, lasts to the other one.
+fn lasts_to(lease: &Lease, granted: i64, to: Reading) -> bool
+    ensures { IsTrue result ↔ LastsTo lease.now.valid granted to }
+{
+    lease.valid == Lease::INFINITE || to.milliseconds() as i64 - lifetime_of(lease) <= granted
+}
+
+/// Whether the lease, granted at this moment, has ended by the other one.
+fn ends_by(lease: &Lease, granted: i64, moment: Reading) -> bool
+    ensures { IsTrue result ↔ EndsBy lease.now.valid granted moment }
+{
+    lease.valid != Lease::INFINITE && granted <= moment.milliseconds() as i64 - lifetime_of(lease)
+}
+
+/// Whether the chain shows that the line was written by the moment.
+#[tactic(auto, using(crate::proofs::Bounds::before_by_latest, crate::proofs::Bounds::never_before))]
+fn is_written_by<L: Lines>(lines: &L, chain: &Chain, at: Ref, skew: Skew, moment: Reading) -> bool
+    ensures { IsTrue result ↔ IsWrittenBy (L.journals lines.now) chain.now at skew moment }
+{
+    match latest_at(lines, chain, at, skew) {
+        Some(latest) => latest <= moment.milliseconds() as i64,
+        None => false,
+    }
+}
+
+/// Whether the chain shows that the line was written at the moment or later.
+#[tactic(auto, using(crate::proofs::Bounds::after_by_earliest, crate::proofs::Bounds::never_after))]
+fn is_written_from<L: Lines>(lines: &L, chain: &Chain, at: Ref, skew: Skew, moment: Reading) -> bool
+    ensures { IsTrue result ↔ IsWrittenFrom (L.journals lines.now) chain.now at skew moment }
+{
+    match earliest_at(lines, chain, at, skew) {
+        Some(earliest) => moment.milliseconds() as i64 <= earliest,
+        None => false,
+    }
+}
+
+/// Whether the chain shows that the lease of the grant had ended by the moment.
+#[tactic(auto, using(crate::proofs::Bounds::ended_by_latest, crate::proofs::Bounds::never_ended))]
+fn is_over<L: Lines>(
+    lines: &L,
+    chain: &Chain,
+    grant: Ref,
+    lease: &Lease,
+    skew: Skew,
+    moment: Reading,
+) -> bool
+    ensures { IsTrue result ↔ IsOver (L.journals lines.now) chain.now grant lease.now.valid skew moment }
+{
+    match latest_at(lines, chain, grant, skew) {
+        Some(latest) => ends_by(lease, latest, moment),
+        None => false,
+    }
+}
+
+/// Whether the chain shows that the lease of the grant lasts to the moment.
+#[tactic(auto, using(crate::proofs::Bounds::lasts_by_earliest, crate::proofs::Bounds::never_lasts))]
+fn is_lasting<L: Lines>(
+    lines: &L,
+    chain: &Chain,
+    grant: Ref,
+    lease: &Lease,
+    skew: Skew,
+    moment: Reading,
+) -> bool
+    ensures { IsTrue result ↔ IsLasting (L.journals lines.now) chain.now grant lease.now.valid skew moment }
+{
+    match earliest_at(lines, chain, grant, skew) {
+        Some(earliest) => lasts_to(lease, earliest, moment),
+        None => false,
+    }
+}
+
+/// Whether both are one client.
+pub fn is_same_client(one: &Duid, other: &Duid) -> bool
+    ensures { IsTrue result ↔ (one.now ≡ other.now) }
+{
+    one.as_bytes() == other.as_bytes()
+}
+
+/// Whether the lease is the holder's, of a prefix round the one asked of.
+fn is_holders(lease: &Lease, certificate: &Certificate) -> bool
+    ensures { IsTrue result ↔ IsHolders lease.now certificate.now }
+{
+    is_same_client(&lease.client, &certificate.holder) && lease.prefix.contains(&certificate.prefix)
+}
+
+/// Whether the piece's chains show its grant's lease to be valid from its beginning to its end.
+fn is_valid_throughout<L: Lines>(lines: &L, piece: &Piece, lease: &Lease, skew: Skew) -> bool
+    ensures { IsTrue result ↔ IsValidThroughout (L.journals lines.now) piece.now lease.now skew }
+{
+    is_written_by(lines, &piece.latest, piece.grant, skew, piece.from)
+        && is_lasting(lines, &piece.earliest, piece.grant, lease, skew, piece.to)
+}
+
+/// Whether the grant that the piece names carries it: the lease is the holder's, of a prefix round the one asked of,
+/// and lasts from the piece's beginning to its end.
+#[tactic(auto, using(crate::proofs::Leases::granted_by_lease, crate::proofs::Leases::not_holders, crate::proofs::Leases::no_granted_lease))]
+pub fn is_granted<L: Lines>(lines: &L, certificate: &Certificate, piece: &Piece, skew: Skew) -> bool
+    ensures { IsTrue result ↔ IsGranted (L.journals lines.now) skew certificate.now piece.now }
+{
+    let Some(lease) = lease_at(lines, piece.grant) else {
+        return false;
+    };
+    is_holders(&lease, certificate) && is_valid_throughout(lines, piece, &lease, skew)
+}
+
+/// Whether the lease of another client's grant is shown to stay out of the interval.
+fn is_outside<L: Lines>(
+    lines: &L,
+    certificate: &Certificate,
+    foreign: &Foreign,
+    lease: &Lease,
+    skew: Skew,
+) -> bool
+    ensures { IsTrue result ↔ IsOutside (L.journals lines.now) skew foreign.now.grant lease.now certificate.now.from certificate.now.to foreign.now.reason }
+{
+    match &foreign.reason {
+        Reason::Early(chain) => is_over(lines, chain, foreign.grant, lease, skew, certificate.from),
+        Reason::Late(chain) => is_written_from(lines, chain, foreign.grant, skew, certificate.to),
+        Reason::Released { .. } => false,
+    }
+}
+
+/// Whether the entry names a grant whose lease is shown to stay out of the interval.
+#[tactic(auto, using(crate::proofs::Leases::reason_by_lease, crate::proofs::Leases::no_reason))]
+pub fn reason_holds<S: LineSource>(
+    source: &S,
+    certificate: &Certificate,
+    foreign: &Foreign,
+    skew: Skew,
+) -> bool
+    ensures { IsTrue result ↔ ReasonHolds (S.journals source.now) skew certificate.now foreign.now }
+{
+    match lease_at(source, foreign.grant) {
+        Some(lease) => is_outside(source, certificate, foreign, &lease, skew),
+        None => false,
+    }
+}

@@ -1,0 +1,141 @@
+-- The lines of a certificate, read by their words.
+use Rattle.std.specs.Prelude.{◌≡◌, ℕ, ◌^◌, List, [], ◌∷◌, ◌++◌, length, ◌&&◌, Option, Some, None, option_map, Result, Ok, Err, nat_le, ◌==◌, if◌then◌else◌, codes}
+use Rattle.std.specs.Str.{bytes_eq}
+use Rattle.text_fields.specs.Reading.{◌>>=◌, first_word}
+use Rattle.line_words.specs.Words.{number_within, reading_at, duid_at, prefix_at}
+use Rattle.prefix_range.specs.Prefix.{Prefix}
+use Rattle.binding_rules.specs.declared.role.Role.{Role}
+use Rattle.binding_rules.specs.declared.role.Role.TheVariants.{Primary, Secondary}
+use Rattle.causal_order.specs.declared.reference.Ref.{Ref}
+use Rattle.claims.specs.declared.certificate.Certificate.{Certificate}
+use Rattle.claims.specs.declared.certificate.Piece.{Piece}
+use Rattle.claims.specs.declared.certificate.Foreign.{Foreign}
+use Rattle.claims.specs.declared.certificate.Reason.{Reason}
+use Rattle.claims.specs.declared.certificate.Reason.TheVariants.{Early, Late}
+use Rattle.certificate.specs.declared.fields.LineError.{LineError}
+use Rattle.certificate.specs.declared.fields.LineError.TheVariants.{Form, Memory}
+
+-- ---- words
+
+-- the word itself, where it is this one
+unfoldable pub keyword : List ℕ → List ℕ → Option (List ℕ)
+keyword text word = if bytes_eq word text then Some text else None
+
+-- The first word read as a keyword, a reference or a chain, and the words behind it.
+abbrev pub keyword_at : List ℕ → List (List ℕ) → Option (List ℕ × List (List ℕ))
+keyword_at text words = first_word (keyword text) words
+
+-- the side with this letter
+unfoldable pub side_of : ℕ → Option Role
+side_of letter = if letter == 65 then Some Primary else if letter == 66 then Some Secondary else None
+
+-- the reference that a word spells: a side's letter and a number from 1
+unfoldable pub ref_of : List ℕ → Option Ref
+ref_of [] = None
+ref_of (letter ∷ digits) = do
+  side ← side_of letter
+  number ← number_within (2 ^ 20) digits
+  if nat_le 1 number then Some (record { side = side; number = number }) else None
+
+abbrev pub ref_at : List (List ℕ) → Option (Ref × List (List ℕ))
+ref_at words = first_word ref_of words
+
+-- the chain that a word spells: one reference
+unfoldable pub chain_of : List ℕ → Option (List Ref)
+chain_of word = option_map (λ r. r ∷ []) (ref_of word)
+
+abbrev pub chain_at : List (List ℕ) → Option (List Ref × List (List ℕ))
+chain_at words = first_word chain_of words
+
+-- a value, where no word stands behind it
+abbrev pub alone : {A : Type 0} → A → List (List ℕ) → Option A
+alone x [] = Some x
+alone x (word ∷ words) = None
+
+-- ---- lines
+
+-- the client, the prefix and the interval, by all words of their lines
+unfoldable pub holder_in : List (List ℕ) → Option (List ℕ)
+holder_in words = do
+  k ← keyword_at (codes "holder") words
+  holder ← duid_at k.1
+  alone holder.0 holder.1
+
+unfoldable pub prefix_in : List (List ℕ) → Option Prefix
+prefix_in words = do
+  k ← keyword_at (codes "prefix") words
+  prefix ← prefix_at k.1
+  alone prefix.0 prefix.1
+
+unfoldable pub interval_in : List (List ℕ) → Option (ℕ × ℕ)
+interval_in words = do
+  k ← keyword_at (codes "interval") words
+  from ← reading_at k.1
+  to ← reading_at from.1
+  alone (from.0, to.0) to.1
+
+-- a piece, by the words behind its keyword
+unfoldable pub piece_in : List (List ℕ) → Option Piece
+piece_in words = do
+  grant ← ref_at words
+  from ← reading_at grant.1
+  to ← reading_at from.1
+  j ← keyword_at (codes "latest") to.1
+  latest ← chain_at j.1
+  k ← keyword_at (codes "earliest") latest.1
+  earliest ← chain_at k.1
+  alone (record { grant = grant.0; from = from.0; to = to.0; latest = latest.0; earliest = earliest.0; clear = [] }) earliest.1
+
+-- a reason, by its keyword and the words behind it
+unfoldable pub reason_by : List ℕ → List (List ℕ) → Option (Reason × List (List ℕ))
+reason_by word words =
+    if bytes_eq word (codes "early") then option_map (λ x. (Early x.0, x.1)) (chain_at words)
+    else if bytes_eq word (codes "late") then option_map (λ x. (Late x.0, x.1)) (chain_at words)
+    else None
+
+abbrev pub reason_at : List (List ℕ) → Option (Reason × List (List ℕ))
+reason_at [] = None
+reason_at (word ∷ words) = reason_by word words
+
+-- another client's grant, by the words behind its keyword
+unfoldable pub foreign_in : List (List ℕ) → Option Foreign
+foreign_in words = do
+  grant ← ref_at words
+  reason ← reason_at grant.1
+  alone (record { grant = grant.0; reason = reason.0 }) reason.1
+
+-- ---- what a line adds
+
+-- the certificate with its one piece, before all other clients' grants
+unfoldable pub with_piece : Certificate → List (List ℕ) → Option Certificate
+with_piece c words = if length c.pieces == 0 && length c.foreign == 0 then option_map (λ p. record c { pieces = c.pieces ++ p ∷ [] }) (piece_in words) else None
+
+-- the certificate with one more of other clients' grants
+unfoldable pub with_foreign : Certificate → List (List ℕ) → Option Certificate
+with_foreign c words = option_map (λ f. record c { foreign = c.foreign ++ f ∷ [] }) (foreign_in words)
+
+-- the certificate with what a line adds to it, by the line's first word and the words behind it
+unfoldable pub with_words : Certificate → List ℕ → List (List ℕ) → Option Certificate
+with_words c word words =
+    if bytes_eq word (codes "piece") then with_piece c words
+    else if bytes_eq word (codes "foreign") then with_foreign c words
+    else None
+
+-- the certificate with what the words of a line add to it
+abbrev pub with_line : Certificate → List (List ℕ) → Option Certificate
+with_line c [] = None
+with_line c (word ∷ words) = with_words c word words
+
+-- ---- what readers find
+
+-- what a function that makes growths found, seen by view, is what reading gives, unless a growth was refused
+abbrev pub Fills : {X Y : Type 0} → (X → Y) → Result X LineError → Option Y → Type 0
+Fills view (Ok x) read = read ≡ Some (view x)
+Fills view (Err Form) read = read ≡ None
+Fills view (Err Memory) read = Unit {0}
+
+-- the same of a value and the words behind it
+abbrev pub Takes : {X Y : Type 0} → (X → Y) → Result X LineError → List (List ℕ) → Option (Y × List (List ℕ)) → Type 0
+Takes view (Ok x) rest read = read ≡ Some (view x, rest)
+Takes view (Err Form) rest read = read ≡ None
+Takes view (Err Memory) rest read = Unit {0}

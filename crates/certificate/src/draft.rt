@@ -1,0 +1,83 @@
+//! A certificate that is being read.
+
+ghost use Rattle.std.specs.Prelude.{◌≡◌, ◌∷◌, ◌++◌, ◌==◌, [], length, ◌↔◌, IsTrue, OnOk};
+
+use claims::{Certificate, Foreign, ForeignList, Piece, PieceList};
+use client_id::Duid;
+use lead_time::Reading;
+use prefix_range::Prefix;
+use std::alloc::{AllocError, Global};
+use std::marker::Model;
+
+/// A certificate whose pieces and other clients' grants are still being read. Contracts see the certificate
+/// with those that were read.
+#[derive(Drop)]
+pub struct Draft {
+    holder: Duid,
+    prefix: Prefix,
+    from: Reading,
+    to: Reading,
+    pieces: Vec<Piece>,
+    foreign: Vec<Foreign>,
+}
+
+impl Model for Draft {
+    ghost use Rattle.claims.specs.declared.certificate.Certificate.{Certificate as CertificateValue};
+
+    ghost Value = { CertificateValue };
+
+    ghost view = { λ d. record { holder = d.holder; prefix = d.prefix; from = d.from; to = d.to; pieces = d.pieces.items; foreign = d.foreign.items } };
+}
+
+impl Draft {
+    /// The certificate of this holder, prefix and interval, with no piece and no other client's grant yet.
+    pub fn new(alloc: Global, holder: Duid, prefix: Prefix, from: Reading, to: Reading) -> Draft
+        ensures { result ≡ record { holder = holder; prefix = prefix; from = from; to = to; pieces = []; foreign = [] } }
+    {
+        Draft {
+            holder,
+            prefix,
+            from,
+            to,
+            pieces: Vec::new(alloc),
+            foreign: Vec::new(alloc),
+        }
+    }
+
+    /// Whether a piece may be the next that is read: none was, and no other client's grant.
+    pub fn takes_piece(&self) -> bool
+        ensures { IsTrue result ↔ ((self.now.pieces ≡ []) × (self.now.foreign ≡ [])) }
+    {
+        self.pieces.is_empty() && self.foreign.is_empty()
+    }
+
+    /// Appends a piece.
+    pub fn push_piece(&mut self, piece: Piece) -> Result<(), AllocError>
+        ensures { OnOk result (self.new ≡ record self.old { pieces = self.old.pieces ++ piece ∷ [] }) }
+    {
+        self.pieces.push(piece)?;
+        Ok(())
+    }
+
+    /// Appends another client's grant.
+    pub fn push_foreign(&mut self, foreign: Foreign) -> Result<(), AllocError>
+        ensures { OnOk result (self.new ≡ record self.old { foreign = self.old.foreign ++ foreign ∷ [] }) }
+    {
+        self.foreign.push(foreign)?;
+        Ok(())
+    }
+
+    /// The certificate, as far as it was read.
+    pub fn finish(self) -> Certificate
+        ensures { result ≡ self }
+    {
+        Certificate {
+            holder: self.holder,
+            prefix: self.prefix,
+            from: self.from,
+            to: self.to,
+            pieces: PieceList::new(self.pieces),
+            foreign: ForeignList::new(self.foreign),
+        }
+    }
+}
