@@ -3,6 +3,8 @@
 
 #[cfg(test)]
 mod audits;
+#[cfg(test)]
+mod headline;
 mod texts;
 #[cfg(test)]
 mod values;
