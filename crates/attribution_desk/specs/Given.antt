@@ -14,3 +14,7 @@ IsSkewOf (Some text) skew = (text ≡ decimal skew) × (skew ≤ 86400000)
 abbrev pub IsGiven : Option (Text × List Row) → Command → Type 0
 IsGiven None command = ⊥
 IsGiven (Some found) (Audit skew) = (found.0 ≡ codes "audit") × IsSkewOf (first_of (codes "skew-ms") found.1) skew
+
+-- they are those of no command
+abbrev pub IsNoCommand : Option (Text × List Row) → Type 0
+IsNoCommand found = (command : Command) → IsGiven found command → ⊥

@@ -1,9 +1,9 @@
 //! Command words, as clap finds them.
 
-ghost use Rattle.std.specs.Prelude.{◌≡◌, IfOk, IfSome, Some, false, map, string_bytes};
-ghost use Rattle.clap.specs.Words.{app_of, rule_of, first_of, rows_of, found_of, subcommand_of, subcommand_rows_of};
+ghost use Rattle.std.specs.Prelude.{◌≡◌, ℕ, IfOk, IfSome, IsErrOf, Some, None, true, false, map, string_bytes};
+ghost use Rattle.clap.specs.Words.{app_of, rule_of, first_of, rows_of, found_of, subcommand_of, subcommand_rows_of, takes, kind_of};
 ghost use Rattle.attribution_desk.specs.Words.{option_rule, desk};
-ghost use Rattle.attribution_desk.specs.Given.{IsSkewOf, IsGiven};
+ghost use Rattle.attribution_desk.specs.Given.{IsSkewOf, IsGiven, IsNoCommand};
 
 use crate::error::UsageError;
 use clap::error::ErrorKind;
@@ -41,7 +41,9 @@ fn desk_command<'a>(alloc: Global) -> Result<ClapCommand<'a>, AllocError>
         .subcommand(audit)
 }
 
-fn usage_error(error: ClapError) -> UsageError {
+fn usage_error(error: ClapError) -> UsageError
+    ensures { kind_of error ≡ ErrorKind.OutOfMemory → result ≡ UsageError.Memory }
+{
     if error.kind() == ErrorKind::OutOfMemory {
         UsageError::Memory
     } else {
@@ -51,36 +53,36 @@ fn usage_error(error: ClapError) -> UsageError {
 
 /// The skew that an option has, in milliseconds: a number as in a journal, of at most a day.
 fn skew_given(options: &ArgMatches, name: &str) -> Option<Skew>
-    ensures { IfSome result (IsSkewOf (first_of name.now (rows_of (found_of options.now)))) }
+    ensures given { IfSome result (IsSkewOf (first_of name.now (rows_of (found_of options.now)))) }
+    ensures none { result ≡ None → (skew : ℕ) → IsSkewOf (first_of name.now (rows_of (found_of options.now))) skew → ⊥ }
 {
     let number = number_of(options.get_str(name)?.as_bytes())?;
     Skew::new(number).ok()
 }
 
-fn command_in(matches: &ArgMatches) -> Result<Command, UsageError>
-    ensures { IfOk result (IsGiven (subcommand_rows_of matches.now)) }
+fn command_in(matches: &ArgMatches) -> Option<Command>
+    ensures given { IfSome result (IsGiven (subcommand_rows_of matches.now)) }
+    ensures none { result ≡ None → IsNoCommand (subcommand_rows_of matches.now) }
 {
-    let Some((name, options)) = matches.subcommand() else {
-        return Err(UsageError::Usage);
-    };
-    let Some(skew) = skew_given(options, "skew-ms") else {
-        return Err(UsageError::Usage);
-    };
+    let (name, options) = matches.subcommand()?;
+    let skew = skew_given(options, "skew-ms")?;
     if name == "audit" {
-        Ok(Command::Audit { skew })
+        Some(Command::Audit { skew })
     } else {
-        Err(UsageError::Usage)
+        None
     }
 }
 
 /// The command that the words give, the first of which is the program's name: `Usage` where clap finds none
 /// in them or a value is no value, `Memory` where a growth was refused.
 pub fn command_of(alloc: Global, words: &[String]) -> Result<Command, UsageError>
-    ensures { IfOk result (IsGiven (subcommand_of desk (map string_bytes words.now))) }
+    ensures given { IfOk result (IsGiven (subcommand_of desk (map string_bytes words.now))) }
+    ensures refused { IsErrOf result UsageError.Usage → takes desk (map string_bytes words.now) ≡ true
+        → IsNoCommand (subcommand_of desk (map string_bytes words.now)) }
 {
     let command = desk_command(alloc)?;
     match command.try_get_matches_from(words) {
-        Ok(matches) => command_in(&matches),
+        Ok(matches) => command_in(&matches).ok_or(UsageError::Usage),
         Err(error) => Err(usage_error(error)),
     }
 }

@@ -1,7 +1,13 @@
+pub mod RefPlain
 pub mod WordLaws
+pub mod Chains
+pub mod ReasonLaws
+pub mod Clearing
 pub mod LineLaws
+pub mod Lengths
 pub mod Plain
 pub mod Adding
 pub mod FaultSteps
 pub mod TextLaws
 pub mod Going
+pub mod Texts

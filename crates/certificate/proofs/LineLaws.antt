@@ -13,9 +13,10 @@ use Rattle.line_words.proofs.WordLaws.{number_at_takes, number_at_again, duid_at
 use Rattle.claims.specs.declared.certificate.Clear.{Clear}
 use Rattle.claims.specs.declared.certificate.Piece.{Piece}
 use Rattle.claims.specs.declared.certificate.Foreign.{Foreign}
-use Rattle.certificate.specs.Spelling.{ref_text, chain_text, reason_words, holder_words, prefix_words, interval_words, piece_words, foreign_words, IsPiece, IsForeign}
-use Rattle.certificate.specs.Lines.{keyword_at, ref_at, chain_at, reason_at, alone, holder_in, prefix_in, interval_in, piece_in, foreign_in}
-use Rattle.certificate.proofs.WordLaws.{alone_takes, keyword_takes, keyword_again, ref_at_takes, ref_at_again, chain_at_takes, chain_at_again, reason_takes, reason_again}
+use Rattle.certificate.specs.Spelling.{ref_text, chain_text, why_words, clear_words, reason_words, holder_words, prefix_words, interval_words, piece_words, foreign_words, IsClear, IsPiece, IsForeign}
+use Rattle.certificate.specs.Lines.{keyword_at, ref_at, chain_at, why_at, reason_at, alone, holder_in, prefix_in, interval_in, piece_in, clear_in, foreign_in}
+use Rattle.certificate.proofs.WordLaws.{alone_takes, keyword_takes, keyword_again, ref_at_takes, ref_at_again, chain_at_takes, chain_at_again}
+use Rattle.certificate.proofs.ReasonLaws.{why_takes, why_again, reason_takes, reason_again}
 
 -- one word more in front
 front : (word : List ℕ) (a b : List (List ℕ)) → a ≡ b → word ∷ a ≡ word ∷ b
@@ -75,7 +76,7 @@ interval_again from to f t =
 
 -- ---- pieces
 
-pub piece_takes : (words : List (List ℕ)) (p : Piece) → piece_in words ≡ Some p → (codes "piece" ∷ words ≡ piece_words p) × IsPiece p
+pub piece_takes : (words : List (List ℕ)) (p : Piece) → piece_in words ≡ Some p → (codes "piece" ∷ words ≡ piece_words p) × IsPiece p × (p.clear ≡ [])
 unfolding piece_in
 piece_takes words p e =
     let g = bind_some (ref_at words) (λ g. reading_at g.1 >>= λ f. reading_at f.1 >>= λ t. keyword_at (codes "latest") t.1 >>= λ j. chain_at j.1 >>= λ l. keyword_at (codes "earliest") l.1 >>= λ k. chain_at k.1 >>= λ x. alone (record { grant = g.0; from = f.0; to = t.0; latest = l.0; earliest = x.0; clear = [] }) x.1) p e in
@@ -96,10 +97,10 @@ piece_takes words p e =
     front (codes "piece") _ _ (grant.0 ∙ front (ref_text g.0.0) _ _ (from.0 ∙ front (decimal f.0.0) _ _ (to.0 ∙ front (decimal t.0.0) _ _ (
     keyword_takes (codes "latest") t.0.1 j.0.0 j.0.1 j.1 ∙ front (codes "latest") _ _ (latest.0 ∙ front (chain_text l.0.0) _ _ (
     keyword_takes (codes "earliest") l.0.1 k.0.0 k.0.1 k.1 ∙ front (codes "earliest") _ _ (earliest.0 ∙ front (chain_text x.0.0) _ _ a.0))))))) in
-    subst (λ (q : Piece). (codes "piece" ∷ words ≡ piece_words q) × IsPiece q) a.1
-    (whole, record { grant = grant.1; from = from.1; to = to.1; latest = latest.1; earliest = earliest.1; clear = refl })
+    subst (λ (q : Piece). (codes "piece" ∷ words ≡ piece_words q) × IsPiece q × (q.clear ≡ [])) a.1
+    (whole, record { grant = grant.1; from = from.1; to = to.1; latest = latest.1; earliest = earliest.1; clear = tt }, refl)
 
-pub piece_again : (p : Piece) → IsPiece p → piece_in (ref_text p.grant ∷ decimal p.from ∷ decimal p.to ∷ codes "latest" ∷ chain_text p.latest ∷ codes "earliest" ∷ chain_text p.earliest ∷ []) ≡ Some p
+pub piece_again : (p : Piece) → IsPiece p → piece_in (ref_text p.grant ∷ decimal p.from ∷ decimal p.to ∷ codes "latest" ∷ chain_text p.latest ∷ codes "earliest" ∷ chain_text p.earliest ∷ []) ≡ Some (record p { clear = [] })
 unfolding piece_in
 piece_again p h =
     rw (
@@ -110,7 +111,28 @@ piece_again p h =
       chain_at_again p.latest (codes "earliest" ∷ chain_text p.earliest ∷ []) h.latest,
       keyword_again (codes "earliest") (chain_text p.earliest ∷ []),
       chain_at_again p.earliest [] h.earliest,
-    ) (ap (λ (clear : List Clear). Some (record p { clear = clear })) (sym h.clear))
+    ) refl
+
+-- ---- releases that are cleared
+
+pub clear_takes : (words : List (List ℕ)) (c : Clear) → clear_in words ≡ Some c → (codes "clear" ∷ words ≡ clear_words c) × IsClear c
+unfolding clear_in
+clear_takes words c e =
+    let g = bind_some (ref_at words) (λ g. why_at g.1 >>= λ w. alone (record { release = g.0; why = w.0 }) w.1) c e in
+    let w = bind_some (why_at g.0.1) (λ w. alone (record { release = g.0.0; why = w.0 }) w.1) c g.2 in
+    let made : Clear = record { release = g.0.0; why = w.0.0 } in
+    let a = alone_takes made c w.0.1 w.2 in
+    let release = ref_at_takes words g.0.0 g.0.1 g.1 in
+    let why = why_takes g.0.1 w.0.0 w.0.1 w.1 in
+    let whole : codes "clear" ∷ words ≡ clear_words made =
+    front (codes "clear") _ _ (release.0 ∙ front (ref_text g.0.0) _ _ (why.0 ∙ (ap (λ (ws : List (List ℕ)). why_words w.0.0 ++ ws) a.0 ∙ append-nil (why_words w.0.0)))) in
+    subst (λ (q : Clear). (codes "clear" ∷ words ≡ clear_words q) × IsClear q) a.1 (whole, record { release = release.1; why = why.1 })
+
+pub clear_again : (c : Clear) → IsClear c → clear_in (ref_text c.release ∷ why_words c.why) ≡ Some c
+unfolding clear_in
+clear_again c h =
+    let why : why_at (why_words c.why) ≡ Some (c.why, []) = ap why_at (sym (append-nil (why_words c.why))) ∙ why_again c.why [] h.why in
+    rw (ref_at_again c.release (why_words c.why) h.release, why) refl
 
 -- ---- other clients' grants
 

@@ -6,7 +6,7 @@ use Rattle.std.specs.List.{flat_map, AllByRecursion}
 use Rattle.std.proofs.lemmas.Bool.{leb-true, le-leb}
 use Rattle.std.proofs.lemmas.Slice.Eq.{bytes_eq-Decides}
 use Rattle.std.proofs.lemmas.List.{length-append, length-map}
-use Rattle.std.proofs.lemmas.Grind.{flat_map-append}
+use Rattle.std.proofs.lemmas.List.Concat.{flat_map-cons}
 use Rattle.text_fields.specs.Pieces.{joined, split, Lacks, AllLack}
 use Rattle.text_fields.proofs.PieceLaws.{joined-split, joined-ended, split-ended}
 use Rattle.prefix_range.specs.Prefix.{Prefix}
@@ -16,13 +16,15 @@ use Rattle.claims.specs.declared.certificate.Foreign.{Foreign}
 use Rattle.claims.specs.declared.fault.CertificateFault.{CertificateFault}
 use Rattle.claims.specs.declared.fault.CertificateFault.TheVariants.{Head, Form}
 use Rattle.certificate.specs.declared.error.CertificateError.{CertificateError}
-use Rattle.certificate.specs.Spelling.{head_text, end_text, holder_words, prefix_words, interval_words, piece_words, foreign_words, line_text, opening_lines, piece_lines, lines_of, certificate_lines, certificate_text, IsPiece, IsForeign, IsClaim, IsWritten}
+use Rattle.certificate.specs.Spelling.{head_text, end_text, holder_words, prefix_words, interval_words, piece_words, clear_words, foreign_words, line_text, opening_lines, piece_lines, lines_of, certificate_lines, certificate_text, IsClear, IsPiece, IsForeign, IsClaim, IsWritten}
 use Rattle.certificate.specs.Lines.{holder_in, prefix_in, interval_in, with_line}
 use Rattle.certificate.specs.Faults.{◌>>=◌, or_form, line_before, head_at, value_at, ended_by, claim_on, opening_at, certificate_in, reading_of, Gives}
 use Rattle.certificate.proofs.FaultSteps.{done, ok_is, bind_ok, form_ok}
 use Rattle.certificate.proofs.LineLaws.{holder_takes, holder_again, prefix_takes, prefix_again, interval_takes, interval_again}
-use Rattle.certificate.proofs.Plain.{lacks_test, IsPlainLine, line_lacks, line_short, line_words, holder_plain, prefix_plain_line, interval_plain, piece_plain, foreign_plain}
-use Rattle.certificate.proofs.Adding.{all_append, lines_of_piece, adds_line, piece_added, foreign_added}
+use Rattle.certificate.proofs.Plain.{all_append, lacks_test, IsPlainLine, line_lacks, line_words, holder_plain, prefix_plain_line, interval_plain, piece_plain, clear_plain, foreign_plain}
+use Rattle.certificate.proofs.Adding.{clear_line, foreign_line, bare, adds_line, piece_added, clear_added, foreign_added}
+use Rattle.certificate.proofs.Clearing.{clearing}
+use Rattle.claims.specs.declared.certificate.Clear.{Clear}
 
 -- ---- lines
 
@@ -59,7 +61,7 @@ value_takes {A = A} read number (line ∷ rest) x left e =
     (line, ap (λ (ls : List (List ℕ)). line ∷ ls) rest_is, ap (λ (t : List ℕ). read (split 32 t)) same ∙ (form_ok number (read (split 32 l.0.0)) v.0 v.1 ∙ ap (λ (y : A). Some y) value))
 
 value_again : {A : Type 0} (read : List (List ℕ) → Option A) (number : ℕ) (words left : List (List ℕ)) (x : A) → number ≤ 65536 → IsPlainLine words → read words ≡ Some x → 0 < length left → value_at read number (line_text words ∷ left) ≡ Ok (x, left)
-value_again read number words left x few plain e some = rw (before_again number (line_text words) left few (line_short words plain) some, line_words words plain, e) refl
+value_again read number words left x few plain e some = rw (before_again number (line_text words) left few plain.short some, line_words words plain, e) refl
 
 -- ---- the lines behind the interval
 
@@ -141,7 +143,7 @@ opening_takes lines c left e =
     let prefix = prefix_takes (split 32 pl.0) p.0.0 pl.2 in
     let interval = interval_takes (split 32 il.0) i.0.0 il.2 in
     let opened : Opens lines (begun h.0.0 p.0.0 i.0.0) i.0.1 = record {
-      claim = record { holder = holder.1; prefix = prefix.1; from = interval.1; to = interval.2; few = omega arith; pieces = tt; foreign = tt };
+      claim = record { holder = holder.1; prefix = prefix.1; from = interval.1; to = interval.2; pieces = tt; foreign = tt };
       count = refl;
       whole = head_takes lines a.0 a.1 ∙ behind head_text _ _ (hl.1 ∙ first _ _ _ _ (words_line hl.0 _ holder.0)
           (pl.1 ∙ first _ _ _ _ (words_line pl.0 _ prefix.0) (il.1 ∙ first _ _ _ _ (words_line il.0 _ interval.0) refl)));
@@ -168,53 +170,83 @@ end_again number c few = rw (before_again number end_text ([] ∷ []) few (omega
 -- one more line, where others stand behind it
 line_again : (number : ℕ) (c more : Certificate) (words left : List (List ℕ)) → number ≤ 65536 → IsPlainLine words → bytes_eq (line_text words) end_text ≡ false → with_line c words ≡ Some more → 0 < length left → claim_on number c (line_text words ∷ left) ≡ claim_on (suc number) more left
 unfolding claim_on
-line_again number c more words left few plain other adds some = rw (before_again number (line_text words) left few (line_short words plain) some, other, line_words words plain, adds) refl
+line_again number c more words left few plain other adds some = rw (before_again number (line_text words) left few plain.short some, other, line_words words plain, adds) refl
 
 some_left : (lines : List (List ℕ)) → 0 < length (lines ++ end_text ∷ [] ∷ [])
 some_left lines = omega (arith, length-append lines (end_text ∷ [] ∷ []))
 
-foreign_again : (fs : List Foreign) (number : ℕ) (c : Certificate) → AllByRecursion IsForeign fs → number + length fs ≤ 65536 → claim_on number c (map (λ f. line_text (foreign_words f)) fs ++ end_text ∷ [] ∷ []) ≡ Ok (record c { foreign = c.foreign ++ fs })
+foreign_again : (fs : List Foreign) (number : ℕ) (c : Certificate) → AllByRecursion IsForeign fs → number + length fs ≤ 65536 → claim_on number c (map foreign_line fs ++ end_text ∷ [] ∷ []) ≡ Ok (record c { foreign = c.foreign ++ fs })
 foreign_again [] number c h few = end_again number c (omega arith) ∙ ap (λ (fs : List Foreign). Ok (record c { foreign = fs })) (sym (append-nil c.foreign))
 foreign_again (f ∷ fs) number c h few =
-    let later : List (List ℕ) = map (λ f. line_text (foreign_words f)) fs in
+    let later : List (List ℕ) = map foreign_line fs in
     line_again number c (record c { foreign = c.foreign ++ f ∷ [] }) (foreign_words f) (later ++ end_text ∷ [] ∷ []) (omega arith) (foreign_plain f h.0) refl (foreign_added c f h.0) (some_left later)
     ∙ (foreign_again fs (suc number) (record c { foreign = c.foreign ++ f ∷ [] }) h.1 (omega arith)
     ∙ ap (λ (gs : List Foreign). Ok (record c { foreign = gs })) (append_assoc c.foreign (f ∷ []) fs))
 
-pieces_again : (ps : List Piece) (fs : List Foreign) (number : ℕ) (c : Certificate) → c.pieces ≡ [] → c.foreign ≡ [] → length ps ≤ 1 → AllByRecursion IsPiece ps → AllByRecursion IsForeign fs → number + length (flat_map piece_lines ps) + length fs ≤ 65536
-    → claim_on number c ((flat_map piece_lines ps ++ map (λ f. line_text (foreign_words f)) fs) ++ end_text ∷ [] ∷ []) ≡ Ok (record c { pieces = ps; foreign = fs })
-pieces_again [] fs number c none free few h j count =
-    foreign_again fs number c j (omega arith)
-    ∙ (ap (λ (gs : List Foreign). Ok (record c { foreign = gs ++ fs })) free ∙ ap (λ (ps : List Piece). Ok (record c { pieces = ps; foreign = fs })) none)
-pieces_again (p ∷ []) fs number c none free few h j count =
+some_behind : (lines left : List (List ℕ)) → 0 < length left → 0 < length (lines ++ left)
+some_behind lines left some = omega (arith, length-append lines left)
+
+-- releases behind their piece, where other lines stand behind them
+clears_again : (cs : List Clear) (number later : ℕ) (c : Certificate) (front : List Piece) (p : Piece) (left : List (List ℕ)) → c.foreign ≡ [] → c.pieces ≡ front ++ p ∷ [] → AllByRecursion IsClear cs → later ≡ number + length cs → later ≤ 65536 → 0 < length left
+    → claim_on number c (map clear_line cs ++ left) ≡ claim_on later (record c { pieces = front ++ record p { clear = p.clear ++ cs } ∷ [] }) left
+clears_again [] number later c front p left none are h count few some =
+    let whole : front ++ record p { clear = p.clear ++ [] } ∷ [] ≡ c.pieces = ap (λ (cs : List Clear). front ++ record p { clear = cs } ∷ []) (append-nil p.clear) ∙ sym are in
+    let same : number ≡ later = omega arith in
+    ap (λ (n : ℕ). claim_on n c left) same ∙ ap (λ (ps : List Piece). claim_on later (record c { pieces = ps }) left) (sym whole)
+clears_again (x ∷ cs) number later c front p left none are h count few some =
+    let more : Certificate = record c { pieces = front ++ clearing p x ∷ [] } in
+    line_again number c more (clear_words x) (map clear_line cs ++ left) (omega arith) (clear_plain x h.0) refl (clear_added c front p x none are h.0) (some_behind (map clear_line cs) left some)
+    ∙ (clears_again cs (suc number) later more front (clearing p x) left none refl h.1 (omega arith) few some
+    ∙ ap (λ (cs : List Clear). claim_on later (record c { pieces = front ++ record p { clear = cs } ∷ [] }) left) (append_assoc p.clear (x ∷ []) cs))
+
+-- a piece and its releases
+piece_again : (p : Piece) (number later : ℕ) (c : Certificate) (left : List (List ℕ)) → c.foreign ≡ [] → IsPiece p → later ≡ number + length (piece_lines p) → later ≤ 65536 → 0 < length left
+    → claim_on number c (piece_lines p ++ left) ≡ claim_on later (record c { pieces = c.pieces ++ p ∷ [] }) left
+piece_again p number later c left none h count few some =
+    let more : Certificate = record c { pieces = c.pieces ++ bare p ∷ [] } in
+    let clears : length (piece_lines p) ≡ suc (length p.clear) = omega (arith, length-map p.clear clear_line) in
+    line_again number c more (piece_words p) (map clear_line p.clear ++ left) (omega arith) (piece_plain p h) refl (piece_added c p none h) (some_behind (map clear_line p.clear) left some)
+    ∙ clears_again p.clear (suc number) later more c.pieces (bare p) left none refl h.clear (omega arith) few some
+
+pieces_again : (ps : List Piece) (number later : ℕ) (c : Certificate) (left : List (List ℕ)) → c.foreign ≡ [] → AllByRecursion IsPiece ps → later ≡ number + length (flat_map piece_lines ps) → later ≤ 65536 → 0 < length left
+    → claim_on number c (flat_map piece_lines ps ++ left) ≡ claim_on later (record c { pieces = c.pieces ++ ps }) left
+pieces_again [] number later c left none h count few some =
+    let same : number ≡ later = omega arith in
+    ap (λ (n : ℕ). claim_on n c left) same ∙ ap (λ (ps : List Piece). claim_on later (record c { pieces = ps }) left) (sym (append-nil c.pieces))
+pieces_again (p ∷ ps) number later c left none h count few some =
     let more : Certificate = record c { pieces = c.pieces ++ p ∷ [] } in
-    let later : List (List ℕ) = map (λ f. line_text (foreign_words f)) fs in
-    let one : flat_map piece_lines (p ∷ []) ≡ line_text (piece_words p) ∷ [] = lines_of_piece p h.0 in
-    ap (λ (ls : List (List ℕ)). claim_on number c ((ls ++ later) ++ end_text ∷ [] ∷ [])) one
-    ∙ (line_again number c more (piece_words p) (later ++ end_text ∷ [] ∷ []) (omega arith) (piece_plain p h.0) refl (piece_added c p none free h.0) (some_left later)
-    ∙ (foreign_again fs (suc number) more j (omega (arith, ap length one))
-    ∙ (ap (λ (gs : List Foreign). Ok (record more { foreign = gs ++ fs })) free ∙ ap (λ (ps : List Piece). Ok (record c { pieces = ps ++ p ∷ []; foreign = fs })) none)))
-pieces_again (p ∷ q ∷ ps) fs number c none free few h j count = absurd (omega arith)
+    let cut : flat_map piece_lines (p ∷ ps) ≡ piece_lines p ++ flat_map piece_lines ps = flat_map-cons piece_lines p ps in
+    let lines : length (flat_map piece_lines (p ∷ ps)) ≡ length (piece_lines p) + length (flat_map piece_lines ps) = ap length cut ∙ length-append (piece_lines p) (flat_map piece_lines ps) in
+    let next : ℕ = number + length (piece_lines p) in
+    let first_is : claim_on number c (piece_lines p ++ (flat_map piece_lines ps ++ left)) ≡ claim_on next more (flat_map piece_lines ps ++ left) =
+    piece_again p number next c (flat_map piece_lines ps ++ left) none h.0 refl (omega (arith, lines)) (some_behind (flat_map piece_lines ps) left some) in
+    let later_is : claim_on next more (flat_map piece_lines ps ++ left) ≡ claim_on later (record c { pieces = (c.pieces ++ p ∷ []) ++ ps }) left =
+    pieces_again ps next later more left none h.1 (omega (arith, lines)) few some in
+    ap (λ (ls : List (List ℕ)). claim_on number c (ls ++ left)) cut
+    ∙ (ap (claim_on number c) (append_assoc (piece_lines p) (flat_map piece_lines ps) left)
+    ∙ (first_is ∙ (later_is ∙ ap (λ (qs : List Piece). claim_on later (record c { pieces = qs }) left) (append_assoc c.pieces (p ∷ []) ps))))
 
 -- no line of a certificate has a line feed
-foreign_lack : (fs : List Foreign) → AllByRecursion IsForeign fs → AllLack 10 (map (λ f. line_text (foreign_words f)) fs)
+foreign_lack : (fs : List Foreign) → AllByRecursion IsForeign fs → AllLack 10 (map foreign_line fs)
 foreign_lack [] h = tt
 foreign_lack (f ∷ fs) h = (line_lacks (foreign_words f) (foreign_plain f h.0), foreign_lack fs h.1)
+
+clears_lack : (cs : List Clear) → AllByRecursion IsClear cs → AllLack 10 (map clear_line cs)
+clears_lack [] h = tt
+clears_lack (x ∷ cs) h = (line_lacks (clear_words x) (clear_plain x h.0), clears_lack cs h.1)
 
 pieces_lack : (ps : List Piece) → AllByRecursion IsPiece ps → AllLack 10 (flat_map piece_lines ps)
 pieces_lack [] h = tt
 pieces_lack (p ∷ ps) h =
-    let one : AllLack 10 (flat_map piece_lines (p ∷ [])) = subst (λ (ls : List (List ℕ)). AllLack 10 ls) (sym (lines_of_piece p h.0)) (line_lacks (piece_words p) (piece_plain p h.0), tt) in
-    let all : flat_map piece_lines (p ∷ ps) ≡ flat_map piece_lines (p ∷ []) ++ flat_map piece_lines ps = flat_map-append piece_lines (p ∷ []) ps in
-    subst (λ (ls : List (List ℕ)). AllLack 10 ls) (sym all) (all_append (Lacks 10) (flat_map piece_lines (p ∷ [])) (flat_map piece_lines ps) one (pieces_lack ps h.1))
+    subst (AllLack 10) (sym (flat_map-cons piece_lines p ps)) (all_append (Lacks 10) (piece_lines p) (flat_map piece_lines ps) (line_lacks (piece_words p) (piece_plain p h.0), clears_lack p.clear h.0.clear) (pieces_lack ps h.1))
 
 lines_lack : (c : Certificate) → IsClaim c → AllLack 10 (certificate_lines c)
 lines_lack c h =
     let opening : AllLack 10 (opening_lines c) =
     (lacks_test 10 head_text refl, (line_lacks (holder_words c.holder) (holder_plain c.holder h.holder), (line_lacks (prefix_words c.prefix) (prefix_plain_line c.prefix h.prefix), (line_lacks (interval_words c.from c.to) (interval_plain c.from c.to h.from h.to), tt)))) in
-    let others : AllLack 10 (flat_map piece_lines c.pieces ++ map (λ f. line_text (foreign_words f)) c.foreign) =
-    all_append (Lacks 10) (flat_map piece_lines c.pieces) (map (λ f. line_text (foreign_words f)) c.foreign) (pieces_lack c.pieces h.pieces) (foreign_lack c.foreign h.foreign) in
-    all_append (Lacks 10) (lines_of c) (end_text ∷ []) (all_append (Lacks 10) (opening_lines c) (flat_map piece_lines c.pieces ++ map (λ f. line_text (foreign_words f)) c.foreign) opening others) (lacks_test 10 end_text refl, tt)
+    let others : AllLack 10 (flat_map piece_lines c.pieces ++ map foreign_line c.foreign) =
+    all_append (Lacks 10) (flat_map piece_lines c.pieces) (map foreign_line c.foreign) (pieces_lack c.pieces h.pieces) (foreign_lack c.foreign h.foreign) in
+    all_append (Lacks 10) (lines_of c) (end_text ∷ []) (all_append (Lacks 10) (opening_lines c) (flat_map piece_lines c.pieces ++ map foreign_line c.foreign) opening others) (lacks_test 10 end_text refl, tt)
 
 opening_again : (c : Certificate) (left : List (List ℕ)) → IsClaim c → 0 < length left → opening_at (opening_lines c ++ left) ≡ Ok (begun c.holder c.prefix (c.from, c.to), left)
 unfolding opening_at
@@ -226,14 +258,20 @@ opening_again c left h some =
 
 certificate_again : (c : Certificate) → IsWritten c → certificate_in (certificate_lines c ++ [] ∷ []) ≡ Ok c
 certificate_again c h =
-    let later : List (List ℕ) = flat_map piece_lines c.pieces ++ map (λ f. line_text (foreign_words f)) c.foreign in
-    let left : List (List ℕ) = (later ++ end_text ∷ []) ++ [] ∷ [] in
-    let regrouped : left ≡ later ++ end_text ∷ [] ∷ [] = append_assoc later (end_text ∷ []) ([] ∷ []) in
-    let some : 0 < length left = omega (arith, length-append (later ++ end_text ∷ []) ([] ∷ [])) in
-    let count : 5 + length (flat_map piece_lines c.pieces) + length c.foreign ≤ 65536 =
-    omega (arith, h.lines, length-append (lines_of c) (end_text ∷ []), length-append (flat_map piece_lines c.pieces) (map (λ f. line_text (foreign_words f)) c.foreign), length-map c.foreign (λ f. line_text (foreign_words f))) in
+    let pieces : List (List ℕ) = flat_map piece_lines c.pieces in
+    let foreign : List (List ℕ) = map foreign_line c.foreign in
+    let left : List (List ℕ) = ((pieces ++ foreign) ++ end_text ∷ []) ++ [] ∷ [] in
+    let regrouped : left ≡ pieces ++ (foreign ++ end_text ∷ [] ∷ []) = append_assoc (pieces ++ foreign) (end_text ∷ []) ([] ∷ []) ∙ append_assoc pieces foreign (end_text ∷ [] ∷ []) in
+    let some : 0 < length left = omega (arith, length-append ((pieces ++ foreign) ++ end_text ∷ []) ([] ∷ [])) in
+    let count : 5 + length pieces + length c.foreign ≤ 65536 =
+    omega (arith, h.lines, length-append (lines_of c) (end_text ∷ []), length-append pieces foreign, length-map c.foreign foreign_line) in
     let start : Certificate = begun c.holder c.prefix (c.from, c.to) in
-    rw (opening_again c left h.claim some) (ap (λ (ls : List (List ℕ)). claim_on 5 start ls) regrouped ∙ pieces_again c.pieces c.foreign 5 start refl refl h.claim.few h.claim.pieces h.claim.foreign count)
+    let next : ℕ = 5 + length pieces in
+    let read_pieces : claim_on 5 start (pieces ++ (foreign ++ end_text ∷ [] ∷ [])) ≡ claim_on next (record start { pieces = c.pieces }) (foreign ++ end_text ∷ [] ∷ []) =
+    pieces_again c.pieces 5 next start (foreign ++ end_text ∷ [] ∷ []) refl h.claim.pieces refl (omega (arith, count)) (some_left foreign) in
+    let read_foreign : claim_on next (record start { pieces = c.pieces }) (foreign ++ end_text ∷ [] ∷ []) ≡ Ok c =
+    foreign_again c.foreign next (record start { pieces = c.pieces }) h.claim.foreign (omega (arith, count)) in
+    rw (opening_again c left h.claim some) (ap (λ (ls : List (List ℕ)). claim_on 5 start ls) regrouped ∙ (read_pieces ∙ read_foreign))
 
 pub reading_again : (c : Certificate) → IsWritten c → reading_of (certificate_text c) ≡ Ok c
 reading_again c h = ap certificate_in (split-ended 10 (certificate_lines c) (lines_lack c h.claim)) ∙ certificate_again c h

@@ -1,6 +1,11 @@
 -- A word or a field that is read is spelled so, and what is spelled so is read.
-use Rattle.std.proofs.Common.{◌≡◌, ℕ, ◌<◌, ◌≤◌, ◌^◌, Bool, true, false, cond, eqb, leb, List, [], ◌∷◌, ◌++◌, Some, None, refl, sym, ap, subst, ◌∙◌, arith}
-use Rattle.std.specs.Prelude.{option_map, codes}
+use Rattle.std.proofs.Common.{◌≡◌, ◌≢◌, ℕ, ◌<◌, ◌≤◌, ◌^◌, Bool, true, false, cond, eqb, leb, List, [], ◌∷◌, length, Some, None, refl, sym, ap, subst, ◌∙◌, arith}
+use Rattle.std.specs.Prelude.{option_map, map}
+use Rattle.std.specs.List.{AllByRecursion}
+use Rattle.std.proofs.lemmas.List.{length-map}
+use Rattle.text_fields.specs.Pieces.{joined, split}
+use Rattle.text_fields.proofs.Cutting.{split_some}
+use Rattle.text_fields.proofs.PieceLaws.{joined-split, split-joined}
 use Rattle.std.specs.Str.{bytes_eq}
 use Rattle.std.specs.Fmt.{decimal}
 use Rattle.std.proofs.lemmas.Bool.{eqb-true, leb-true, le-leb}
@@ -13,10 +18,9 @@ use Rattle.line_words.proofs.WordLaws.{number_at_takes, number_at_again}
 use Rattle.binding_rules.specs.declared.role.Role.{Role}
 use Rattle.binding_rules.specs.declared.role.Role.TheVariants.{Primary, Secondary}
 use Rattle.causal_order.specs.declared.reference.Ref.{Ref}
-use Rattle.claims.specs.declared.certificate.Reason.{Reason}
-use Rattle.claims.specs.declared.certificate.Reason.TheVariants.{Early, Late, Released}
-use Rattle.certificate.specs.Spelling.{letter_of, ref_text, chain_text, reason_words, IsReference, IsShortChain, IsReason}
-use Rattle.certificate.specs.Lines.{keyword, keyword_at, side_of, ref_of, chain_of, ref_at, chain_at, alone, reason_by, reason_at}
+use Rattle.certificate.specs.Spelling.{letter_of, ref_text, chain_text, IsReference, IsChain}
+use Rattle.certificate.specs.Lines.{keyword, keyword_at, side_of, ref_of, refs_of, chain_in, chain_of, ref_at, chain_at, alone}
+use Rattle.certificate.proofs.RefPlain.{links_lack}
 
 -- ---- words that stand alone
 
@@ -93,54 +97,49 @@ ref_at_again r rest h = word_again ref_of (ref_text r) rest r (ref_again r h)
 
 -- ---- chains
 
-chain_takes : (word : List ℕ) (chain : List Ref) → chain_of word ≡ Some chain → (word ≡ chain_text chain) × IsShortChain chain
-unfolding chain_of
+refs_take : (words : List (List ℕ)) (refs : List Ref) → refs_of words ≡ Some refs → (words ≡ map ref_text refs) × AllByRecursion IsReference refs
+unfolding refs_of
+refs_take [] refs e = subst (λ (rs : List Ref). ([] ≡ map ref_text rs) × AllByRecursion IsReference rs) (some_is [] refs e) (refl, tt)
+refs_take (word ∷ words) refs e =
+    let r = bind_some (ref_of word) (λ r. option_map (λ rs. r ∷ rs) (refs_of words)) refs e in
+    let m = map_some (refs_of words) (λ rs. r.0 ∷ rs) refs r.2 in
+    let t = ref_takes word r.0 r.1 in
+    let on = refs_take words m.0 m.1 in
+    subst (λ (rs : List Ref). (word ∷ words ≡ map ref_text rs) × AllByRecursion IsReference rs) m.2
+    (ap (λ (w : List ℕ). w ∷ words) t.0 ∙ ap (λ (ws : List (List ℕ)). ref_text r.0 ∷ ws) on.0, (t.1, on.1))
+
+refs_again : (refs : List Ref) → AllByRecursion IsReference refs → refs_of (map ref_text refs) ≡ Some refs
+unfolding refs_of
+refs_again [] h = refl
+refs_again (r ∷ refs) h = rw (ref_again r h.0, refs_again refs h.1) refl
+
+some_length : (words : List (List ℕ)) → words ≢ [] → 1 ≤ length words
+some_length [] some = absurd (some refl)
+some_length (word ∷ words) some = omega arith
+
+chain_takes : (word : List ℕ) (chain : List Ref) → chain_of word ≡ Some chain → (word ≡ chain_text chain) × IsChain chain
+unfolding chain_in
 chain_takes word chain e =
-    let m = map_some (ref_of word) (λ r. r ∷ []) chain e in
-    let t = ref_takes word m.0 m.1 in
-    subst (λ (c : List Ref). (word ≡ chain_text c) × IsShortChain c) m.2 (t.0, record { one = refl; references = (t.1, tt) })
+    let c = chosen (leb (length (split 62 word)) 1024) (refs_of (split 62 word)) chain e in
+    let t = refs_take (split 62 word) chain c.1 in
+    let count : length (split 62 word) ≡ length chain = ap length t.0 ∙ length-map chain ref_text in
+    (sym (joined-split 62 word) ∙ ap (joined 62) t.0, record { some = omega (arith, count, some_length (split 62 word) (split_some 62 word)); few = omega (arith, count, leb-true (length (split 62 word)) 1024 c.0); references = t.1 })
 
-chain_again : (chain : List Ref) → IsShortChain chain → chain_of (chain_text chain) ≡ Some chain
-unfolding chain_of
-chain_again [] h = absurd (omega (arith, h.one))
-chain_again (r ∷ []) h = rw (ref_again r h.references.0) refl
-chain_again (r ∷ s ∷ chain) h = absurd (omega (arith, h.one))
+few_again : (words : List (List ℕ)) → length words ≤ 1024 → chain_in words ≡ refs_of words
+unfolding chain_in
+few_again words few = rw (le-leb (length words) 1024 few) refl
 
-pub chain_at_takes : (words : List (List ℕ)) (chain : List Ref) (rest : List (List ℕ)) → chain_at words ≡ Some (chain, rest) → (words ≡ chain_text chain ∷ rest) × IsShortChain chain
+chain_again : (chain : List Ref) → IsChain chain → chain_of (chain_text chain) ≡ Some chain
+chain_again [] h = absurd (omega (arith, h.some))
+chain_again (r ∷ chain) h =
+    ap chain_in (split-joined 62 (ref_text r) (map ref_text chain) (links_lack (r ∷ chain) h.references))
+    ∙ (few_again (map ref_text (r ∷ chain)) (omega (arith, h.few, length-map (r ∷ chain) ref_text)) ∙ refs_again (r ∷ chain) h.references)
+
+pub chain_at_takes : (words : List (List ℕ)) (chain : List Ref) (rest : List (List ℕ)) → chain_at words ≡ Some (chain, rest) → (words ≡ chain_text chain ∷ rest) × IsChain chain
 chain_at_takes words chain rest e =
     let w = word_takes chain_of words chain rest e in
     let t = chain_takes w.0 chain w.2 in
     (w.1 ∙ ap (λ (word : List ℕ). word ∷ rest) t.0, t.1)
 
-pub chain_at_again : (chain : List Ref) (rest : List (List ℕ)) → IsShortChain chain → chain_at (chain_text chain ∷ rest) ≡ Some (chain, rest)
+pub chain_at_again : (chain : List Ref) (rest : List (List ℕ)) → IsChain chain → chain_at (chain_text chain ∷ rest) ≡ Some (chain, rest)
 chain_at_again chain rest h = word_again chain_of (chain_text chain) rest chain (chain_again chain h)
-
--- ---- reasons
-
-reason_mapped : (word text : List ℕ) (words : List (List ℕ)) (make : List Ref → Reason) (r : Reason) (rest : List (List ℕ)) → ((chain : List Ref) → reason_words (make chain) ≡ text ∷ chain_text chain ∷ []) → ((chain : List Ref) → IsShortChain chain → IsReason (make chain))
-    → bytes_eq word text ≡ true → option_map {U = Reason × List (List ℕ)} (λ x. (make x.0, x.1)) (chain_at words) ≡ Some (r, rest) → (word ∷ words ≡ reason_words r ++ rest) × IsReason r
-reason_mapped word text words make r rest spelled valid same e =
-    let m = map_some (chain_at words) (λ x. (make x.0, x.1)) (r, rest) e in
-    let t = chain_at_takes words m.0.0 m.0.1 m.1 in
-    let value : make m.0.0 ≡ r = ap (λ (p : Reason × List (List ℕ)). p.0) m.2 in
-    let left : m.0.1 ≡ rest = ap (λ (p : Reason × List (List ℕ)). p.1) m.2 in
-    let key : word ≡ text = (bytes_eq-Decides word text).0 same in
-    let words_are : word ∷ words ≡ reason_words (make m.0.0) ++ rest =
-    ap (λ (w : List ℕ). w ∷ words) key ∙ (ap (λ (ws : List (List ℕ)). text ∷ ws) (t.0 ∙ ap (λ (ws : List (List ℕ)). chain_text m.0.0 ∷ ws) left) ∙ ap (λ (ws : List (List ℕ)). ws ++ rest) (sym (spelled m.0.0))) in
-    subst (λ (q : Reason). (word ∷ words ≡ reason_words q ++ rest) × IsReason q) value (words_are, valid m.0.0 t.1)
-
-pub reason_takes : (words : List (List ℕ)) (r : Reason) (rest : List (List ℕ)) → reason_at words ≡ Some (r, rest) → (words ≡ reason_words r ++ rest) × IsReason r
-unfolding reason_by
-reason_takes [] r rest e = absurd cc
-reason_takes (word ∷ words) r rest e = by (bytes_eq word (codes "early")) (bytes_eq word (codes "late")) refl refl e
-  where
-    by : (a b : Bool) → bytes_eq word (codes "early") ≡ a → bytes_eq word (codes "late") ≡ b → cond a (option_map {U = Reason × List (List ℕ)} (λ x. (Early x.0, x.1)) (chain_at words)) (cond b (option_map {U = Reason × List (List ℕ)} (λ x. (Late x.0, x.1)) (chain_at words)) None) ≡ Some (r, rest) → (word ∷ words ≡ reason_words r ++ rest) × IsReason r
-    by true b p q e = reason_mapped word (codes "early") words Early r rest (λ chain. refl) (λ chain h. h) p e
-    by false true p q e = reason_mapped word (codes "late") words Late r rest (λ chain. refl) (λ chain h. h) q e
-    by false false p q e = absurd cc
-
-pub reason_again : (r : Reason) (rest : List (List ℕ)) → IsReason r → reason_at (reason_words r ++ rest) ≡ Some (r, rest)
-unfolding reason_by
-reason_again (Early chain) rest h = rw (chain_at_again chain rest h) refl
-reason_again (Late chain) rest h = rw (chain_at_again chain rest h) refl
-reason_again (Released release order latest) rest h = absurd h

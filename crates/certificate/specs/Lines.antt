@@ -1,17 +1,23 @@
 -- The lines of a certificate, read by their words.
-use Rattle.std.specs.Prelude.{◌≡◌, ℕ, ◌^◌, List, [], ◌∷◌, ◌++◌, length, ◌&&◌, Option, Some, None, option_map, Result, Ok, Err, nat_le, ◌==◌, if◌then◌else◌, codes}
+use Rattle.std.specs.Prelude.{◌≡◌, ℕ, ◌^◌, List, [], ◌∷◌, ◌++◌, length, Option, Some, None, option_map, Result, Ok, Err, nat_le, ◌==◌, if◌then◌else◌, codes}
 use Rattle.std.specs.Str.{bytes_eq}
+use Rattle.text_fields.specs.Pieces.{split}
 use Rattle.text_fields.specs.Reading.{◌>>=◌, first_word}
 use Rattle.line_words.specs.Words.{number_within, reading_at, duid_at, prefix_at}
 use Rattle.prefix_range.specs.Prefix.{Prefix}
 use Rattle.binding_rules.specs.declared.role.Role.{Role}
 use Rattle.binding_rules.specs.declared.role.Role.TheVariants.{Primary, Secondary}
 use Rattle.causal_order.specs.declared.reference.Ref.{Ref}
+use Rattle.causal_order.specs.declared.chain.Precedes.{Precedes}
+use Rattle.causal_order.specs.declared.chain.Precedes.TheVariants.{Chain, Clock}
 use Rattle.claims.specs.declared.certificate.Certificate.{Certificate}
 use Rattle.claims.specs.declared.certificate.Piece.{Piece}
 use Rattle.claims.specs.declared.certificate.Foreign.{Foreign}
 use Rattle.claims.specs.declared.certificate.Reason.{Reason}
-use Rattle.claims.specs.declared.certificate.Reason.TheVariants.{Early, Late}
+use Rattle.claims.specs.declared.certificate.Reason.TheVariants.{Early, Late, Released}
+use Rattle.claims.specs.declared.certificate.Clear.{Clear}
+use Rattle.claims.specs.declared.certificate.Why.{Why}
+use Rattle.claims.specs.declared.certificate.Why.TheVariants.{Before, After}
 use Rattle.certificate.specs.declared.fields.LineError.{LineError}
 use Rattle.certificate.specs.declared.fields.LineError.TheVariants.{Form, Memory}
 
@@ -40,9 +46,20 @@ ref_of (letter ∷ digits) = do
 abbrev pub ref_at : List (List ℕ) → Option (Ref × List (List ℕ))
 ref_at words = first_word ref_of words
 
--- the chain that a word spells: one reference
-unfoldable pub chain_of : List ℕ → Option (List Ref)
-chain_of word = option_map (λ r. r ∷ []) (ref_of word)
+-- the references that words spell
+unfoldable pub refs_of : List (List ℕ) → Option (List Ref)
+refs_of [] = Some []
+refs_of (word ∷ words) = do
+  r ← ref_of word
+  option_map (λ refs. r ∷ refs) (refs_of words)
+
+-- at most 1,024 references
+unfoldable pub chain_in : List (List ℕ) → Option (List Ref)
+chain_in words = if nat_le (length words) 1024 then refs_of words else None
+
+-- the chain that a word spells: references with a > between each two
+abbrev pub chain_of : List ℕ → Option (List Ref)
+chain_of word = chain_in (split 62 word)
 
 abbrev pub chain_at : List (List ℕ) → Option (List Ref × List (List ℕ))
 chain_at words = first_word chain_of words
@@ -86,11 +103,57 @@ piece_in words = do
   earliest ← chain_at k.1
   alone (record { grant = grant.0; from = from.0; to = to.0; latest = latest.0; earliest = earliest.0; clear = [] }) earliest.1
 
+-- two chains, from the first line and to the second
+unfoldable pub clock_at : List (List ℕ) → Option (Precedes × List (List ℕ))
+clock_at words = do
+  latest ← chain_at words
+  earliest ← chain_at latest.1
+  Some (Clock latest.0 earliest.0, earliest.1)
+
+-- why one line stands before another, by its keyword and the words behind it
+unfoldable pub order_by : List ℕ → List (List ℕ) → Option (Precedes × List (List ℕ))
+order_by word words =
+    if bytes_eq word (codes "chain") then option_map (λ x. (Chain x.0, x.1)) (chain_at words)
+    else if bytes_eq word (codes "clock") then clock_at words
+    else None
+
+abbrev pub order_at : List (List ℕ) → Option (Precedes × List (List ℕ))
+order_at [] = None
+order_at (word ∷ words) = order_by word words
+
+-- why a release does not cut a piece short
+unfoldable pub why_by : List ℕ → List (List ℕ) → Option (Why × List (List ℕ))
+why_by word words =
+    if bytes_eq word (codes "before") then option_map (λ x. (Before x.0, x.1)) (order_at words)
+    else if bytes_eq word (codes "after") then option_map (λ x. (After x.0, x.1)) (chain_at words)
+    else None
+
+abbrev pub why_at : List (List ℕ) → Option (Why × List (List ℕ))
+why_at [] = None
+why_at (word ∷ words) = why_by word words
+
+-- a release that does not cut a piece short, by the words behind its keyword
+unfoldable pub clear_in : List (List ℕ) → Option Clear
+clear_in words = do
+  release ← ref_at words
+  why ← why_at release.1
+  alone (record { release = release.0; why = why.0 }) why.1
+
+-- a release of another client's grant
+unfoldable pub released_at : List (List ℕ) → Option (Reason × List (List ℕ))
+released_at words = do
+  release ← ref_at words
+  order ← order_at release.1
+  k ← keyword_at (codes "latest") order.1
+  latest ← chain_at k.1
+  Some (Released release.0 order.0 latest.0, latest.1)
+
 -- a reason, by its keyword and the words behind it
 unfoldable pub reason_by : List ℕ → List (List ℕ) → Option (Reason × List (List ℕ))
 reason_by word words =
     if bytes_eq word (codes "early") then option_map (λ x. (Early x.0, x.1)) (chain_at words)
     else if bytes_eq word (codes "late") then option_map (λ x. (Late x.0, x.1)) (chain_at words)
+    else if bytes_eq word (codes "released") then released_at words
     else None
 
 abbrev pub reason_at : List (List ℕ) → Option (Reason × List (List ℕ))
@@ -106,9 +169,19 @@ foreign_in words = do
 
 -- ---- what a line adds
 
--- the certificate with its one piece, before all other clients' grants
+-- the certificate with one more piece, before all other clients' grants
 unfoldable pub with_piece : Certificate → List (List ℕ) → Option Certificate
-with_piece c words = if length c.pieces == 0 && length c.foreign == 0 then option_map (λ p. record c { pieces = c.pieces ++ p ∷ [] }) (piece_in words) else None
+with_piece c words = if length c.foreign == 0 then option_map (λ p. record c { pieces = c.pieces ++ p ∷ [] }) (piece_in words) else None
+
+-- pieces with one more release that does not cut the last of them short
+unfoldable pub with_cleared : List Piece → Clear → Option (List Piece)
+with_cleared [] clear = None
+with_cleared (p ∷ []) clear = Some (record p { clear = p.clear ++ clear ∷ [] } ∷ [])
+with_cleared (p ∷ q ∷ ps) clear = option_map (λ more. p ∷ more) (with_cleared (q ∷ ps) clear)
+
+-- the certificate with such a release, before all other clients' grants
+unfoldable pub with_clear : Certificate → List (List ℕ) → Option Certificate
+with_clear c words = if length c.foreign == 0 then (clear_in words >>= λ clear. option_map (λ ps. record c { pieces = ps }) (with_cleared c.pieces clear)) else None
 
 -- the certificate with one more of other clients' grants
 unfoldable pub with_foreign : Certificate → List (List ℕ) → Option Certificate
@@ -118,6 +191,7 @@ with_foreign c words = option_map (λ f. record c { foreign = c.foreign ++ f ∷
 unfoldable pub with_words : Certificate → List ℕ → List (List ℕ) → Option Certificate
 with_words c word words =
     if bytes_eq word (codes "piece") then with_piece c words
+    else if bytes_eq word (codes "clear") then with_clear c words
     else if bytes_eq word (codes "foreign") then with_foreign c words
     else None
 

@@ -1,5 +1,5 @@
 -- The one text of a certificate: lines, each of words with one space between each two and a line feed behind the last.
-use Rattle.std.specs.Prelude.{◌≡◌, ℕ, ◌^◌, ◌≤◌, List, [], ◌∷◌, ◌++◌, length, map, codes}
+use Rattle.std.specs.Prelude.{ℕ, ◌^◌, ◌≤◌, List, [], ◌∷◌, ◌++◌, length, map, codes}
 use Rattle.std.specs.Fmt.{decimal}
 use Rattle.std.specs.List.{flat_map, AllByRecursion}
 use Rattle.text_fields.specs.Pieces.{joined, ended}
@@ -72,11 +72,15 @@ why_words (After chain) = codes "after" ∷ chain_text chain ∷ []
 abbrev pub clear_words : Clear → List (List ℕ)
 clear_words c = codes "clear" ∷ ref_text c.release ∷ why_words c.why
 
+-- a chain from a line
+abbrev pub latest_words : List Ref → List (List ℕ)
+latest_words chain = codes "latest" ∷ chain_text chain ∷ []
+
 -- why another client's grant does not touch the interval: it ended before, it began after, or it was given back before
 abbrev pub reason_words : Reason → List (List ℕ)
 reason_words (Early chain) = codes "early" ∷ chain_text chain ∷ []
 reason_words (Late chain) = codes "late" ∷ chain_text chain ∷ []
-reason_words (Released release order latest) = codes "released" ∷ ref_text release ∷ (order_words order ++ codes "latest" ∷ chain_text latest ∷ [])
+reason_words (Released release order latest) = codes "released" ∷ ref_text release ∷ (order_words order ++ latest_words latest)
 
 -- another client's grant
 abbrev pub foreign_words : Foreign → List (List ℕ)
@@ -119,25 +123,40 @@ pub record IsReference (r : Ref) : Type 0 where
   pub least : 1 ≤ r.number
   pub most : r.number ≤ 2 ^ 20
 
--- a chain of one line
-pub record IsShortChain (chain : List Ref) : Type 0 where
-  pub one : length chain ≡ 1
+-- a chain of 1 to 1,024 lines
+pub record IsChain (chain : List Ref) : Type 0 where
+  pub some : 1 ≤ length chain
+  pub few : length chain ≤ 1024
   pub references : AllByRecursion IsReference chain
 
--- a piece with moments that readings can be, and nothing cleared
+-- an order by such chains
+abbrev pub IsOrder : Precedes → Type 0
+IsOrder (Chain chain) = IsChain chain
+IsOrder (Clock latest earliest) = IsChain latest × IsChain earliest
+
+-- a release that is cleared by such chains
+abbrev pub IsWhy : Why → Type 0
+IsWhy (Before order) = IsOrder order
+IsWhy (After chain) = IsChain chain
+
+pub record IsClear (c : Clear) : Type 0 where
+  pub release : IsReference c.release
+  pub why : IsWhy c.why
+
+-- a piece with moments that readings can be
 pub record IsPiece (p : Piece) : Type 0 where
   pub grant : IsReference p.grant
   pub from : p.from ≤ 2 ^ 48
   pub to : p.to ≤ 2 ^ 48
-  pub latest : IsShortChain p.latest
-  pub earliest : IsShortChain p.earliest
-  pub clear : p.clear ≡ []
+  pub latest : IsChain p.latest
+  pub earliest : IsChain p.earliest
+  pub clear : AllByRecursion IsClear p.clear
 
--- a reason without a release
+-- a reason with such chains
 abbrev pub IsReason : Reason → Type 0
-IsReason (Early chain) = IsShortChain chain
-IsReason (Late chain) = IsShortChain chain
-IsReason (Released release order latest) = ⊥
+IsReason (Early chain) = IsChain chain
+IsReason (Late chain) = IsChain chain
+IsReason (Released release order latest) = IsReference release × IsOrder order × IsChain latest
 
 -- another client's grant with such a reason
 pub record IsForeign (f : Foreign) : Type 0 where
@@ -150,11 +169,10 @@ pub record IsClaim (c : Certificate) : Type 0 where
   pub prefix : IsPrefix c.prefix
   pub from : c.from ≤ 2 ^ 48
   pub to : c.to ≤ 2 ^ 48
-  pub few : length c.pieces ≤ 1
   pub pieces : AllByRecursion IsPiece c.pieces
   pub foreign : AllByRecursion IsForeign c.foreign
 
--- the certificates that are read: at most one piece, nothing cleared or released, chains of one line, 65,536 lines at most
+-- the certificates that are read: those within the limits, with at most 65,536 lines; no line of such parts is too long
 pub record IsWritten (c : Certificate) : Type 0 where
   pub claim : IsClaim c
   pub lines : length (certificate_lines c) ≤ 65536

@@ -1,8 +1,10 @@
 //! A certificate that is being read.
 
-ghost use Rattle.std.specs.Prelude.{◌≡◌, ◌∷◌, ◌++◌, ◌==◌, [], length, ◌↔◌, IsTrue, OnOk};
+ghost use Rattle.std.specs.Prelude.{◌≡◌, ◌∷◌, ◌++◌, ◌==◌, [], length, ◌↔◌, IsTrue, OnOk, option_map};
+ghost use Rattle.certificate.specs.Lines.{Fills, with_cleared};
 
-use claims::{Certificate, Foreign, ForeignList, Piece, PieceList};
+use crate::fields::LineError;
+use claims::{Certificate, Clear, Foreign, ForeignList, Piece, PieceList};
 use client_id::Duid;
 use lead_time::Reading;
 use prefix_range::Prefix;
@@ -44,17 +46,28 @@ impl Draft {
         }
     }
 
-    /// Whether a piece may be the next that is read: none was, and no other client's grant.
-    pub fn takes_piece(&self) -> bool
-        ensures { IsTrue result ↔ ((self.now.pieces ≡ []) × (self.now.foreign ≡ [])) }
+    /// Whether a piece or a release behind its piece may be the next that is read: no other client's grant was.
+    pub fn takes_pieces(&self) -> bool
+        ensures { IsTrue result ↔ (self.now.foreign ≡ []) }
     {
-        self.pieces.is_empty() && self.foreign.is_empty()
+        self.foreign.is_empty()
     }
 
     /// Appends a piece.
     pub fn push_piece(&mut self, piece: Piece) -> Result<(), AllocError>
         ensures { OnOk result (self.new ≡ record self.old { pieces = self.old.pieces ++ piece ∷ [] }) }
     {
+        self.pieces.push(piece)?;
+        Ok(())
+    }
+
+    /// Appends a release to those that do not cut the last piece short: `Form` where there is no piece.
+    #[tactic(auto, using(crate::proofs::Clearing::cleared_last), unfolding(crate::specs::Lines::with_cleared))]
+    pub fn push_clear(&mut self, clear: Clear) -> Result<(), LineError>
+        ensures { Fills (λ _. self.new) result (option_map (λ ps. record self.old { pieces = ps }) (with_cleared self.old.pieces clear)) }
+    {
+        let mut piece = self.pieces.pop().ok_or(LineError::Form)?;
+        piece.clear.push(clear)?;
         self.pieces.push(piece)?;
         Ok(())
     }

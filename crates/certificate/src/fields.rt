@@ -12,7 +12,7 @@ use causal_order::{Chain, Ref};
 use claims::CertificateFault;
 use line_words::Words;
 use std::alloc::{AllocError, AllocFailed, Global};
-use text_fields::number_of;
+use text_fields::{Pieces, number_of};
 
 /// Why a line gives nothing.
 #[derive(Clone, Copy, Debug, PartialEq, Eq)]
@@ -53,6 +53,9 @@ impl<T: Drop> From<AllocFailed<T>> for LineError {
 
 /// The greatest number of a line in a journal.
 const MAX_LINE_NUMBER: u64 = 1_048_576;
+
+/// The most references of a chain.
+const MAX_CHAIN_LEN: usize = 1_024;
 
 /// Goes past the word `text`, or answers `None` where another stands there.
 #[tactic(auto, unfolding(crate::specs::Lines::keyword, text_fields::specs::Reading::first_word))]
@@ -101,13 +104,19 @@ pub fn reference(words: &mut Words<'_>) -> Option<Ref>
     ref_of(words.next_word()?)
 }
 
-#[tactic(auto, unfolding(crate::specs::Lines::chain_of))]
+/// The references that a word spells, in order.
+#[tactic(auto, using(crate::proofs::Chains::ends, crate::proofs::Chains::begins, crate::proofs::Chains::goes_on, crate::proofs::Chains::is_full, crate::proofs::Chains::is_none))]
 fn chain_of(alloc: Global, word: &[u8]) -> Result<Chain, LineError>
     ensures { Fills (λ c. c) result (chain_of word.now) }
 {
-    let reference = ref_of(word).ok_or(LineError::Form)?;
+    let mut words = Pieces::new(word, b'>');
     let mut refs = Vec::new(alloc);
-    refs.push(reference)?;
+    while let Some(word) = words.next_piece() {
+        if refs.len() == MAX_CHAIN_LEN {
+            return Err(LineError::Form);
+        }
+        refs.push(ref_of(word).ok_or(LineError::Form)?)?;
+    }
     Ok(Chain::new(refs))
 }
 

@@ -6,9 +6,11 @@ mod error;
 mod fields;
 mod line;
 mod reading;
+mod reasons;
 #[cfg(test)]
 mod tests;
 mod text_lines;
+mod writing;
 
 pub use claims::{
     Certificate, CertificateFault, Clear, ClearList, Foreign, ForeignList, Piece, PieceList,
@@ -16,3 +18,4 @@ pub use claims::{
 };
 pub use error::CertificateError;
 pub use reading::read;
+pub use writing::write;

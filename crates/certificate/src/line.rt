@@ -3,11 +3,12 @@
 ghost use Rattle.std.specs.Prelude.{◌≡◌, [], OnOk};
 ghost use Rattle.text_fields.specs.Reading.{Finds};
 ghost use Rattle.text_fields.specs.Pieces.{split};
-ghost use Rattle.certificate.specs.Lines.{Fills, Takes, holder_in, prefix_in, interval_in, piece_in, reason_at, foreign_in, with_piece, with_foreign, with_line};
+ghost use Rattle.certificate.specs.Lines.{Fills, holder_in, prefix_in, interval_in, piece_in, clear_in, foreign_in, with_piece, with_clear, with_foreign, with_line};
 
 use crate::draft::Draft;
 use crate::fields::{LineError, chain, keyword, reference};
-use claims::{ClearList, Foreign, Piece, Reason};
+use crate::reasons::{reason, why};
+use claims::{Clear, ClearList, Foreign, Piece};
 use client_id::Duid;
 use lead_time::Reading;
 use line_words::Words;
@@ -77,16 +78,17 @@ fn piece(alloc: Global, mut words: Words<'_>) -> Result<Piece, LineError>
     })
 }
 
-/// Why another client's grant does not touch the interval.
-#[tactic(auto, unfolding(crate::specs::Lines::reason_by))]
-fn reason(alloc: Global, words: &mut Words<'_>) -> Result<Reason, LineError>
-    ensures { Takes (λ r. r) result words.new (reason_at words.old) }
+/// The release that does not cut a piece short, as the words behind `clear` spell it.
+#[tactic(auto, unfolding(crate::specs::Lines::clear_in))]
+fn clear(alloc: Global, mut words: Words<'_>) -> Result<Clear, LineError>
+    ensures { Fills (λ c. c) result (clear_in words.entry) }
 {
-    match words.next_word().ok_or(LineError::Form)? {
-        b"early" => Ok(Reason::Early(chain(alloc, words)?)),
-        b"late" => Ok(Reason::Late(chain(alloc, words)?)),
-        _ => Err(LineError::Form),
+    let release = reference(&mut words).ok_or(LineError::Form)?;
+    let why = why(alloc, &mut words)?;
+    if !words.is_done() {
+        return Err(LineError::Form);
     }
+    Ok(Clear { release, why })
 }
 
 /// The other client's grant that the words behind `foreign` spell.
@@ -106,11 +108,21 @@ fn foreign(alloc: Global, mut words: Words<'_>) -> Result<Foreign, LineError>
 fn add_piece(alloc: Global, draft: &mut Draft, words: Words<'_>) -> Result<(), LineError>
     ensures { Fills (λ _. draft.new) result (with_piece draft.old words.entry) }
 {
-    if !draft.takes_piece() {
+    if !draft.takes_pieces() {
         return Err(LineError::Form);
     }
     draft.push_piece(piece(alloc, words)?)?;
     Ok(())
+}
+
+#[tactic(auto, unfolding(crate::specs::Lines::with_clear))]
+fn add_clear(alloc: Global, draft: &mut Draft, words: Words<'_>) -> Result<(), LineError>
+    ensures { Fills (λ _. draft.new) result (with_clear draft.old words.entry) }
+{
+    if !draft.takes_pieces() {
+        return Err(LineError::Form);
+    }
+    draft.push_clear(clear(alloc, words)?)
 }
 
 #[tactic(auto, unfolding(crate::specs::Lines::with_foreign))]
@@ -121,7 +133,7 @@ fn add_foreign(alloc: Global, draft: &mut Draft, words: Words<'_>) -> Result<(),
     Ok(())
 }
 
-/// Adds what a line says to a certificate: its piece, or another client's grant.
+/// Adds what a line says to a certificate: a piece, a release behind its piece, or another client's grant.
 #[tactic(auto, unfolding(crate::specs::Lines::with_words))]
 pub fn add_line(alloc: Global, draft: &mut Draft, line: &[u8]) -> Result<(), LineError>
     ensures { Fills (λ _. draft.new) result (with_line draft.old (split 32 line.now)) }
@@ -129,6 +141,7 @@ pub fn add_line(alloc: Global, draft: &mut Draft, line: &[u8]) -> Result<(), Lin
     let mut words = Words::new(line);
     match words.next_word().ok_or(LineError::Form)? {
         b"piece" => add_piece(alloc, draft, words),
+        b"clear" => add_clear(alloc, draft, words),
         b"foreign" => add_foreign(alloc, draft, words),
         _ => Err(LineError::Form),
     }

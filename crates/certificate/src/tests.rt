@@ -1,4 +1,4 @@
-use crate::{CertificateError, CertificateFault, Reason, read};
+use crate::{CertificateError, CertificateFault, Reason, Why, read, write};
 use binding_rules::Role;
 use std::alloc::{AllocError, Global};
 use std::test::Fail;
@@ -9,6 +9,52 @@ holder 00030001020000000001
 prefix 2001:0db8:0000:0000:0000:0000:0000:0000/56
 interval 12000 3608000
 piece A3 12000 3608000 latest A3 earliest A3
+end
+";
+
+/// A release that cuts no part of the piece off.
+const CLEARED: &[u8] = b"pd-certificate 1
+holder 00030001020000000001
+prefix 2001:0db8:0000:0000:0000:0000:0000:0000/56
+interval 12000 18000
+piece A3 12000 18000 latest A3 earliest A3
+clear A4 after A4
+end
+";
+
+/// Another client's grant that was given back at the other side, by a chain.
+const RELEASED: &[u8] = b"pd-certificate 1
+holder 00030001020000000001
+prefix 2001:0db8:0000:0000:0000:0000:0000:0000/56
+interval 12200 3608200
+piece A6 12200 3608200 latest A6 earliest A6
+foreign A3 released B4 chain B3>A4>A3 latest B4
+end
+";
+
+/// The same by two chains and the clocks.
+const RELEASED_BY_CLOCKS: &[u8] = b"pd-certificate 1
+holder 00030001020000000001
+prefix 2001:0db8:0000:0000:0000:0000:0000:0000/56
+interval 12200 3608200
+piece A6 12200 3608200 latest A6 earliest A6
+foreign A3 released B4 clock A3 B4 latest B4
+end
+";
+
+/// Two pieces, of which the first has two releases behind it, and other clients' grants of each kind.
+const MANY_LINES: &[u8] = b"pd-certificate 1
+holder 00030001020000000001
+prefix 2001:0db8:0000:0000:0000:0000:0000:0000/56
+interval 12000 24000
+piece A3 12000 18000 latest A3>B2 earliest B1>A3
+clear A2 before chain A2>A3
+clear A4 before clock A4>B5 B6>A3
+piece B9 18000 24000 latest B9 earliest B9
+clear B10 after A11>B10
+foreign A1 early A1
+foreign A12 late B11>A12
+foreign B3 released B4 chain B3>B4 latest B4>A5
 end
 ";
 
@@ -76,6 +122,62 @@ fn reads_other_grants(rt: HostRuntime) -> Result<(), Fail> {
 }
 
 #[test]
+fn reads_releases(rt: HostRuntime) -> Result<(), Fail> {
+    let certificate = read(rt.alloc(), MANY_LINES)?;
+    let [first, second] = certificate.pieces.as_slice() else {
+        panic!(rt; "two pieces");
+    };
+    assert_eq!(rt; first.clear.as_slice().len(), 2);
+    assert_eq!(rt; first.latest.as_slice().len(), 2);
+    let [clear] = second.clear.as_slice() else {
+        panic!(rt; "one release behind the second piece");
+    };
+    assert_eq!(rt; clear.release.number, 10);
+    let Why::After(chain) = &clear.why else {
+        panic!(rt; "the release came after the piece's end");
+    };
+    assert_eq!(rt; chain.as_slice().len(), 2);
+    assert_eq!(rt; certificate.foreign.as_slice().len(), 3);
+    Ok(())
+}
+
+#[test]
+fn writes_what_it_read(rt: HostRuntime) -> Result<(), Fail> {
+    let texts: [&[u8]; 5] = [HELD, CLEARED, RELEASED, RELEASED_BY_CLOCKS, MANY_LINES];
+    for text in texts {
+        let certificate = read(rt.alloc(), text)?;
+        assert_eq!(rt; write(rt.alloc(), &certificate)?.as_slice(), text);
+    }
+    Ok(())
+}
+
+/// One line of another client's grant with a chain of so many references, and the end line.
+fn with_chain(alloc: Global, references: u32) -> Result<Vec<u8>, AllocError> {
+    let mut text = opened(alloc, b"foreign A1 early A1")?;
+    for _ in 1..references {
+        text.extend_from_slice(b">B1048576")?;
+    }
+    text.extend_from_slice(b"\nend\n")?;
+    Ok(text)
+}
+
+#[test]
+fn takes_as_many_references_as_there_may_be(rt: HostRuntime) -> Result<(), Fail> {
+    let text = with_chain(rt.alloc(), 1_024)?;
+    let certificate = read(rt.alloc(), &text)?;
+    assert_eq!(rt;
+        write(rt.alloc(), &certificate)?.as_slice(),
+        text.as_slice()
+    );
+    let text = with_chain(rt.alloc(), 1_025)?;
+    assert_eq!(rt;
+        read(rt.alloc(), &text).err(),
+        Some(CertificateError::Fault(CertificateFault::Form { line: 5 }))
+    );
+    Ok(())
+}
+
+#[test]
 fn names_a_fault_of_the_opening(rt: HostRuntime) -> Result<(), Fail> {
     let cases: [(&[u8], CertificateFault); 7] = [
         (b"", CertificateFault::Head),
@@ -106,7 +208,7 @@ fn names_a_fault_of_the_opening(rt: HostRuntime) -> Result<(), Fail> {
 
 #[test]
 fn names_a_fault_behind_the_opening(rt: HostRuntime) -> Result<(), Fail> {
-    let cases: [(&[u8], CertificateFault); 14] = [
+    let cases: [(&[u8], CertificateFault); 20] = [
         (b"", CertificateFault::End),
         (b"end", CertificateFault::Form { line: 5 }),
         (b"end\n\n", CertificateFault::End),
@@ -134,6 +236,30 @@ fn names_a_fault_behind_the_opening(rt: HostRuntime) -> Result<(), Fail> {
         ),
         (
             b"piece A3 0 1 latest A3 earliest A3 \n",
+            CertificateFault::Form { line: 5 },
+        ),
+        (
+            b"clear A4 after A4\nend\n",
+            CertificateFault::Form { line: 5 },
+        ),
+        (
+            b"foreign A1 late A1\nclear A4 after A4\nend\n",
+            CertificateFault::Form { line: 6 },
+        ),
+        (
+            b"foreign A1 early A1>\nend\n",
+            CertificateFault::Form { line: 5 },
+        ),
+        (
+            b"foreign A1 early A1>>A2\nend\n",
+            CertificateFault::Form { line: 5 },
+        ),
+        (
+            b"foreign A3 released B4 clock A3 latest B4\nend\n",
+            CertificateFault::Form { line: 5 },
+        ),
+        (
+            b"foreign A3 released B4 A3 latest B4\nend\n",
             CertificateFault::Form { line: 5 },
         ),
     ];

@@ -1,8 +1,9 @@
 //! The lists in certificates.
 
-ghost use Rattle.std.specs.Prelude.{◌≡◌};
+ghost use Rattle.std.specs.Prelude.{◌≡◌, ◌∷◌, ◌++◌, [], OnOk};
 
 use crate::certificate::{Clear, Foreign, Piece};
+use std::alloc::AllocError;
 use std::marker::Model;
 
 /// Entries that clear releases, in the order in which they are written. Contracts see the list.
@@ -25,6 +26,14 @@ impl ClearList {
         ensures { result ≡ clear.items }
     {
         ClearList { clear }
+    }
+
+    /// Appends an entry.
+    pub fn push(&mut self, clear: Clear) -> Result<(), AllocError>
+        ensures { OnOk result (self.new ≡ self.old ++ clear ∷ []) }
+    {
+        self.clear.push(clear)?;
+        Ok(())
     }
 
     pub fn as_slice(&self) -> &[Clear]
