@@ -1,12 +1,10 @@
 -- The tests decide their relations.
-use Rattle.std.specs.Prelude.{◌≡◌, ℕ, ◌+◌, ◌-◌, ◌*◌, ◌/◌, ◌^◌, ◌<◌, ◌≤◌, ◌⊎◌, min, max, Bool, true, ◌||◌, ◌==◌, List, [], ◌∷◌, length, Option, Some, None, slice_get, Contains as Has, slice_index_or}
+use Rattle.std.specs.Prelude.{◌≡◌, ℕ, ◌+◌, ◌-◌, ◌*◌, ◌/◌, ◌^◌, ◌<◌, ◌≤◌, ◌⊎◌, min, max, Bool, true, ◌||◌, List, [], ◌∷◌, length, Option, Some, None, Contains as Has, slice_index_or}
 use Rattle.std.specs.Bool.{Decides}
-use Rattle.std.specs.Str.{bytes_eq}
 use Rattle.std.specs.List.{list_any}
 use Rattle.std.proofs.Common.{zero, suc, arith, sym, ◌∙◌, ap, subst, inl, inr, refl}
 use Rattle.std.proofs.lemmas.Bool.{cases_lt}
-use Rattle.std.proofs.lemmas.Bool.Decides.{Decides-eqb, Decides-and, Decides-or, Decides-not, Decides-like}
-use Rattle.std.proofs.lemmas.Slice.Eq.{bytes_eq-Decides}
+use Rattle.std.proofs.lemmas.Bool.Decides.{Decides-and, Decides-or, Decides-like}
 use Rattle.std.proofs.lemmas.Nat.{pow_pos}
 use Rattle.std.proofs.Math.Nat.{add-mul, one-mul, div-mul-le_self, lt-div-mul-add, div-eq_of_lt-le}
 use Rattle.prefix_range.specs.Prefix.{Prefix, size_of, Contains, Overlaps}
@@ -16,19 +14,15 @@ use Rattle.journal_lines.specs.declared.event.Lease.{Lease}
 use Rattle.journal_lines.specs.declared.line.Line.{Line}
 use Rattle.causal_order.specs.declared.reference.Ref.{Ref}
 use Rattle.causal_order.specs.Journals.{Journals, line_of}
-use Rattle.causal_order.specs.Order.{WrittenBy, WrittenFrom}
-use Rattle.causal_order.specs.Tests.{some_and}
-use Rattle.causal_order.proofs.Deciding.{decides_le, decides_lt, decides_ref, decides_some, line_names, names_line, decides_written_by, decides_written_from}
+use Rattle.causal_order.proofs.Deciding.{decides_le, decides_lt, decides_ref, line_names, names_line, decides_written_from, decides_precedes}
 use Rattle.claims.specs.declared.certificate.Certificate.{Certificate}
 use Rattle.claims.specs.declared.certificate.Piece.{Piece}
-use Rattle.claims.specs.declared.certificate.Foreign.{Foreign}
-use Rattle.claims.specs.declared.certificate.Reason.{Reason}
-use Rattle.claims.specs.declared.certificate.Reason.TheVariants.{Early, Late, Released}
+use Rattle.claims.specs.declared.certificate.Why.{Why}
+use Rattle.claims.specs.declared.certificate.Why.TheVariants.{Before, After}
 use Rattle.journal_lines.specs.Close.{is_close}
-use Rattle.attribution.specs.Run.{infinity}
-use Rattle.attribution.specs.Acceptance.{Grants, IsOutside, ClosesFrom}
-use Rattle.attribution.specs.FirstRefusal.{begin_at, IsInPlace, IsGranted, IsNamed, IsUncovered, ReasonHolds}
-use Rattle.attribution.specs.Tests.{granted_by, granted_at, lease_of, first_of, past_of, contains, overlaps, is_in_place, closes_from, is_granted, is_named, is_uncovered, is_outside, reason_holds}
+use Rattle.attribution.specs.Acceptance.{Grants, IsCleared}
+use Rattle.attribution.specs.FirstRefusal.{Discharges, IsNamed}
+use Rattle.attribution.specs.Tests.{granted_by, granted_at, lease_of, first_of, past_of, contains, overlaps, is_cleared, discharges, is_named}
 
 -- some item
 pub has_cases : {X : Type 0} (x y : X) (xs : List X) (k : ℕ) → k < length (x ∷ xs) → slice_index_or (x ∷ xs) k y ≡ y → (x ≡ y) ⊎ Has xs y
@@ -55,9 +49,6 @@ lease_grants js r g h = granted_at_is js r g (line_of js r) refl h
 
 pub grants_lease : (js : Journals) (r : Ref) (g : Lease) → Grants js r g → lease_of js r ≡ Some g
 grants_lease js r g h = ap granted_at (names_line js r h.0 h.1) ∙ ap granted_by h.2
-
-pub decides_lease : (js : Journals) (r : Ref) (test : Lease → Bool) (P : Lease → Type 0) → ((g : Lease) → Decides (test g) (P g)) → Decides (some_and (lease_of js r) test) ((g : Lease) × Grants js r g × P g)
-decides_lease js r test P each = Decides-like (some_and (lease_of js r) test) (λ h. (h.0, lease_grants js r h.0 h.1, h.2)) (λ h. (h.0, grants_lease js r h.0 h.1, h.2)) (decides_some (lease_of js r) test P each)
 
 -- Prefixes.
 size_positive : (n : ℕ) → 0 < size_of n
@@ -128,59 +119,20 @@ decides_overlaps p q = Decides-like (overlaps p q)
     (decides_lt (max (first_of p) (first_of q)) (min (min (past_of p) (past_of q)) (2 ^ 128)))
 
 -- Conditions.
-close_is : (e : Event) → is_close e ≡ true → e ≡ Close
+pub close_is : (e : Event) → is_close e ≡ true → e ≡ Close
 close_is Close h = refl
 close_is _ h = cc
 
 pub decides_close : (e : Event) → Decides (is_close e) (e ≡ Close)
 decides_close e = (close_is e, λ h. ap is_close h)
 
-pub decides_closes : (lines : List Line) (reading : ℕ) → Decides (closes_from lines reading) (ClosesFrom lines reading)
-decides_closes lines reading = Decides-like (closes_from lines reading) (λ h. (h.0, h.1, h.2.0, h.2.1)) (λ h. (h.0, h.1, (h.2, h.3)))
-    (decides_any _ (λ l. (l.event ≡ Close) × (reading ≤ l.reading)) (λ l. Decides-and _ _ (decides_close l.event) (decides_le reading l.reading)) lines)
+pub decides_cleared : (js : Journals) (skew : ℕ) (release grant : Ref) (to : ℕ) (why : Why) → Decides (is_cleared js skew release grant to why) (IsCleared js skew release grant to why)
+decides_cleared js skew release grant to (Before order) = decides_precedes js skew order release grant
+decides_cleared js skew release grant to (After chain) = decides_written_from js chain release _ (λ x. to + skew ≤ x) (λ x. decides_le (to + skew) x)
 
-pub decides_in_place : (c : Certificate) (k : ℕ) → Decides (is_in_place c k) (IsInPlace c k)
-decides_in_place c k = Decides-like (is_in_place c k)
-    (λ h. elim h [ inl x ↦ inl (x.0, x.1, x.2.0, x.2.1) | inr x ↦ inr (x.0, x.1.0, x.1.1) ])
-    (λ h. elim h [ inl x ↦ inl (x.0, x.1, (x.2, x.3)) | inr x ↦ inr (x.0, (x.1, x.2)) ])
-    (Decides-or _ _ (decides_some (slice_get c.pieces k) _ (λ p. (p.from ≡ begin_at c.from c.pieces k) × (p.from < p.to)) (λ p. Decides-and _ _ (Decides-eqb p.from (begin_at c.from c.pieces k)) (decides_lt p.from p.to)))
-    (Decides-and _ _ (Decides-eqb k (length c.pieces)) (Decides-and _ _ (decides_lt 0 k) (Decides-eqb (begin_at c.from c.pieces k) c.to))))
-
-pub decides_granted : (js : Journals) (skew : ℕ) (c : Certificate) (p : Piece) → Decides (is_granted js skew c p) (IsGranted js skew c p)
-decides_granted js skew c p = Decides-like (is_granted js skew c p)
-    (λ h. record {
-      lease = h.0;
-      grants = h.1;
-      holder = h.2.0;
-      round = h.2.1.0;
-      latest = h.2.1.1.0.0;
-      written_by = h.2.1.1.0.1;
-      begun = h.2.1.1.0.2;
-      earliest = h.2.1.1.1.0;
-      written_from = h.2.1.1.1.1;
-      lasts = h.2.1.1.1.2;
-    })
-    (λ h. (h.lease, h.grants, (h.holder, (h.round, ((h.latest, h.written_by, h.begun), (h.earliest, h.written_from, h.lasts))))))
-    (decides_lease js p.grant _ (λ g. (g.client ≡ c.holder) × (Contains g.prefix c.prefix
-    × (((x : ℕ) × WrittenBy js p.latest p.grant x × (x + skew ≤ p.from)) × ((x : ℕ) × WrittenFrom js p.earliest p.grant x × ((g.valid ≡ infinity) ⊎ (p.to + skew ≤ x + 1000 * g.valid))))))
-    (λ g. Decides-and _ _ (bytes_eq-Decides g.client c.holder) (Decides-and _ _ (decides_contains g.prefix c.prefix)
-    (Decides-and _ _ (decides_written_by js p.latest p.grant _ (λ x. x + skew ≤ p.from) (λ x. decides_le (x + skew) p.from))
-    (decides_written_from js p.earliest p.grant _ (λ x. (g.valid ≡ infinity) ⊎ (p.to + skew ≤ x + 1000 * g.valid))
-    (λ x. Decides-or _ _ (Decides-eqb g.valid infinity) (decides_le (p.to + skew) (x + 1000 * g.valid))))))))
+pub decides_discharges : (js : Journals) (skew : ℕ) (p : Piece) (r : Ref) → Decides (discharges js skew p r) (Discharges js skew p r)
+decides_discharges js skew p r = Decides-like (discharges js skew p r) (λ h. (h.0, h.1, h.2.0, h.2.1)) (λ h. (h.0, h.1, (h.2, h.3)))
+    (decides_any _ (λ k. (k.release ≡ r) × IsCleared js skew r p.grant p.to k.why) (λ k. Decides-and _ _ (decides_ref k.release r) (decides_cleared js skew r p.grant p.to k.why)) p.clear)
 
 pub decides_named : (c : Certificate) (r : Ref) → Decides (is_named c r) (IsNamed c r)
 decides_named c r = decides_any _ (λ f. f.grant ≡ r) (λ f. decides_ref f.grant r) c.foreign
-
-pub decides_uncovered : (js : Journals) (c : Certificate) (r : Ref) → Decides (is_uncovered js c r) (IsUncovered js c r)
-decides_uncovered js c r = Decides-like (is_uncovered js c r) (λ h. (h.0, (h.1, h.2.0.0, h.2.0.1), h.2.1)) (λ h. (h.0, h.1.0, ((h.1.1, h.1.2), h.2)))
-    (decides_lease js r _ (λ g. (¬ (g.client ≡ c.holder) × Overlaps g.prefix c.prefix) × ¬ (IsNamed c r))
-    (λ g. Decides-and _ _ (Decides-and _ _ (Decides-not (bytes_eq g.client c.holder) (bytes_eq-Decides g.client c.holder)) (decides_overlaps g.prefix c.prefix)) (Decides-not (is_named c r) (decides_named c r))))
-
-pub decides_outside : (js : Journals) (skew : ℕ) (r : Ref) (g : Lease) (from to : ℕ) (reason : Reason) → Decides (is_outside js skew r g from to reason) (IsOutside js skew r g from to reason)
-decides_outside js skew r g from to (Early chain) =
-    Decides-and _ _ (Decides-not (g.valid == infinity) (Decides-eqb g.valid infinity)) (decides_written_by js chain r _ (λ x. x + skew + 1000 * g.valid ≤ from) (λ x. decides_le (x + skew + 1000 * g.valid) from))
-decides_outside js skew r g from to (Late chain) = decides_written_from js chain r _ (λ x. to + skew ≤ x) (λ x. decides_le (to + skew) x)
-decides_outside js skew r g from to (Released release order chain) = (λ h. absurd (cc), λ h. absurd h)
-
-pub decides_reason : (js : Journals) (skew : ℕ) (c : Certificate) (f : Foreign) → Decides (reason_holds js skew c f) (ReasonHolds js skew c f)
-decides_reason js skew c f = decides_lease js f.grant _ (λ g. IsOutside js skew f.grant g c.from c.to f.reason) (λ g. decides_outside js skew f.grant g c.from c.to f.reason)

@@ -1,4 +1,5 @@
 pub mod Deciding
 pub mod Refusals
 pub mod Tiling
+pub mod Serials
 pub mod Runs

@@ -12,9 +12,9 @@ use Rattle.claims.specs.declared.certificate.Certificate.{Certificate}
 use Rattle.claims.specs.declared.certificate.Piece.{Piece}
 use Rattle.claims.specs.declared.certificate.Foreign.{Foreign}
 use Rattle.attribution.specs.declared.verdict.Verdict.{Verdict}
-use Rattle.attribution.specs.declared.verdict.Verdict.TheVariants.{Accepted, Journal, Certificate as NoCertificate, EmptyInterval, PastEnd, PieceGap, PieceGrant, Uncovered, Reason}
-use Rattle.attribution.specs.Acceptance.{Grants, IsCarried, Tile, IsAccepted}
-use Rattle.attribution.specs.FirstRefusal.{ComesBefore, IsLeast, IsFirstNot, Reaches, begin_at, IsTiled, IsGap, IsGranted, IsUncovered, IsCovered, ReasonHolds, IsVerdict, AcceptsTheAccepted, OneVerdict}
+use Rattle.attribution.specs.declared.verdict.Verdict.TheVariants.{Accepted, Journal, Certificate as NoCertificate, EmptyInterval, PastEnd, PieceGap, PieceGrant, PieceRelease, Uncovered, Reason}
+use Rattle.attribution.specs.Acceptance.{Grants, GivesBack, IsCarried, Tile, IsAccepted}
+use Rattle.attribution.specs.FirstRefusal.{ComesBefore, IsLeast, HoldsBefore, IsFirstNot, Reaches, begin_at, IsTiled, IsGap, IsGranted, Cuts, IsUncut, IsUncovered, IsCovered, ReasonHolds, IsVerdict, AcceptsTheAccepted, OneVerdict}
 
 -- a reference names one line, so it grants one lease
 pub one_lease : (js : Journals) (r : Ref) (g h : Lease) → Grants js r g → Grants js r h → g ≡ h
@@ -66,9 +66,9 @@ tiled_from : (c : Certificate) → Tile c.from c.to c.pieces → c.pieces ≢ []
 unfolding AreInPlace
 tiled_from c t some k le = let long = length_positive c.pieces some in elim (places_from_tile c.from c.to c.pieces t k le) [ inl x ↦ inl x | inr x ↦ inr (x.0, omega arith, x.1) ]
 
--- a piece is carried exactly where it is granted
-carried_from : (js : Journals) (skew : ℕ) (c : Certificate) (p : Piece) → IsGranted js skew c p → IsCarried js skew c p
-carried_from js skew c p h = record {
+-- a piece is carried exactly where it is granted and uncut
+carried_from : (js : Journals) (skew : ℕ) (c : Certificate) (p : Piece) → IsGranted js skew c p → IsUncut js skew p → IsCarried js skew c p
+carried_from js skew c p h u = record {
   lease = h.lease;
   grants = h.grants;
   holder = h.holder;
@@ -79,6 +79,7 @@ carried_from js skew c p h = record {
   earliest = h.earliest;
   written_from = h.written_from;
   lasts = h.lasts;
+  cleared = λ r back. u r h.lease h.grants back;
 }
 
 granted_from : (js : Journals) (skew : ℕ) (c : Certificate) (p : Piece) → IsCarried js skew c p → IsGranted js skew c p
@@ -95,15 +96,18 @@ granted_from js skew c p h = record {
   lasts = h.lasts;
 }
 
+uncut_from : (js : Journals) (skew : ℕ) (c : Certificate) (p : Piece) → IsCarried js skew c p → IsUncut js skew p
+uncut_from js skew c p h r g grants back = h.cleared r (subst (GivesBack js r) (one_lease js p.grant g h.lease grants h.grants) back)
+
 pub accepted_from : (js : Journals) (skew : ℕ) (c : Certificate) → IsVerdict js skew c Accepted → IsAccepted js skew c
 accepted_from js skew c v = record {
   interval = v.0;
   closed = λ side. elim side as (λ x. Reaches js skew c x) [ Primary ↦ v.1 | Secondary ↦ v.2 ];
   tiled = tile_of c v.3;
   some = some_of c v.3;
-  carried = λ k d lt. carried_from js skew c (slice_index_or c.pieces k d) (v.4 k d lt);
-  covered = λ r g grants differs over. v.5 r g (grants, differs, over);
-  outside = v.6;
+  carried = λ k d lt. carried_from js skew c (slice_index_or c.pieces k d) (v.4 k d lt) (v.5 k d lt);
+  covered = λ r g grants differs over. v.6 r g (grants, differs, over);
+  outside = v.7;
 }
 
 pub verdict_from : (js : Journals) (skew : ℕ) (c : Certificate) → IsAccepted js skew c → IsVerdict js skew c Accepted
@@ -113,6 +117,7 @@ verdict_from js skew c h = (
   h.closed Secondary,
   tiled_from c h.tiled h.some,
   λ k d lt. granted_from js skew c (slice_index_or c.pieces k d) (h.carried k d lt),
+  λ k d lt. uncut_from js skew c (slice_index_or c.pieces k d) (h.carried k d lt),
   λ r g f. h.covered r g f.0 f.1 f.2,
   h.outside,
 )
@@ -148,6 +153,10 @@ one_first P xs j k x y a b = elim (order_cases j k) [
   | inr h ↦ elim h [ inl e ↦ (e, (let p = a.0 in let q = b.0 in cc)) | inr g ↦ absurd (b.1 (a.2 k y g b.0)) ]
 ]
 
+-- a piece that a release cuts is not uncut
+pub cut_fails : (js : Journals) (skew : ℕ) (p : Piece) (r : Ref) → Cuts js skew p r → IsUncut js skew p → ⊥
+cut_fails js skew p r cut uncut = cut.3 (uncut r cut.0 cut.1 cut.2)
+
 IsSingle : (Verdict → Type 0) → Type 0
 IsSingle F = (v w : Verdict) → F v → F w → v ≡ w
 
@@ -175,6 +184,9 @@ module _ (js : Journals) (skew : ℕ) (c : Certificate) where
   abbrev Ungranted : Verdict → Type 0
   Ungranted v = (n : ℕ) × (v ≡ PieceGrant n) × ((k : ℕ) × (p : Piece) × (n ≡ k + 1) × IsFirstNot (IsGranted js skew c) c.pieces k p)
 
+  abbrev Cut : Verdict → Type 0
+  Cut v = (n : ℕ) × (r : Ref) × (v ≡ PieceRelease n r) × ((k : ℕ) × (p : Piece) × (n ≡ k + 1) × (slice_get c.pieces k ≡ Some p) × HoldsBefore (IsUncut js skew) c.pieces k × IsLeast (Cuts js skew p) r)
+
   abbrev Bare : Verdict → Type 0
   Bare v = (r : Ref) × (v ≡ Uncovered r) × IsLeast (IsUncovered js c) r
 
@@ -190,8 +202,11 @@ module _ (js : Journals) (skew : ℕ) (c : Certificate) where
   abbrev From9 : Verdict → Type 0
   From9 = Stage (IsCovered js c) Bare From10
 
+  abbrev From8 : Verdict → Type 0
+  From8 = Stage (All (IsUncut js skew) c.pieces) Cut From9
+
   abbrev From7 : Verdict → Type 0
-  From7 = Stage (All (IsGranted js skew c) c.pieces) Ungranted From9
+  From7 = Stage (All (IsGranted js skew c) c.pieces) Ungranted From8
 
   abbrev From6 : Verdict → Type 0
   From6 = Stage (IsTiled c) Gap From7
@@ -213,9 +228,10 @@ module _ (js : Journals) (skew : ℕ) (c : Certificate) where
   staged (PastEnd Secondary) h = inr (h.0, inr (h.1, inl (refl, h.2)))
   staged (PieceGap n) h = inr (h.0, inr (h.1, inr (h.2, inl (n, refl, h.3))))
   staged (PieceGrant n) h = inr (h.0, inr (h.1, inr (h.2, inr (h.3, inl (n, refl, h.4)))))
-  staged (Uncovered r) h = inr (h.0, inr (h.1, inr (h.2, inr (h.3, inr (h.4, inl (r, refl, h.5))))))
-  staged (Reason r) h = inr (h.0, inr (h.1, inr (h.2, inr (h.3, inr (h.4, inr (h.5, inl (r, refl, h.6)))))))
-  staged Accepted h = inr (h.0, inr (h.1, inr (h.2, inr (h.3, inr (h.4, inr (h.5, inr (h.6, refl)))))))
+  staged (PieceRelease n r) h = inr (h.0, inr (h.1, inr (h.2, inr (h.3, inr (h.4, inl (n, r, refl, h.5))))))
+  staged (Uncovered r) h = inr (h.0, inr (h.1, inr (h.2, inr (h.3, inr (h.4, inr (h.5, inl (r, refl, h.6)))))))
+  staged (Reason r) h = inr (h.0, inr (h.1, inr (h.2, inr (h.3, inr (h.4, inr (h.5, inr (h.6, inl (r, refl, h.7))))))))
+  staged Accepted h = inr (h.0, inr (h.1, inr (h.2, inr (h.3, inr (h.4, inr (h.5, inr (h.6, inr (h.7, refl))))))))
 
   one_gap : IsSingle Gap
   unfolding IsSingle
@@ -229,6 +245,20 @@ module _ (js : Journals) (skew : ℕ) (c : Certificate) where
   one_ungranted v w a b =
       let e = (one_first (IsGranted js skew c) c.pieces a.2.0 b.2.0 a.2.1 b.2.1 a.2.3 b.2.3).0 in
       let x = a.1 in let y = b.1 in let p = a.2.2 in let q = b.2.2 in let n : a.0 ≡ b.0 = omega arith in cc
+
+  same_cut : (j k : ℕ) (p q : Piece) (r s : Ref) → slice_get c.pieces j ≡ Some p → slice_get c.pieces k ≡ Some q → IsLeast (Cuts js skew p) r → IsLeast (Cuts js skew q) s
+      → j ≡ k → r ≡ s
+  same_cut j k p q r s at_j at_k a b e = let same : p ≡ q = cc in one_least (Cuts js skew q) r s (subst (λ x. IsLeast (Cuts js skew x) r) same a) b
+
+  one_cut : IsSingle Cut
+  unfolding IsSingle
+  one_cut v w a b = elim (order_cases a.3.0 b.3.0) [
+    | inl h ↦ absurd (cut_fails js skew a.3.1 a.1 a.3.5.0 (b.3.4 a.3.0 a.3.1 h a.3.3))
+    | inr h ↦ elim h [
+      | inl e ↦ (let r = same_cut a.3.0 b.3.0 a.3.1 b.3.1 a.1 b.1 a.3.3 b.3.3 a.3.5 b.3.5 e in let x = a.2 in let y = b.2 in let p = a.3.2 in let q = b.3.2 in let n : a.0 ≡ b.0 = omega arith in cc)
+      | inr g ↦ absurd (cut_fails js skew b.3.1 b.1 b.3.5.0 (a.3.4 b.3.0 b.3.1 g b.3.3))
+    ]
+  ]
 
   one_bare : IsSingle Bare
   unfolding IsSingle
@@ -259,11 +289,13 @@ module _ (js : Journals) (skew : ℕ) (c : Certificate) where
       (single_stage (Reaches js skew c Primary) (Past Primary) From5B (one_past Primary)
       (single_stage (Reaches js skew c Secondary) (Past Secondary) From6 (one_past Secondary)
       (single_stage (IsTiled c) Gap From7 one_gap
-      (single_stage (All (IsGranted js skew c) c.pieces) Ungranted From9 one_ungranted
+      (single_stage (All (IsGranted js skew c) c.pieces) Ungranted From8 one_ungranted
+      (single_stage (All (IsUncut js skew) c.pieces) Cut From9 one_cut
       (single_stage (IsCovered js c) Bare From10 one_bare
       (single_stage (All (ReasonHolds js skew c) c.foreign) Unreasoned Last one_unreasoned one_last
       (λ v f h. f.2.3.1 (at_index (ReasonHolds js skew c) c.foreign f.2.0 f.2.1 f.2.3.0 h)))
       (λ v f h. f.2.0.2 (h f.0 f.2.0.0 f.2.0.1)))
+      (λ v f h. cut_fails js skew f.3.1 f.1 f.3.5.0 (at_index (IsUncut js skew) c.pieces f.3.0 f.3.1 f.3.3 h)))
       (λ v f h. f.2.3.1 (at_index (IsGranted js skew c) c.pieces f.2.0 f.2.1 f.2.3.0 h)))
       (λ v f h. f.2.3 (h f.2.0 f.2.2)))
       (λ v f h. f.1 h))

@@ -8,25 +8,33 @@ use Rattle.std.proofs.lemmas.Slice.Eq.{bytes_eq-Decides}
 use Rattle.prefix_range.specs.Prefix.{HasAddress}
 use Rattle.binding_rules.specs.declared.role.Role.{Role}
 use Rattle.binding_rules.specs.declared.role.Role.TheVariants.{Primary, Secondary}
+use Rattle.binding_rules.specs.Role.{partner_of}
 use Rattle.journal_lines.specs.declared.event.Event.{Event}
-use Rattle.journal_lines.specs.declared.event.Event.TheVariants.{Open, Pool, Grant, Close}
+use Rattle.journal_lines.specs.declared.event.Event.TheVariants.{Grant, Release, Send, Take, Close}
 use Rattle.journal_lines.specs.declared.event.Lease.{Lease}
+use Rattle.journal_lines.specs.declared.event.Letter.{Letter}
 use Rattle.journal_lines.specs.declared.line.Line.{Line}
 use Rattle.journal_lines.specs.Close.{is_close, until_close}
 use Rattle.causal_order.specs.declared.reference.Ref.{Ref}
+use Rattle.causal_order.specs.declared.chain.Precedes.{Precedes}
+use Rattle.causal_order.specs.declared.chain.Precedes.TheVariants.{Chain, Clock}
 use Rattle.causal_order.specs.Journals.{Journals, journal_of, Names}
-use Rattle.causal_order.specs.Order.{IsLater, IsChain, EndsWith, Leads, WrittenBy, WrittenFrom}
+use Rattle.causal_order.specs.Order.{IsLater, IsTakeOf, IsSurelyBefore, IsChain, EndsWith, Leads, WrittenBy, WrittenFrom}
 use Rattle.causal_order.specs.Tests.{is_side}
 use Rattle.causal_order.proofs.Deciding.{decides_side}
 use Rattle.claims.specs.declared.certificate.Certificate.{Certificate}
 use Rattle.claims.specs.declared.certificate.Piece.{Piece}
+use Rattle.claims.specs.declared.certificate.Why.{Why}
+use Rattle.claims.specs.declared.certificate.Why.TheVariants.{Before, After}
 use Rattle.claims.specs.declared.certificate.Foreign.{Foreign}
 use Rattle.claims.specs.declared.certificate.Reason.{Reason}
 use Rattle.claims.specs.declared.certificate.Reason.TheVariants.{Early, Late, Released}
 use Rattle.attribution.specs.Run.{Step, lines_of, At, IsOpenAt, IsValidAt, Holds, HoldsWhole, infinity}
+use Rattle.attribution.specs.Legal.{SendsOnce}
 use Rattle.attribution.specs.Laws.{count, Stands, Setting, RefAt, ChainsStandInOrder, BoundsHold, LateAfterClose}
+use Rattle.attribution.proofs.Deciding.{close_is}
 use Rattle.attribution.proofs.Tiling.{pieces_meet}
-use Rattle.attribution.specs.Acceptance.{Grants, IsCarried, IsOutside, ClosesFrom, IsAccepted, AcceptedIsTrue}
+use Rattle.attribution.specs.Acceptance.{Grants, IsCleared, IsCarried, IsOutside, ClosesFrom, IsAccepted, AcceptedIsTrue}
 
 side_same : (a b : Role) → is_side a b ≡ true → b ≡ a
 side_same a b h = (decides_side a b).0 h
@@ -36,12 +44,6 @@ side_refl a = (decides_side a a).1 refl
 
 not_close : (e : Event) → is_close e ≡ false → e ≢ Close
 not_close e h = λ k. let q : is_close e ≡ true = ap is_close k in cc
-
-close_is : (e : Event) → is_close e ≡ true → e ≡ Close
-close_is Close h = refl
-close_is (Open a b c) h = cc
-close_is (Pool a b) h = cc
-close_is (Grant a) h = cc
 
 open_front : (s : Step) (ss : List Step) (i : ℕ) (t : Step) → (s.side ≡ t.side → s.line.event ≢ Close) → IsOpenAt ss i t → IsOpenAt (s ∷ ss) (suc i) t
 open_front s ss i t first rest zero u lt at same = let e : s ≡ u = cc in subst (λ (x : Step). x.line.event ≢ Close) e (first (ap (λ (x : Step). x.side) e ∙ same))
@@ -160,7 +162,7 @@ one_place_by run side k i j s t a b (inr le) (inl lt) = let r = count_lt side ru
 one_place : (run : List Step) (side : Role) (k i j : ℕ) (s t : Step) → Stands run side k i s → Stands run side k j t → i ≡ j
 one_place run side k i j s t a b = one_place_by run side k i j s t a b (cases_lt i j) (cases_lt j i)
 
-module _ (IsLegal : Role → List Line → Type 0) (js : Journals) (skew : ℕ) (run : List Step) (world : Setting IsLegal js skew run) where
+module _ (IsLegal : Role → List Line → Type 0) (js : Journals) (skew : ℕ) (run : List Step) (world : Setting IsLegal js skew run) (once : (side : Role) → SendsOnce (journal_of js side)) where
   ref_at : (r : Ref) (l : Line) → Names js r l → (i : ℕ) × (s : Step) × RefAt js run r i s × (s.line ≡ l)
   ref_at r l n =
       let h : slice_get (until_close (lines_of r.side run)) (r.number - 1) ≡ Some l = subst (λ ls. slice_get ls (r.number - 1) ≡ Some l) (world.left r.side) n.1 in
@@ -191,6 +193,37 @@ module _ (IsLegal : Role → List Line → Type 0) (js : Journals) (skew : ℕ) 
       let x = a.positive in
       earlier run r.side (r.number - 1) (q.number - 1) i j s t a.stands there (omega arith)
 
+  partner_twice : (side : Role) → partner_of (partner_of side) ≡ side
+  partner_twice Primary = refl
+  partner_twice Secondary = refl
+
+  -- the letter that is taken at j was sent at n, and the line r sends it at i
+  sent_at : (r : Ref) (m : Letter) (i n : ℕ) (s t : Step) → RefAt js run r i s → s.line.event ≡ Send m
+      → At run n t → t.side ≡ r.side → t.line.event ≡ Send m → (n < i) ⊎ (i ≤ n) → i ≤ n
+  sent_at r m i n s t a sends at of sends' (inr le) = le
+  sent_at r m i n s t a sends at of sends' (inl lt) =
+      let open_there : IsOpenAt run n t = λ j u less here same. a.stands.open_there j u (omega arith) here ((same ∙ of) ∙ sym a.stands.of) in
+      let b = line_there n t at open_there in
+      let b' : RefAt js run (record { side = r.side; number = count r.side run n + 1 }) n t = subst (λ side. RefAt js run (record { side = side; number = count side run n + 1 }) n t) of b in
+      let k : r.number - 1 ≡ (count r.side run n + 1) - 1 = once r.side (r.number - 1) ((count r.side run n + 1) - 1) s.line t.line m a.names.1 sends b'.names.1 sends' in
+      let e : i ≡ n = one_place run r.side (r.number - 1) i n s t a.stands (subst (λ x. Stands run r.side x n t) (sym k) b'.stands) in
+      omega arith
+
+  take_at : (r q : Ref) (i j : ℕ) (s t : Step) → IsTakeOf js r q → RefAt js run r i s → RefAt js run q j t → i < j
+  take_at r q i j s t takes a b =
+      let m = takes.1.0 in
+      let sends : s.line.event ≡ Send m = ap (λ (l : Line). l.event) (one_line r s.line takes.1.1 a.names takes.1.3) ∙ takes.1.4 in
+      let taken : t.line.event ≡ Take m = ap (λ (l : Line). l.event) (one_line q t.line takes.1.2 b.names takes.1.5) ∙ takes.1.6 in
+      let source = world.is_run.sent j t m b.stands.here b.stands.open_there taken in
+      let of : source.1.side ≡ r.side = (source.4 ∙ ap partner_of (b.stands.of ∙ takes.0)) ∙ partner_twice r.side in
+      let le = sent_at r m i source.0 s source.1 a sends source.3 of source.5 (cases_lt source.0 i) in
+      let lt = source.2 in
+      omega arith
+
+  link_at : (r q : Ref) (i j : ℕ) (s t : Step) → IsLater r q ⊎ IsTakeOf js r q → RefAt js run r i s → RefAt js run q j t → i < j
+  link_at r q i j s t (inl later) a b = later_at r q i j s t later a b
+  link_at r q i j s t (inr takes) a b = take_at r q i j s t takes a b
+
   chain_head : (r : Ref) (rest : List Ref) → IsChain js (r ∷ rest) → (l : Line) × Names js r l
   chain_head r [] c = c
   chain_head r (s ∷ rs) c = c.0
@@ -204,7 +237,7 @@ module _ (IsLegal : Role → List Line → Type 0) (js : Journals) (skew : ℕ) 
   chain_at (u ∷ us) r q i j s t c e a b =
       let head = chain_head u us c.2 in
       let n = ref_at u head.0 head.1 in
-      let first = later_at r u i n.0 s n.1 c.1 a n.2 in
+      let first = link_at r u i n.0 s n.1 c.1 a n.2 in
       let rest = (chain_at us u q n.0 j n.1 t c.2 e n.2 b).0 in
       (omega arith, λ two. omega arith)
 
@@ -234,6 +267,18 @@ module _ (IsLegal : Role → List Line → Type 0) (js : Journals) (skew : ℕ) 
       let read : p.1.line.reading ≡ x = ap (λ (l : Line). l.reading) p.3 ∙ w.read in
       omega arith
 
+  clock_order : (r q : Ref) (i j : ℕ) (s t : Step) → RefAt js run r i s → RefAt js run q j t → s.moment < t.moment → (i < j) ⊎ (j ≤ i) → i < j
+  clock_order r q i j s t a b lt (inl h) = h
+  clock_order r q i j s t a b lt (inr h) = let x = world.is_run.in_time j i t s h b.stands.here a.stands.here in absurd (omega arith)
+
+  surely_before : (order : Precedes) (r q : Ref) (i j : ℕ) (s t : Step) → IsSurelyBefore js skew order r q → RefAt js run r i s → RefAt js run q j t → i < j
+  surely_before (Chain chain) r q i j s t h a b = (leads_at chain r q i j s t h.0 a b).1 h.1
+  surely_before (Clock first second) r q i j s t h a b =
+      let x = written_by first r h.0 i s h.2 a in
+      let y = written_from second q h.1 j t h.3 b in
+      let gap = h.4 in
+      clock_order r q i j s t a b (omega arith) (cases_lt i j)
+
   -- A step stands open, or its moment is at or past the end.
   open_or_late_by : (side : Role) (to n i : ℕ) (c s : Step) → Stands run side (count side run n) n c → to ≤ c.moment → At run i s → s.side ≡ side
       → (n < i) ⊎ (i ≤ n) → IsOpenAt run i s ⊎ (to ≤ s.moment)
@@ -253,6 +298,22 @@ module _ (IsLegal : Role → List Line → Type 0) (js : Journals) (skew : ℕ) 
       let there : Stands run s.side (count s.side run p.0) p.0 p.1 = record { here = p.2.stands.here; of = p.2.stands.of; open_there = p.2.stands.open_there; before = refl } in
       open_or_late_by s.side to p.0 i p.1 s there (omega arith) at refl (cases_lt p.0 i)
 
+  -- a cleared release is not after the grant and by m
+  cleared_apart : (r grant : Ref) (to m i j : ℕ) (s t : Step) (why : Why) → IsCleared js skew r grant to why → RefAt js run grant i s → RefAt js run r j t
+      → i < j → t.moment ≤ m → m < to → ⊥
+  cleared_apart r grant to m i j s t (Before order) sure a b after by before = let lt = surely_before order r grant j i t s sure b a in absurd (omega arith)
+  cleared_apart r grant to m i j s t (After chain) late a b after by before = let x = written_from chain r late.0 j t late.1 b in let y = late.2 in absurd (omega arith)
+
+  -- no release comes between the grant and a moment in the piece
+  not_released_by : (p : Piece) (c : Certificate) (h : IsCarried js skew c p) → p.to ≤ c.to
+      → (m i j : ℕ) (s t : Step) → m < p.to → RefAt js run p.grant i s → i < j → At run j t → t.line.event ≡ Release h.lease.client h.lease.iaid h.lease.prefix → t.moment ≤ m
+      → IsOpenAt run j t ⊎ (c.to ≤ t.moment) → ⊥
+  not_released_by p c h within m i j s t before a after at releases by (inr late) = absurd (omega arith)
+  not_released_by p c h within m i j s t before a after at releases by (inl open_there) =
+      let b = line_there j t at open_there in
+      let k = h.cleared (record { side = t.side; number = count t.side run j + 1 }) (t.line, b.names, releases) in
+      cleared_apart (record { side = t.side; number = count t.side run j + 1 }) p.grant p.to m i j s t k.0.why k.3 a b after by before
+
   -- a grant that carries a piece is valid in it
   carries : (p : Piece) (c : Certificate) → IsCarried js skew c p → ((side : Role) → ClosesFrom (journal_of js side) (c.to + skew)) → p.to ≤ c.to
       → (m : ℕ) → p.from ≤ m → m < p.to → HoldsWhole run c.prefix c.holder m
@@ -271,6 +332,7 @@ module _ (IsLegal : Role → List Line → Type 0) (js : Journals) (skew : ℕ) 
           grants = grants;
           begun = omega arith;
           lasts = ends;
+          kept = λ r. not_released_by p c h within m a.0 r.0 a.1 r.1 to a.2 r.2 r.3 r.4 r.5 (open_or_late c.to r.0 r.1 (closed r.1.side) r.3);
         },
         h.holder,
         h.round,
@@ -288,7 +350,12 @@ module _ (IsLegal : Role → List Line → Type 0) (js : Journals) (skew : ℕ) 
       let y = out.2 in
       let z = v.begun in
       absurd (omega arith)
-  outside_invalid r g from to m i (Released release order chain) v out a ge lt = out
+  outside_invalid r g from to m i (Released release order chain) v out a ge lt =
+      let b = ref_at release out.0.0 out.0.1 in
+      let after = surely_before order r release i b.0 v.step b.1 out.1 a b.2 in
+      let by = written_by chain release out.2.0 b.0 b.1 out.2.1 b.2 in
+      let y = out.2.2 in
+      v.kept (b.0, b.1, after, b.2.stands.here, ap (λ (l : Line). l.event) b.3 ∙ out.0.2, omega arith)
 
   -- an accepted certificate is true in this run
   held : (c : Certificate) → IsAccepted js skew c → (m : ℕ) → c.from ≤ m → m < c.to → HoldsWhole run c.prefix c.holder m
@@ -319,20 +386,30 @@ module _ (IsLegal : Role → List Line → Type 0) (js : Journals) (skew : ℕ) 
         let differs : h.1.client ≢ c.holder = λ same. let q = (bytes_eq-Decides client c.holder).1 (sym h.3 ∙ same) in absurd (cc) in
         absurd (alone_by c ok m address h.0 h.1 h.2 ge lt mine h.4 differs (open_or_late c.to h.0 h.2.step (ok.closed h.2.step.side) h.2.here))
 
+-- a legality under which each letter is sent once
+abbrev pub LegalOnce : (Role → List Line → Type 0) → Type 0
+LegalOnce IsLegal = (side : Role) (lines : List Line) → IsLegal side lines → SendsOnce lines
+
+once_of : (IsLegal : Role → List Line → Type 0) (js : Journals) (skew : ℕ) (run : List Step) → LegalOnce IsLegal → Setting IsLegal js skew run → (side : Role) → SendsOnce (journal_of js side)
+once_of IsLegal js skew run legal_once world side = subst SendsOnce (sym (world.left side)) (legal_once side (until_close (lines_of side run)) (world.is_run.legal side))
+
 -- what is accepted is true in every run that leaves these journals
-pub headline : (IsLegal : Role → List Line → Type 0) → AcceptedIsTrue IsLegal
-headline IsLegal js skew c ok run is_run clocks left_a left_b =
+pub headline : (IsLegal : Role → List Line → Type 0) → LegalOnce IsLegal → AcceptedIsTrue IsLegal
+headline IsLegal legal_once js skew c ok run is_run clocks left_a left_b =
     let left : (side : Role) → journal_of js side ≡ until_close (lines_of side run) = λ side. elim side as (λ x. journal_of js x ≡ until_close (lines_of x run)) [ Primary ↦ left_a.0 | Secondary ↦ left_b.0 ] in
     let world : Setting IsLegal js skew run = record { is_run = is_run; clocks = clocks; left = left } in
-    record { held = held IsLegal js skew run world c ok; alone = alone IsLegal js skew run world c ok }
+    let once = once_of IsLegal js skew run legal_once world in
+    record { held = held IsLegal js skew run world once c ok; alone = alone IsLegal js skew run world once c ok }
 
 -- ---- the laws
 
-pub chains_stand : (IsLegal : Role → List Line → Type 0) → ChainsStandInOrder IsLegal
-chains_stand IsLegal js skew run world chain r q i j s t l a b = leads_at IsLegal js skew run world chain r q i j s t l a b
+pub chains_stand : (IsLegal : Role → List Line → Type 0) → LegalOnce IsLegal → ChainsStandInOrder IsLegal
+chains_stand IsLegal legal_once js skew run world chain r q i j s t l a b = leads_at IsLegal js skew run world (once_of IsLegal js skew run legal_once world) chain r q i j s t l a b
 
-pub bounds_hold : (IsLegal : Role → List Line → Type 0) → BoundsHold IsLegal
-bounds_hold IsLegal js skew run world chain r x i s a = (λ w. written_by IsLegal js skew run world chain r x i s w a, λ w. written_from IsLegal js skew run world chain r x i s w a)
+pub bounds_hold : (IsLegal : Role → List Line → Type 0) → LegalOnce IsLegal → BoundsHold IsLegal
+bounds_hold IsLegal legal_once js skew run world chain r x i s a =
+    let once = once_of IsLegal js skew run legal_once world in
+    (λ w. written_by IsLegal js skew run world once chain r x i s w a, λ w. written_from IsLegal js skew run world once chain r x i s w a)
 
-pub late_after_close : (IsLegal : Role → List Line → Type 0) → LateAfterClose IsLegal
-late_after_close IsLegal js skew run world to i s closes at = open_or_late IsLegal js skew run world to i s closes at
+pub late_after_close : (IsLegal : Role → List Line → Type 0) → LegalOnce IsLegal → LateAfterClose IsLegal
+late_after_close IsLegal legal_once js skew run world to i s closes at = open_or_late IsLegal js skew run world (once_of IsLegal js skew run legal_once world) to i s closes at

@@ -3,14 +3,17 @@ use Rattle.std.specs.Prelude.{◌≡◌, ◌≢◌, ℕ, ◌+◌, ◌*◌, ◌<�
 use Rattle.prefix_range.specs.Prefix.{HasAddress, Contains, Overlaps}
 use Rattle.binding_rules.specs.declared.role.Role.{Role}
 use Rattle.binding_rules.specs.declared.role.Role.TheVariants.{Primary, Secondary}
-use Rattle.journal_lines.specs.declared.event.Event.TheVariants.{Grant, Close}
+use Rattle.journal_lines.specs.declared.event.Event.TheVariants.{Grant, Release, Close}
 use Rattle.journal_lines.specs.declared.event.Lease.{Lease}
 use Rattle.journal_lines.specs.declared.line.Line.{Line}
 use Rattle.causal_order.specs.declared.reference.Ref.{Ref}
 use Rattle.causal_order.specs.Journals.{Journals, journal_of, Names}
-use Rattle.causal_order.specs.Order.{WrittenBy, WrittenFrom}
+use Rattle.causal_order.specs.Order.{IsSurelyBefore, WrittenBy, WrittenFrom}
 use Rattle.claims.specs.declared.certificate.Certificate.{Certificate}
 use Rattle.claims.specs.declared.certificate.Piece.{Piece}
+use Rattle.claims.specs.declared.certificate.Clear.{Clear}
+use Rattle.claims.specs.declared.certificate.Why.{Why}
+use Rattle.claims.specs.declared.certificate.Why.TheVariants.{Before, After}
 use Rattle.claims.specs.declared.certificate.Foreign.{Foreign}
 use Rattle.claims.specs.declared.certificate.Reason.{Reason}
 use Rattle.claims.specs.declared.certificate.Reason.TheVariants.{Early, Late, Released}
@@ -20,8 +23,17 @@ use Rattle.attribution.specs.Run.{Step, IsRun, KeepsSkew, Leaves, Holds, HoldsWh
 abbrev pub Grants : Journals → Ref → Lease → Type 0
 Grants js r g = (l : Line) × Names js r l × (l.event ≡ Grant g)
 
+-- the line gives the lease back
+abbrev pub GivesBack : Journals → Ref → Lease → Type 0
+GivesBack js r g = (l : Line) × Names js r l × (l.event ≡ Release g.client g.iaid g.prefix)
+
+-- the release came before the grant, or not before the piece's end
+abbrev pub IsCleared : Journals → ℕ → (release grant : Ref) → (to : ℕ) → Why → Type 0
+IsCleared js skew release grant to (Before order) = IsSurelyBefore js skew order release grant
+IsCleared js skew release grant to (After chain) = (x : ℕ) × WrittenFrom js chain release x × (to + skew ≤ x)
+
 -- The grant carries the piece: it is the holder's, of a prefix round the one asked of; it was written by the piece's
--- beginning, and it lasts to the piece's end (RFC 8415, section 21.22).
+-- beginning, it lasts to the piece's end (RFC 8415, section 21.22), and each line that gives it back is cleared.
 pub record IsCarried (js : Journals) (skew : ℕ) (c : Certificate) (p : Piece) : Type 0 where
   pub lease : Lease
   pub grants : Grants js p.grant lease
@@ -33,18 +45,19 @@ pub record IsCarried (js : Journals) (skew : ℕ) (c : Certificate) (p : Piece) 
   pub earliest : ℕ
   pub written_from : WrittenFrom js p.earliest p.grant earliest
   pub lasts : (lease.valid ≡ infinity) ⊎ (p.to + skew ≤ earliest + 1000 * lease.valid)
+  pub cleared : (r : Ref) → GivesBack js r lease → (k : Clear) × Has p.clear k × (k.release ≡ r) × IsCleared js skew r p.grant p.to k.why
 
 -- the pieces have positive length, and lie end to end from the one moment to the other
 abbrev pub Tile : ℕ → ℕ → List Piece → Type 0
 Tile from to [] = from ≡ to
 Tile from to (p ∷ ps) = (p.from ≡ from) × (p.from < p.to) × Tile p.to to ps
 
--- The lease, granted at r, does not touch [from, to): it ended before, or began after. No line of a journal gives a lease back
--- yet, so no reason of that kind holds.
+-- the lease, granted at r, does not touch [from, to): it ended before, began after, or was given back before
 abbrev pub IsOutside : Journals → ℕ → Ref → Lease → ℕ → ℕ → Reason → Type 0
 IsOutside js skew r g from to (Early chain) = (g.valid ≢ infinity) × ((x : ℕ) × WrittenBy js chain r x × (x + skew + 1000 * g.valid ≤ from))
 IsOutside js skew r g from to (Late chain) = (x : ℕ) × WrittenFrom js chain r x × (to + skew ≤ x)
-IsOutside js skew r g from to (Released release order chain) = ⊥
+IsOutside js skew r g from to (Released release order chain) =
+    GivesBack js release g × IsSurelyBefore js skew order r release × ((x : ℕ) × WrittenBy js chain release x × (x + skew ≤ from))
 
 -- a line at or past this reading closes the journal
 abbrev pub ClosesFrom : List Line → ℕ → Type 0

@@ -9,11 +9,12 @@ use Rattle.causal_order.specs.Journals.{Journals, journal_of}
 use Rattle.causal_order.specs.Order.{WrittenBy, WrittenFrom}
 use Rattle.claims.specs.declared.certificate.Certificate.{Certificate}
 use Rattle.claims.specs.declared.certificate.Piece.{Piece}
+use Rattle.claims.specs.declared.certificate.Clear.{Clear}
 use Rattle.claims.specs.declared.certificate.Foreign.{Foreign}
 use Rattle.attribution.specs.declared.verdict.Verdict.{Verdict}
-use Rattle.attribution.specs.declared.verdict.Verdict.TheVariants.{Accepted, Journal, Certificate as NoCertificate, EmptyInterval, PastEnd, PieceGap, PieceGrant, Uncovered, Reason}
+use Rattle.attribution.specs.declared.verdict.Verdict.TheVariants.{Accepted, Journal, Certificate as NoCertificate, EmptyInterval, PastEnd, PieceGap, PieceGrant, PieceRelease, Uncovered, Reason}
 use Rattle.attribution.specs.Run.{infinity}
-use Rattle.attribution.specs.Acceptance.{Grants, IsOutside, ClosesFrom, IsAccepted}
+use Rattle.attribution.specs.Acceptance.{Grants, GivesBack, IsCleared, IsOutside, ClosesFrom, IsAccepted}
 
 -- lines are ordered A before B, and then by number
 abbrev pub ComesBefore : Ref → Ref → Type 0
@@ -71,6 +72,17 @@ pub record IsGranted (js : Journals) (skew : ℕ) (c : Certificate) (p : Piece) 
   pub written_from : WrittenFrom js p.earliest p.grant earliest
   pub lasts : (lease.valid ≡ infinity) ⊎ (p.to + skew ≤ earliest + 1000 * lease.valid)
 
+-- C8: a clear entry of the piece discharges the release
+abbrev pub Discharges : Journals → ℕ → Piece → Ref → Type 0
+Discharges js skew p r = (k : Clear) × Has p.clear k × (k.release ≡ r) × IsCleared js skew r p.grant p.to k.why
+
+-- the release gives back what the piece's grant gave, and no entry discharges it
+abbrev pub Cuts : Journals → ℕ → Piece → Ref → Type 0
+Cuts js skew p r = (g : Lease) × Grants js p.grant g × GivesBack js r g × (Discharges js skew p r → ⊥)
+
+abbrev pub IsUncut : Journals → ℕ → Piece → Type 0
+IsUncut js skew p = (r : Ref) (g : Lease) → Grants js p.grant g → GivesBack js r g → Discharges js skew p r
+
 -- C9: another client's grant touches the prefix, and no foreign entry names it
 abbrev pub IsNamed : Certificate → Ref → Type 0
 IsNamed c r = (f : Foreign) × Has c.foreign f × (f.grant ≡ r)
@@ -99,16 +111,19 @@ IsVerdict js skew c (PieceGap n) = (c.from < c.to) × Reaches js skew c Primary 
 IsVerdict js skew c (PieceGrant n) =
     (c.from < c.to) × Reaches js skew c Primary × Reaches js skew c Secondary × IsTiled c
     × ((k : ℕ) × (p : Piece) × (n ≡ k + 1) × IsFirstNot (IsGranted js skew c) c.pieces k p)
+IsVerdict js skew c (PieceRelease n r) =
+    (c.from < c.to) × Reaches js skew c Primary × Reaches js skew c Secondary × IsTiled c × All (IsGranted js skew c) c.pieces
+    × ((k : ℕ) × (p : Piece) × (n ≡ k + 1) × (slice_get c.pieces k ≡ Some p) × HoldsBefore (IsUncut js skew) c.pieces k × IsLeast (Cuts js skew p) r)
 IsVerdict js skew c (Uncovered r) =
     (c.from < c.to) × Reaches js skew c Primary × Reaches js skew c Secondary × IsTiled c × All (IsGranted js skew c) c.pieces
-    × IsLeast (IsUncovered js c) r
+    × All (IsUncut js skew) c.pieces × IsLeast (IsUncovered js c) r
 IsVerdict js skew c (Reason r) =
     (c.from < c.to) × Reaches js skew c Primary × Reaches js skew c Secondary × IsTiled c × All (IsGranted js skew c) c.pieces
-    × IsCovered js c
+    × All (IsUncut js skew) c.pieces × IsCovered js c
     × ((k : ℕ) × (f : Foreign) × (f.grant ≡ r) × IsFirstNot (ReasonHolds js skew c) c.foreign k f)
 IsVerdict js skew c Accepted =
     (c.from < c.to) × Reaches js skew c Primary × Reaches js skew c Secondary × IsTiled c × All (IsGranted js skew c) c.pieces
-    × IsCovered js c × All (ReasonHolds js skew c) c.foreign
+    × All (IsUncut js skew) c.pieces × IsCovered js c × All (ReasonHolds js skew c) c.foreign
 
 -- the verdict is that it accepts exactly where the certificate is accepted
 abbrev pub AcceptsTheAccepted : Type 0

@@ -2,8 +2,10 @@
 use Rattle.std.specs.Prelude.{◌≡◌, ◌≢◌, ℕ, ◌+◌, ◌*◌, ◌<◌, ◌≤◌, ◌⊎◌, List, Some, slice_get, map, filter}
 use Rattle.prefix_range.specs.Prefix.{Prefix, HasAddress, Contains}
 use Rattle.binding_rules.specs.declared.role.Role.{Role}
-use Rattle.journal_lines.specs.declared.event.Event.TheVariants.{Grant, Close}
+use Rattle.binding_rules.specs.Role.{partner_of}
+use Rattle.journal_lines.specs.declared.event.Event.TheVariants.{Grant, Release, Send, Take, Close}
 use Rattle.journal_lines.specs.declared.event.Lease.{Lease}
+use Rattle.journal_lines.specs.declared.event.Letter.{Letter}
 use Rattle.journal_lines.specs.declared.line.Line.{Line}
 use Rattle.journal_lines.specs.Close.{until_close}
 use Rattle.causal_order.specs.Tests.{is_side}
@@ -31,6 +33,9 @@ pub record IsRun (IsLegal : Role → List Line → Type 0) (run : List Step) : T
   -- moments never fall
   pub in_time : (i j : ℕ) (s t : Step) → i ≤ j → At run i s → At run j t → s.moment ≤ t.moment
   pub legal : (side : Role) → IsLegal side (until_close (lines_of side run))
+  -- what a side takes before its close line was sent before by its partner
+  pub sent : (i : ℕ) (s : Step) (m : Letter) → At run i s → IsOpenAt run i s → s.line.event ≡ Take m
+      → (j : ℕ) × (t : Step) × (j < i) × At run j t × (t.side ≡ partner_of s.side) × (t.line.event ≡ Send m)
 
 -- up to its side's close line each reading is within the skew of the moment
 abbrev pub KeepsSkew : ℕ → List Step → Type 0
@@ -45,6 +50,10 @@ Leaves run side lines = (lines ≡ until_close (lines_of side run)) × ((k : ℕ
 abbrev pub infinity : ℕ
 infinity = 4294967295
 
+-- by m the lease's client gave it back, after step i (RFC 8415, section 18.2.7: Release)
+abbrev pub IsReleasedBy : List Step → ℕ → Lease → ℕ → Type 0
+IsReleasedBy run i g m = (j : ℕ) × (s : Step) × (i < j) × At run j s × (s.line.event ≡ Release g.client g.iaid g.prefix) × (s.moment ≤ m)
+
 -- step i grants the lease, and the lease is valid at m (RFC 8415, section 21.22: the valid lifetime of an IA prefix, in seconds)
 pub record IsValidAt (run : List Step) (i : ℕ) (g : Lease) (m : ℕ) : Type 0 where
   pub step : Step
@@ -52,6 +61,7 @@ pub record IsValidAt (run : List Step) (i : ℕ) (g : Lease) (m : ℕ) : Type 0 
   pub grants : step.line.event ≡ Grant g
   pub begun : step.moment ≤ m
   pub lasts : (g.valid ≡ infinity) ⊎ (m < step.moment + 1000 * g.valid)
+  pub kept : IsReleasedBy run i g m → ⊥
 
 -- some lease of the client that is valid at m has the address
 abbrev pub Holds : List Step → ℕ → List ℕ → ℕ → Type 0

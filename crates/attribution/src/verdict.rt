@@ -24,6 +24,8 @@ pub enum Verdict {
     PieceGap(u64),
     /// The piece, counted from 1, isn't carried by the grant that it names.
     PieceGrant(u64),
+    /// The piece, counted from 1, and the least release of what its grant gave that no clear entry discharges.
+    PieceRelease(u64, Ref),
     /// The least grant to another client that touches the prefix and that no foreign entry names.
     Uncovered(Ref),
     /// The grant of the first foreign entry that doesn't hold.

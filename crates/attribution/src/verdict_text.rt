@@ -97,6 +97,12 @@ fn push_verdict(out: &mut Vec<u8>, verdict: &Verdict) -> Result<(), AllocError>
             out.extend_from_slice(b"refused C7 PieceGrant ")?;
             push_number(out, *number)
         }
+        Verdict::PieceRelease(number, at) => {
+            out.extend_from_slice(b"refused C8 PieceRelease ")?;
+            push_number(out, *number)?;
+            out.extend_from_slice(b" ")?;
+            push_place(out, at.side, at.number)
+        }
         Verdict::Uncovered(at) => {
             out.extend_from_slice(b"refused C9 Uncovered ")?;
             push_place(out, at.side, at.number)

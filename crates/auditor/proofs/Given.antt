@@ -12,7 +12,7 @@ use Rattle.binding_rules.specs.declared.role.Role.{Role}
 use Rattle.binding_rules.specs.declared.role.Role.TheVariants.{Primary, Secondary}
 use Rattle.prefix_range.specs.Prefix.{Prefix, Overlaps}
 use Rattle.journal_lines.specs.declared.event.Event.{Event}
-use Rattle.journal_lines.specs.declared.event.Event.TheVariants.{Grant}
+use Rattle.journal_lines.specs.declared.event.Event.TheVariants.{Grant, Release}
 use Rattle.journal_lines.specs.declared.line.Line.{Line}
 use Rattle.causal_order.specs.declared.reference.Ref.{Ref}
 use Rattle.causal_order.specs.Journals.{Journals, Names, journal_of}
@@ -26,6 +26,7 @@ overlap_tested p q b h = same_from_decides b (overlaps q p) h (decides_overlaps 
 
 decides_concerns : (p : Prefix) (e : Event) → Decides (concerns p e) (Concerns p e)
 decides_concerns p (Grant g) = decides_overlaps g.prefix p
+decides_concerns p (Release client iaid q) = decides_overlaps q p
 decides_concerns p _ = (λ h. absurd (cc), λ h. absurd h)
 
 pub Contains-get : {X : Type 0} (xs : List X) (i : ℕ) (x : X) → slice_get xs i ≡ Some x → Has xs x

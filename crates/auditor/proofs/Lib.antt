@@ -2,6 +2,8 @@ pub mod Bounds
 pub mod Closings
 pub mod Given
 pub mod Leases
+pub mod Least
 pub mod Others
+pub mod Cuts
 pub mod Tiling
 pub mod TextVerdicts

@@ -19,6 +19,7 @@ use Rattle.attribution.specs.Legal.{IsLegal}
 use Rattle.attribution.proofs.Deciding.{decides_close}
 use Rattle.attribution.proofs.Refusals.{accepted_from}
 use Rattle.attribution.proofs.Runs.{headline}
+use Rattle.attribution.proofs.Serials.{legal_once}
 use Rattle.auditor.specs.Closing.{IsClosed}
 use Rattle.auditor.specs.Texts.{journals_of, IsVerdictOfReadings, IsVerdictOfTexts, TextsAreTrueInEveryRun}
 
@@ -55,7 +56,7 @@ accepted_texts a b certificate skew v ja jb claim sa sb sc =
     let first = subst (λ r. IsVerdictOfReadings r (side_reading Secondary b) skew (reading_of certificate) Accepted) ra v in
     let second = subst (λ r. IsVerdictOfReadings (Ok ja) r skew (reading_of certificate) Accepted) rb first in
     let third : IsVerdict (journals_of ja jb) skew claim Accepted = subst (λ r. IsVerdictOfReadings (Ok ja) (Ok jb) skew r Accepted) rc second in
-    headline IsLegal (journals_of ja jb) skew claim (accepted_from (journals_of ja jb) skew claim third)
+    headline IsLegal legal_once (journals_of ja jb) skew claim (accepted_from (journals_of ja jb) skew claim third)
 
 -- the verdict on what three texts spell is that on the texts
 pub verdict_of : (a b certificate : List ℕ) (skew : ℕ) (v : Verdict) (ja jb : Lines) (claim : Claim) (js : Journals)

@@ -3,7 +3,7 @@ use Rattle.std.specs.Prelude.{◌≡◌, ◌≢◌, ℕ, ◌+◌, ◌*◌, ◌�
 use Rattle.causal_order.specs.declared.reference.Ref.{Ref}
 use Rattle.causal_order.specs.Journals.{Journals}
 use Rattle.causal_order.specs.Order.{WrittenBy, WrittenFrom}
-use Rattle.prefix_range.specs.Prefix.{Contains}
+use Rattle.prefix_range.specs.Prefix.{Prefix, Contains}
 use Rattle.journal_lines.specs.declared.event.Lease.{Lease}
 use Rattle.claims.specs.declared.certificate.Certificate.{Certificate}
 use Rattle.claims.specs.declared.certificate.Piece.{Piece}
@@ -43,6 +43,10 @@ IsLasting js chain grant valid skew moment = (x : ℕ) × WrittenFrom js chain g
 -- the lease is the holder's, of a prefix round the one asked of
 abbrev pub IsHolders : Lease → Certificate → Type 0
 IsHolders g c = (g.client ≡ c.holder) × Contains g.prefix c.prefix
+
+-- the lease is this client's, for this identity association, of this prefix
+abbrev pub IsLeaseOf : Lease → (client : List ℕ) → (iaid : ℕ) → Prefix → Type 0
+IsLeaseOf g client iaid prefix = (client ≡ g.client) × (iaid ≡ g.iaid) × (prefix ≡ g.prefix)
 
 -- the lease is valid from the piece's beginning to its end
 abbrev pub IsValidThroughout : Journals → Piece → Lease → ℕ → Type 0

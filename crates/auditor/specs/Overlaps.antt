@@ -4,15 +4,16 @@ use Rattle.binding_rules.specs.declared.role.Role.{Role}
 use Rattle.binding_rules.specs.declared.role.Role.TheVariants.{Primary, Secondary}
 use Rattle.prefix_range.specs.Prefix.{Prefix}
 use Rattle.journal_lines.specs.declared.event.Event.{Event}
-use Rattle.journal_lines.specs.declared.event.Event.TheVariants.{Grant}
+use Rattle.journal_lines.specs.declared.event.Event.TheVariants.{Grant, Release}
 use Rattle.journal_lines.specs.declared.line.Line.{Line}
 use Rattle.causal_order.specs.declared.reference.Ref.{Ref}
 use Rattle.causal_order.specs.Journals.{Journals}
 use Rattle.attribution.specs.Tests.{overlaps}
 
--- the event grants a prefix that overlaps this one
+-- the event grants a prefix that overlaps this one, or gives one back
 abbrev pub concerns : Prefix → Event → Bool
 concerns p (Grant g) = overlaps g.prefix p
+concerns p (Release client iaid q) = overlaps q p
 concerns p _ = false
 
 -- the lines of a side that concern the prefix, where the first has this number

@@ -7,6 +7,7 @@ ghost use Rattle.attribution.specs.Legal.{IsLegal};
 
 use crate::foreign::{first_unreasoned, least_uncovered};
 use crate::pieces::{first_gap, first_ungranted};
+use crate::releases::first_cut;
 use crate::source::LineSource;
 use attribution::Verdict;
 use binding_rules::Role;
@@ -39,6 +40,9 @@ fn judgment<S: LineSource>(source: &S, certificate: &Certificate, skew: Skew) ->
     }
     if let Some(number) = first_ungranted(source, certificate, skew) {
         return Verdict::PieceGrant(number);
+    }
+    if let Some((number, release)) = first_cut(source, certificate, skew) {
+        return Verdict::PieceRelease(number, release);
     }
     if let Some(grant) = least_uncovered(source, certificate) {
         return Verdict::Uncovered(grant);

@@ -1,26 +1,48 @@
 //! Whether a certificate names each grant to another client, with a reason that holds.
 
 ghost use Rattle.std.specs.Prelude.{◌↔◌, IsTrue, MatchOption};
-ghost use Rattle.attribution.specs.FirstRefusal.{ComesBefore, IsLeast, IsNamed, IsUncovered, IsCovered};
-ghost use Rattle.auditor.specs.Refusals.{IsSooner, IsOthers, AreReasoned, IsUnreasoned};
+ghost use Rattle.attribution.specs.FirstRefusal.{IsLeast, IsNamed, IsUncovered, IsCovered};
+ghost use Rattle.auditor.specs.Refusals.{IsOthers, AreReasoned, IsUnreasoned};
 
 use crate::grants::{is_same_client, lease_at, reason_holds};
+use crate::order::{comes_first, is_before};
 use crate::source::LineSource;
-use binding_rules::Role;
 use causal_order::{Lines, Ref};
 use claims::Certificate;
 use journal_lines::Lease;
 use lead_time::Skew;
 
-/// Whether some foreign entry names the line.
-fn is_named(certificate: &Certificate, at: Ref) -> bool
-    ensures { IsTrue result ↔ IsNamed certificate.now at }
+/// Whether the foreign entry at this index names the line.
+fn names_at(certificate: &Certificate, index: usize, at: Ref) -> bool
+    ensures { IsTrue result → IsNamed certificate.now at }
 {
     certificate
         .foreign
         .as_slice()
-        .iter()
-        .any(|entry| entry.grant == at)
+        .get(index)
+        .is_some_and(|entry| entry.grant == at)
+}
+
+/// Where the foreign entries stand in the order of their lines, the index of the first that doesn't come before
+/// this one.
+fn place_of(certificate: &Certificate, at: Ref) -> usize {
+    certificate
+        .foreign
+        .as_slice()
+        .partition_point(|entry| is_before(entry.grant, at))
+}
+
+/// Whether some foreign entry names the line. It is found by its place where the entries stand in the order of their
+/// lines, and else by looking through them.
+fn is_named(certificate: &Certificate, at: Ref) -> bool
+    ensures { IsTrue result ↔ IsNamed certificate.now at }
+{
+    names_at(certificate, place_of(certificate, at), at)
+        || certificate
+            .foreign
+            .as_slice()
+            .iter()
+            .any(|entry| entry.grant == at)
 }
 
 /// Whether the lease is another client's, of a prefix that overlaps the one asked of.
@@ -41,27 +63,6 @@ fn is_uncovered<L: Lines>(lines: &L, certificate: &Certificate, at: Ref) -> bool
     }
 }
 
-/// Whether the one line comes before the other: the primary's before the secondary's, and then by number.
-fn is_before(one: Ref, other: Ref) -> bool
-    ensures { IsTrue result ↔ ComesBefore one other }
-{
-    match (one.side, other.side) {
-        (Role::Primary, Role::Secondary) => true,
-        (Role::Secondary, Role::Primary) => false,
-        _ => one.number < other.number,
-    }
-}
-
-/// The line, or the least so far where that comes before it.
-fn sooner(at: Ref, least: Option<Ref>) -> Ref
-    ensures { IsSooner at least result }
-{
-    match least {
-        Some(least) if !is_before(at, least) => least,
-        _ => at,
-    }
-}
-
 /// The least line that grants another client a prefix that overlaps the one asked of, and that no foreign entry names.
 pub fn least_uncovered<S: LineSource>(source: &S, certificate: &Certificate) -> Option<Ref>
     ensures { MatchOption result (IsCovered (S.journals source.now) certificate.now) (IsLeast (IsUncovered (S.journals source.now) certificate.now)) }
@@ -70,8 +71,8 @@ pub fn least_uncovered<S: LineSource>(source: &S, certificate: &Certificate) -> 
     let count = source.overlap_count(&certificate.prefix);
     for index in 0..count {
         let at = source.overlap_at(&certificate.prefix, index);
-        if is_uncovered(source, certificate, at) {
-            least = Some(sooner(at, least));
+        if comes_first(at, least) && is_uncovered(source, certificate, at) {
+            least = Some(at);
         }
     }
     least

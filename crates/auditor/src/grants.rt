@@ -1,17 +1,20 @@
 //! Whether a grant carries a piece, and whether it stays out of an interval.
 
 ghost use Rattle.std.specs.Prelude.{◌≡◌, ◌↔◌, ◌*◌, IsTrue, pos};
-ghost use Rattle.attribution.specs.Acceptance.{IsOutside};
+ghost use Rattle.attribution.specs.Acceptance.{GivesBack, IsOutside};
 ghost use Rattle.attribution.specs.FirstRefusal.{IsGranted, ReasonHolds};
 ghost use Rattle.attribution.specs.Tests.{lease_of};
-ghost use Rattle.auditor.specs.Bounds.{IsLatestAt, IsEarliestAt, LastsTo, EndsBy, IsWrittenBy, IsWrittenFrom, IsOver, IsLasting, IsHolders, IsValidThroughout};
+ghost use Rattle.auditor.specs.Bounds.{IsLatestAt, IsEarliestAt, LastsTo, EndsBy, IsWrittenBy, IsWrittenFrom, IsOver, IsLasting, IsHolders, IsLeaseOf, IsValidThroughout};
 
 use crate::source::LineSource;
-use causal_order::{Chain, Lines, Ref, earliest_of, first_of_chain, last_of_chain, latest_of};
+use causal_order::{
+    Chain, Lines, Ref, earliest_of, first_of_chain, last_of_chain, latest_of, precedes,
+};
 use claims::{Certificate, Foreign, Piece, Reason};
-use client_id::Duid;
+use client_id::{Duid, Iaid};
 use journal_lines::{Event, Lease};
 use lead_time::{Reading, Skew};
+use prefix_range::Prefix;
 
 /// The lease that the line grants.
 pub fn lease_at<L: Lines>(lines: &L, at: Ref) -> Option<Lease>
@@ -83,7 +86,13 @@ fn is_written_by<L: Lines>(lines: &L, chain: &Chain, at: Ref, skew: Skew, moment
 
 /// Whether the chain shows that the line was written at the moment or later.
 #[tactic(auto, using(crate::proofs::Bounds::after_by_earliest, crate::proofs::Bounds::never_after))]
-fn is_written_from<L: Lines>(lines: &L, chain: &Chain, at: Ref, skew: Skew, moment: Reading) -> bool
+pub fn is_written_from<L: Lines>(
+    lines: &L,
+    chain: &Chain,
+    at: Ref,
+    skew: Skew,
+    moment: Reading,
+) -> bool
     ensures { IsTrue result ↔ IsWrittenFrom (L.journals lines.now) chain.now at skew moment }
 {
     match earliest_at(lines, chain, at, skew) {
@@ -126,6 +135,30 @@ fn is_lasting<L: Lines>(
         Some(earliest) => lasts_to(lease, earliest, moment),
         None => false,
     }
+}
+
+/// Whether the line gives the lease back: a release by its client, of its identity association and its prefix.
+pub fn gives_back<L: Lines>(lines: &L, at: Ref, lease: &Lease) -> bool
+    ensures { IsTrue result ↔ GivesBack (L.journals lines.now) at lease.now }
+{
+    let Some(line) = lines.line(at) else {
+        return false;
+    };
+    match &line.event {
+        Event::Release {
+            client,
+            iaid,
+            prefix,
+        } => is_lease_of(lease, client, *iaid, prefix),
+        _ => false,
+    }
+}
+
+/// Whether the lease is this client's, for this identity association, of this prefix.
+fn is_lease_of(lease: &Lease, client: &Duid, iaid: Iaid, prefix: &Prefix) -> bool
+    ensures { IsTrue result ↔ IsLeaseOf lease.now client.now iaid prefix.now }
+{
+    is_same_client(client, &lease.client) && iaid == lease.iaid && *prefix == lease.prefix
 }
 
 /// Whether both are one client.
@@ -175,7 +208,15 @@ fn is_outside<L: Lines>(
     match &foreign.reason {
         Reason::Early(chain) => is_over(lines, chain, foreign.grant, lease, skew, certificate.from),
         Reason::Late(chain) => is_written_from(lines, chain, foreign.grant, skew, certificate.to),
-        Reason::Released { .. } => false,
+        Reason::Released {
+            release,
+            order,
+            latest,
+        } => {
+            gives_back(lines, *release, lease)
+                && precedes(lines, order, foreign.grant, *release, skew)
+                && is_written_by(lines, latest, *release, skew, certificate.from)
+        }
     }
 }
 

@@ -4,8 +4,10 @@
 mod auditing;
 mod foreign;
 mod grants;
+mod order;
 mod pieces;
 mod plain;
+mod releases;
 mod source;
 mod texts;
 

@@ -92,12 +92,13 @@ impl LineSource for PlainSource<'_> {
     }
 }
 
-/// Whether the event is a grant of a prefix that overlaps this one.
+/// Whether the event grants a prefix that overlaps this one, or gives one back.
 fn concerns(prefix: &Prefix, event: &Event) -> bool
     ensures { result ≡ concerns prefix.now event.now }
 {
     match event {
         Event::Grant(lease) => lease.prefix.overlaps(prefix),
+        Event::Release { prefix: other, .. } => other.overlaps(prefix),
         _ => false,
     }
 }

@@ -21,7 +21,7 @@ pub trait LineSource: Lines {
     fn close_reading(&self, side: Role) -> Reading
         ensures { ClosesAt (journal_of (Self.journals self.now) side) result };
 
-    /// How many lines concern the prefix: grants of prefixes that overlap it.
+    /// How many lines concern the prefix: grants and releases of prefixes that overlap it.
     fn overlap_count(&self, prefix: &Prefix) -> usize
         ensures count { result ≡ length (given self.now prefix.now) }
         // Exactly the lines of both journals that concern the prefix, each once.

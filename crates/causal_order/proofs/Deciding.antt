@@ -1,16 +1,23 @@
 -- The tests of chains and bounds decide their relations.
-use Rattle.std.specs.Prelude.{◌≡◌, ℕ, ◌-◌, ◌<◌, ◌≤◌, Bool, true, false, ◌&&◌, nat_le, nat_lt, List, [], ◌∷◌, Option, Some, None, slice_get, if◌then◌else◌}
+use Rattle.std.specs.Prelude.{◌≡◌, ℕ, ◌-◌, ◌+◌, ◌<◌, ◌≤◌, Bool, true, false, ◌&&◌, ◌↔◌, IsTrue, nat_le, nat_lt, List, [], ◌∷◌, length, Option, Some, None, slice_get, if◌then◌else◌}
 use Rattle.std.specs.Bool.{Decides}
 use Rattle.std.proofs.Common.{sym, ◌∙◌, ap, subst, refl}
 use Rattle.std.proofs.lemmas.Bool.{le-leb, leb-true}
-use Rattle.std.proofs.lemmas.Bool.Decides.{Decides-eqb, Decides-ltb, Decides-and, Decides-like}
+use Rattle.std.proofs.lemmas.Bool.Decides.{Decides-eqb, Decides-ltb, Decides-and, Decides-or, Decides-like}
 use Rattle.binding_rules.specs.declared.role.Role.{Role}
 use Rattle.binding_rules.specs.declared.role.Role.TheVariants.{Primary, Secondary}
+use Rattle.binding_rules.specs.Role.{partner_of}
+use Rattle.journal_lines.specs.declared.event.Event.{Event}
+use Rattle.journal_lines.specs.declared.event.Event.TheVariants.{Send, Take}
+use Rattle.journal_lines.specs.declared.event.Letter.{Letter}
 use Rattle.journal_lines.specs.declared.line.Line.{Line}
 use Rattle.causal_order.specs.declared.reference.Ref.{Ref}
+use Rattle.causal_order.specs.declared.chain.Precedes.{Precedes}
+use Rattle.causal_order.specs.declared.chain.Precedes.TheVariants.{Chain, Clock}
 use Rattle.causal_order.specs.Journals.{Journals, journal_of, Names, line_of}
-use Rattle.causal_order.specs.Order.{IsLater, IsChain, EndsWith, Leads, WrittenBy, WrittenFrom}
-use Rattle.causal_order.specs.Tests.{some_and, is_side, same_ref, is_line, is_later, is_chain, first_of_chain, last_of_chain, is_at, reading_at, written_by, written_from}
+use Rattle.causal_order.specs.Order.{IsLater, IsTakeOf, IsChain, EndsWith, Leads, WrittenBy, WrittenFrom, IsSurelyBefore}
+use Rattle.causal_order.specs.Tests.{some_and, is_side, same_ref, is_line, is_later, same_letter, sent_by, taken_by, sent_in, taken_in, same_letters, is_take_of, follows, is_chain, first_of_chain, last_of_chain, is_at, leads, reading_at, written_by, written_from, precedes}
+use Rattle.causal_order.proofs.Sameness.{decides_letter}
 
 pub decides_le : (m n : ℕ) → Decides (nat_le m n) (m ≤ n)
 decides_le m n = (leb-true m n, le-leb m n)
@@ -68,13 +75,41 @@ decides_is_line js r = (λ h. (let s = some_line (line_of js r) h in (s.0, line_
 pub decides_later : (r s : Ref) → Decides (is_later r s) (IsLater r s)
 decides_later r s = Decides-and _ _ (decides_side r.side s.side) (decides_lt r.number s.number)
 
+-- Sends and takes.
+sent_is : (e : Event) (m : Letter) → sent_by e ≡ Some m → e ≡ Send m
+sent_is (Send x) m h = cc
+sent_is _ m h = cc
+
+taken_is : (e : Event) (m : Letter) → taken_by e ≡ Some m → e ≡ Take m
+taken_is (Take x) m h = cc
+taken_is _ m h = cc
+
+sent_line : (o : Option Line) (m : Letter) → sent_in o ≡ Some m → (l : Line) × (o ≡ Some l) × (l.event ≡ Send m)
+sent_line None m h = absurd (cc)
+sent_line (Some l) m h = (l, refl, sent_is l.event m h)
+
+taken_line : (o : Option Line) (m : Letter) → taken_in o ≡ Some m → (l : Line) × (o ≡ Some l) × (l.event ≡ Take m)
+taken_line None m h = absurd (cc)
+taken_line (Some l) m h = (l, refl, taken_is l.event m h)
+
+pub decides_take_of : (js : Journals) (r s : Ref) → Decides (is_take_of js r s) (IsTakeOf js r s)
+decides_take_of js r s = Decides-like (is_take_of js r s)
+    (λ h.
+    let a = sent_line (line_of js r) h.1.0 h.1.1 in
+    let b = taken_line (line_of js s) h.1.2.0 h.1.2.1 in
+    (h.0, (h.1.0, a.0, b.0, line_names js r a.0 a.1, a.2, line_names js s b.0 b.1, b.2 ∙ ap (λ m. Take m) (sym h.1.2.2))))
+    (λ h. (h.0, (h.1.0, ap sent_in (names_line js r h.1.1 h.1.3) ∙ ap sent_by h.1.4, (h.1.0, ap taken_in (names_line js s h.1.2 h.1.5) ∙ ap taken_by h.1.6, refl))))
+    (Decides-and _ _ (decides_side (partner_of r.side) s.side)
+    (decides_some (sent_in (line_of js r)) _ (λ m. (n : Letter) × (taken_in (line_of js s) ≡ Some n) × (m ≡ n))
+    (λ m. decides_some (taken_in (line_of js s)) _ (λ n. m ≡ n) (λ n. decides_letter m n))))
+
 pub decides_chain : (js : Journals) (chain : List Ref) → Decides (is_chain js chain) (IsChain js chain)
 decides_chain js [] = (λ h. cc, λ h. absurd h)
 decides_chain js (r ∷ []) = decides_is_line js r
-decides_chain js (r ∷ s ∷ rs) = Decides-like (is_line js r && (is_later r s && is_chain js (s ∷ rs))) (λ h. (h.0, h.1.0, h.1.1)) (λ h. (h.0, (h.1, h.2)))
-    (Decides-and _ _ (decides_is_line js r) (Decides-and _ _ (decides_later r s) (decides_chain js (s ∷ rs))))
+decides_chain js (r ∷ s ∷ rs) = Decides-like (is_line js r && (follows js r s && is_chain js (s ∷ rs))) (λ h. (h.0, h.1.0, h.1.1)) (λ h. (h.0, (h.1, h.2)))
+    (Decides-and _ _ (decides_is_line js r) (Decides-and _ _ (Decides-or _ _ (decides_later r s) (decides_take_of js r s)) (decides_chain js (s ∷ rs))))
 
-decides_at : (o : Option Ref) (r : Ref) → Decides (is_at o r) (o ≡ Some r)
+pub decides_at : (o : Option Ref) (r : Ref) → Decides (is_at o r) (o ≡ Some r)
 decides_at o r = Decides-like (is_at o r) (λ h. h.1 ∙ ap (λ x. Some x) h.2) (λ e. (r, e, refl)) (decides_some o (λ s. same_ref s r) (λ s. s ≡ r) (λ s. decides_ref s r))
 
 pub last_ends : (chain : List Ref) (r : Ref) → last_of_chain chain ≡ Some r → EndsWith chain r
@@ -94,6 +129,12 @@ first_begins (s ∷ rs) r h = (rs, cc)
 pub leads_from : (js : Journals) (chain : List Ref) (r s : Ref) → IsChain js chain → first_of_chain chain ≡ Some r → last_of_chain chain ≡ Some s → Leads js chain r s
 leads_from js chain r s c f l = record { rest = (first_begins chain r f).0; begins = (first_begins chain r f).1; ends = last_ends chain s l; links = c }
 
+pub decides_leads : (js : Journals) (chain : List Ref) (r s : Ref) → Decides (leads js chain r s) (Leads js chain r s)
+decides_leads js chain r s = Decides-like (leads js chain r s)
+    (λ h. leads_from js chain r s h.0 h.1.0 h.1.1)
+    (λ h. (h.links, (ap first_of_chain h.begins, ends_last chain s h.ends)))
+    (Decides-and _ _ (decides_chain js chain) (Decides-and _ _ (decides_at (first_of_chain chain) r) (decides_at (last_of_chain chain) s)))
+
 -- Bounds.
 decides_reading : (js : Journals) (o : Option Ref) (test : ℕ → Bool) (P : ℕ → Type 0) → ((x : ℕ) → Decides (test x) (P x)) → Decides (reading_at js o test) ((r : Ref) × (o ≡ Some r) × ((l : Line) × Names js r l × P l.reading))
 decides_reading js o test P each = decides_some o _ (λ r. (l : Line) × Names js r l × P l.reading) (λ r. decides_line js r (λ l. test l.reading) (λ l. P l.reading) (λ l. each l.reading))
@@ -109,3 +150,23 @@ decides_written_from js chain r test P each = Decides-like (written_from js chai
     (λ h. (h.1.1.2.0.reading, record { begin = h.1.1.0; line = h.1.1.2.0; leads = leads_from js chain h.1.1.0 r h.0 h.1.1.1 h.1.0; names = h.1.1.2.1; read = refl }, h.1.1.2.2))
     (λ h. (h.1.leads.links, (ends_last chain r h.1.leads.ends, (h.1.begin, ap first_of_chain h.1.leads.begins, (h.1.line, h.1.names, subst P (sym h.1.read) h.2)))))
     (Decides-and _ _ (decides_chain js chain) (Decides-and _ _ (decides_at (last_of_chain chain) r) (decides_reading js (first_of_chain chain) test P each)))
+
+pub decides_precedes : (js : Journals) (skew : ℕ) (order : Precedes) (r s : Ref) → Decides (precedes js skew order r s) (IsSurelyBefore js skew order r s)
+decides_precedes js skew (Chain chain) r s = Decides-and _ _ (decides_leads js chain r s) (decides_le 2 (length chain))
+decides_precedes js skew (Clock first second) r s = Decides-like (precedes js skew (Clock first second) r s)
+    (λ h. (h.0, h.2.0, h.1, h.2.1, h.2.2))
+    (λ h. (h.0, h.2, (h.1, h.3, h.4)))
+    (decides_written_by js first r _ (λ x. (y : ℕ) × WrittenFrom js second s y × (x + skew + skew < y))
+    (λ x. decides_written_from js second s _ (λ y. x + skew + skew < y) (λ y. decides_lt (x + skew + skew) y)))
+
+-- What meets the relation passes the test.
+passes : (b t : Bool) (P : Type 0) → (IsTrue b ↔ P) → Decides t P → b ≡ t
+passes true t P h d = sym (d.1 (h.0 refl))
+passes false true P h d = h.1 (d.0 refl)
+passes false false P h d = refl
+
+pub both_pass : (o p : Option Letter) (m n : Letter) (b : Bool) → o ≡ Some m → p ≡ Some n → (IsTrue b ↔ (m ≡ n)) → b ≡ same_letters o p
+both_pass o p m n b e f h = passes b (same_letter m n) (m ≡ n) h (decides_letter m n) ∙ (sym (ap (λ x. same_letters x (Some n)) e) ∙ sym (ap (same_letters o) f))
+
+pub take_decided : (js : Journals) (r s : Ref) (b : Bool) → b ≡ is_take_of js r s → IsTrue b ↔ IsTakeOf js r s
+take_decided js r s b e = let d = decides_take_of js r s in (λ h. d.0 (sym e ∙ h), λ h. e ∙ d.1 h)

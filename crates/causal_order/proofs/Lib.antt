@@ -1,2 +1,4 @@
+pub mod Sameness
 pub mod Deciding
 pub mod Walking
+pub mod Clocks

@@ -8,7 +8,7 @@ use Rattle.journal_lines.specs.declared.line.Line.{Line}
 use Rattle.causal_order.specs.declared.reference.Ref.{Ref}
 use Rattle.causal_order.specs.Journals.{Journals, Names, line_of}
 use Rattle.causal_order.specs.Order.{IsChain, WrittenBy, WrittenFrom}
-use Rattle.causal_order.specs.Tests.{is_line, is_later, is_chain, first_of_chain, last_of_chain}
+use Rattle.causal_order.specs.Tests.{is_line, follows, is_chain, first_of_chain, last_of_chain}
 use Rattle.causal_order.specs.Bounds.{reading_of, IsLatest, IsEarliest}
 use Rattle.causal_order.proofs.Deciding.{decides_chain, names_line, line_names, leads_from, ends_last}
 
@@ -17,7 +17,7 @@ pub record IsLeft (js : Journals) (chain : List Ref) (last : Ref) (rest : List R
   pub same : is_chain js chain ≡ is_chain js (last ∷ drop i rest)
 
 module _ (js : Journals) (chain rest : List Ref) (last d : Ref) (i : ℕ) (lt : i < length rest) (h : IsLeft js chain last rest i) where
-  next_link : is_chain js chain ≡ (is_line js last && (is_later last (get_or rest i d) && is_chain js (get_or rest i d ∷ drop (i + 1) rest)))
+  next_link : is_chain js chain ≡ (is_line js last && (follows js last (get_or rest i d) && is_chain js (get_or rest i d ∷ drop (i + 1) rest)))
   next_link =
       let step : drop i rest ≡ get_or rest i d ∷ drop (i + 1) rest = drop-cons rest i d lt ∙ ap (λ (n : ℕ). get_or rest i d ∷ drop n rest) (sym (add-one i)) in
       h.same ∙ ap (λ (rs : List Ref). is_chain js (last ∷ rs)) step
@@ -25,13 +25,13 @@ module _ (js : Journals) (chain rest : List Ref) (last d : Ref) (i : ℕ) (lt : 
   pub breaks_at_line : is_line js last ≡ false → is_chain js chain ≡ false
   breaks_at_line e = next_link ∙ and_left _ _ e
 
-  pub breaks_at_link : is_later last (get_or rest i d) ≡ false → is_chain js chain ≡ false
+  pub breaks_at_link : follows js last (get_or rest i d) ≡ false → is_chain js chain ≡ false
   breaks_at_link e = next_link ∙ and_right _ _ (and_left _ _ e)
 
-  pub goes_on : is_line js last ≡ true → is_later last (get_or rest i d) ≡ true → IsLeft js chain (get_or rest i d) rest (i + 1)
+  pub goes_on : is_line js last ≡ true → follows js last (get_or rest i d) ≡ true → IsLeft js chain (get_or rest i d) rest (i + 1)
   goes_on a b = record {
     same = next_link
-        ∙ (ap (λ (x : Bool). x && (is_later last (get_or rest i d) && is_chain js (get_or rest i d ∷ drop (i + 1) rest))) a
+        ∙ (ap (λ (x : Bool). x && (follows js last (get_or rest i d) && is_chain js (get_or rest i d ∷ drop (i + 1) rest))) a
         ∙ ap (λ (x : Bool). x && is_chain js (get_or rest i d ∷ drop (i + 1) rest)) b);
   }
 

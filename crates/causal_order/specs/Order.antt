@@ -1,19 +1,29 @@
 -- What two journals say of the moments at which their lines were written. A message reaches a partner after it was sent, and
 -- a journal's lines stand in the order in which they were written (RFC 8156, section 9: messages between the partners).
-use Rattle.std.specs.Prelude.{◌≡◌, ℕ, ◌<◌, List, [], ◌∷◌}
+use Rattle.std.specs.Prelude.{◌≡◌, ℕ, ◌+◌, ◌<◌, ◌≤◌, ◌⊎◌, List, [], ◌∷◌, length}
+use Rattle.binding_rules.specs.Role.{partner_of}
+use Rattle.journal_lines.specs.declared.event.Event.TheVariants.{Send, Take}
+use Rattle.journal_lines.specs.declared.event.Letter.{Letter}
 use Rattle.journal_lines.specs.declared.line.Line.{Line}
 use Rattle.causal_order.specs.declared.reference.Ref.{Ref}
+use Rattle.causal_order.specs.declared.chain.Precedes.{Precedes}
+use Rattle.causal_order.specs.declared.chain.Precedes.TheVariants.{Chain, Clock}
 use Rattle.causal_order.specs.Journals.{Journals, Names}
 
 -- the same journal, and later in it
 abbrev pub IsLater : Ref → Ref → Type 0
 IsLater r s = (s.side ≡ r.side) × (r.number < s.number)
 
--- each next line is later in its journal
+-- s takes on the other side what r sends: the same term, serial and body
+abbrev pub IsTakeOf : Journals → Ref → Ref → Type 0
+IsTakeOf js r s = (s.side ≡ partner_of r.side) × ((m : Letter) × (sent : Line) × (taken : Line)
+    × Names js r sent × (sent.event ≡ Send m) × Names js s taken × (taken.event ≡ Take m))
+
+-- each next line is later in its journal, or takes what the line before it sends; never from a take back to its send
 abbrev pub IsChain : Journals → List Ref → Type 0
 IsChain js [] = ⊥
 IsChain js (r ∷ []) = (l : Line) × Names js r l
-IsChain js (r ∷ s ∷ rs) = ((l : Line) × Names js r l) × IsLater r s × IsChain js (s ∷ rs)
+IsChain js (r ∷ s ∷ rs) = ((l : Line) × Names js r l) × (IsLater r s ⊎ IsTakeOf js r s) × IsChain js (s ∷ rs)
 
 -- the chain's last reference is r
 abbrev pub EndsWith : List Ref → Ref → Type 0
@@ -43,3 +53,10 @@ pub record WrittenFrom (js : Journals) (chain : List Ref) (r : Ref) (reading : �
   pub leads : Leads js chain begin r
   pub names : Names js begin line
   pub read : line.reading ≡ reading
+
+-- The one line was surely written before the other: a chain of two lines or more leads from it to the other, or clocks show
+-- readings that are further apart than both skews.
+abbrev pub IsSurelyBefore : Journals → ℕ → Precedes → Ref → Ref → Type 0
+IsSurelyBefore js skew (Chain chain) r s = Leads js chain r s × (2 ≤ length chain)
+IsSurelyBefore js skew (Clock first second) r s =
+    (x : ℕ) × (y : ℕ) × WrittenBy js first r x × WrittenFrom js second s y × (x + skew + skew < y)

@@ -2,9 +2,10 @@
 
 ghost use Rattle.std.specs.Prelude.{◌≡◌, ◌↔◌, ◌∷◌, IsTrue};
 ghost use Rattle.causal_order.specs.Order.{IsLater, IsChain};
-ghost use Rattle.causal_order.specs.Tests.{is_line, is_later, is_chain, first_of_chain, last_of_chain};
+ghost use Rattle.causal_order.specs.Tests.{is_line, is_later, follows, is_chain, first_of_chain, last_of_chain};
 ghost use Rattle.causal_order.specs.Bounds.{reading_of, IsLatest, IsEarliest};
 
+use crate::letters::is_take_of;
 use crate::lines::Lines;
 use crate::reference::Ref;
 use lead_time::{Reading, Skew, earliest, latest};
@@ -24,6 +25,13 @@ fn is_later(earlier: Ref, later: Ref) -> bool
     earlier.side == later.side && earlier.number < later.number
 }
 
+/// Whether the one line was written before the other by their journal, or by a letter.
+fn follows<L: Lines>(lines: &L, earlier: Ref, later: Ref) -> bool
+    ensures { result ≡ follows (L.journals lines.now) earlier later }
+{
+    is_later(earlier, later) || is_take_of(lines, earlier, later)
+}
+
 /// Whether the references from `first` on name lines, each of which was written after the one before it.
 #[tactic(auto, using(crate::proofs::Walking::breaks_at_line, crate::proofs::Walking::breaks_at_link, crate::proofs::Walking::goes_on, crate::proofs::Walking::ends))]
 fn is_chain_from<L: Lines>(lines: &L, first: Ref, rest: &[Ref]) -> bool
@@ -31,7 +39,7 @@ fn is_chain_from<L: Lines>(lines: &L, first: Ref, rest: &[Ref]) -> bool
 {
     let mut last = first;
     for next in rest {
-        if !is_line(lines, last) || !is_later(last, *next) {
+        if !is_line(lines, last) || !follows(lines, last, *next) {
             return false;
         }
         last = *next;

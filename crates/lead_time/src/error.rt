@@ -7,6 +7,9 @@ pub enum LeadTimeError {
     /// A reading is at most 2^48 ms.
     #[error("a reading is at most 2^48 ms")]
     ReadingTooLarge,
+    /// An end is at most 2^49 ms.
+    #[error("an end is at most 2^49 ms")]
+    EndTooLarge,
     /// A skew is at most a day.
     #[error("a skew is at most 86,400,000 ms")]
     SkewTooLarge,

@@ -5,3 +5,6 @@ use Rattle.auditor.proofs.plain.concerns.Goals as goal
 
 pub returns-in-Grant : goal.returns-in-Grant
 returns-in-Grant c = overlap_tested _ _ _ c.overlaps.ensures ∙ ap (concerns c.args.prefix.now) (sym c.in-Grant.is)
+
+pub returns-in-Release : goal.returns-in-Release
+returns-in-Release c = overlap_tested _ _ _ c.overlaps-in-Release.ensures ∙ ap (concerns c.args.prefix.now) (sym c.in-Release.is)

@@ -1,0 +1,103 @@
+//! Whether a release cuts a piece short.
+
+ghost use Rattle.std.specs.Prelude.{◌↔◌, IsTrue, MatchOption};
+ghost use Rattle.prefix_range.specs.Prefix.{Overlaps};
+ghost use Rattle.causal_order.specs.declared.reference.Ref.{Ref as RefValue};
+ghost use Rattle.attribution.specs.Acceptance.{GivesBack, IsCleared};
+ghost use Rattle.attribution.specs.FirstRefusal.{IsLeast, Discharges, Cuts, IsUncut};
+ghost use Rattle.auditor.specs.Refusals.{AreUncut, CutsLease, DischargesBy, IsCutAt};
+
+use crate::grants::{gives_back, is_written_from, lease_at};
+use crate::order::comes_first;
+use crate::source::LineSource;
+use causal_order::{Lines, Ref, precedes};
+use claims::{Certificate, Clear, Piece, Why};
+use journal_lines::Lease;
+use lead_time::Skew;
+use prefix_range::Prefix;
+
+/// Whether the release is shown to have come before the piece's grant, or not before its end.
+fn is_cleared<L: Lines>(lines: &L, piece: &Piece, release: Ref, why: &Why, skew: Skew) -> bool
+    ensures { IsTrue result ↔ IsCleared (L.journals lines.now) skew release piece.now.grant piece.now.to why.now }
+{
+    match why {
+        Why::Before(order) => precedes(lines, order, release, piece.grant, skew),
+        Why::After(chain) => is_written_from(lines, chain, release, skew, piece.to),
+    }
+}
+
+/// Whether the clear entry discharges the release from the piece.
+fn is_discharged_by<L: Lines>(
+    lines: &L,
+    piece: &Piece,
+    clear: &Clear,
+    release: Ref,
+    skew: Skew,
+) -> bool
+    ensures { IsTrue result ↔ DischargesBy (L.journals lines.now) skew piece.now release clear.now }
+{
+    clear.release == release && is_cleared(lines, piece, release, &clear.why, skew)
+}
+
+/// Whether some clear entry of the piece discharges the release.
+fn is_discharged<L: Lines>(lines: &L, piece: &Piece, release: Ref, skew: Skew) -> bool
+    ensures { IsTrue result ↔ Discharges (L.journals lines.now) skew piece.now release }
+{
+    piece.clear.as_slice().iter().any(|clear| is_discharged_by(lines, piece, clear, release, skew))
+}
+
+/// Whether the line gives the lease back, and no clear entry of the piece discharges it.
+fn is_cut_by<L: Lines>(lines: &L, piece: &Piece, lease: &Lease, at: Ref, skew: Skew) -> bool
+    ensures { IsTrue result ↔ CutsLease (L.journals lines.now) skew piece.now lease.now at }
+{
+    gives_back(lines, at, lease) && !is_discharged(lines, piece, at, skew)
+}
+
+/// Every prefix has an address, and so overlaps itself.
+fn overlaps_itself(prefix: &Prefix)
+    ensures { Overlaps prefix.now prefix.now }
+{
+    let _ = prefix.first();
+}
+
+/// The least line that gives the lease of the piece's grant back and that no clear entry discharges.
+fn least_cut<S: LineSource>(source: &S, piece: &Piece, lease: &Lease, skew: Skew) -> Option<Ref>
+    ensures { MatchOption result ((r : RefValue) → CutsLease (S.journals source.now) skew piece.now lease.now r → ⊥) (IsLeast (CutsLease (S.journals source.now) skew piece.now lease.now)) }
+{
+    overlaps_itself(&lease.prefix);
+    let mut least: Option<Ref> = None;
+    let count = source.overlap_count(&lease.prefix);
+    for index in 0..count {
+        let at = source.overlap_at(&lease.prefix, index);
+        if comes_first(at, least) && is_cut_by(source, piece, lease, at, skew) {
+            least = Some(at);
+        }
+    }
+    least
+}
+
+/// The least release that cuts the piece short.
+#[tactic(auto, using(crate::proofs::Cuts::uncut_of_none))]
+fn cut_of<S: LineSource>(source: &S, piece: &Piece, skew: Skew) -> Option<Ref>
+    ensures { MatchOption result (IsUncut (S.journals source.now) skew piece.now) (IsLeast (Cuts (S.journals source.now) skew piece.now)) }
+{
+    let lease = lease_at(source, piece.grant)?;
+    least_cut(source, piece, &lease, skew)
+}
+
+/// The number, from 1, of the first piece that a release cuts short, and the least such release.
+#[tactic(auto, using(crate::proofs::Cuts::cut_at))]
+pub fn first_cut<S: LineSource>(
+    source: &S,
+    certificate: &Certificate,
+    skew: Skew,
+) -> Option<(u64, Ref)>
+    ensures { MatchOption result (AreUncut (S.journals source.now) skew certificate.now) (IsCutAt (S.journals source.now) skew certificate.now) }
+{
+    for (index, piece) in certificate.pieces.as_slice().iter().enumerate() {
+        if let Some(release) = cut_of(source, piece, skew) {
+            return Some((index as u64 + 1, release));
+        }
+    }
+    None
+}
