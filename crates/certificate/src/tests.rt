@@ -206,69 +206,48 @@ fn names_a_fault_of_the_opening(rt: HostRuntime) -> Result<(), Fail> {
     Ok(())
 }
 
+/// What stands behind the opening, each wrong in its first line.
+const WRONG_LINES: &[&[u8]] = &[
+    b"end",
+    b"\nend\n",
+    b"end \n",
+    b"foreign A0 early A1\n",
+    b"foreign C1 early A1\n",
+    b"foreign A1048577 late A1\n",
+    b"piece A3 0 281474976710657 latest A3 earliest A3\n",
+    b"piece A3 0 1 earliest A3 latest A3\n",
+    b"piece A3 0 1 latest A3 earliest A3 \n",
+    b"clear A4 after A4\nend\n",
+    b"foreign A1 early A1>\nend\n",
+    b"foreign A1 early A1>>A2\nend\n",
+    b"foreign A3 released B4 clock A3 latest B4\nend\n",
+    b"foreign A3 released B4 A3 latest B4\nend\n",
+];
+
+/// What stands behind the opening, each wrong in its second line.
+const WRONG_SECOND_LINES: &[&[u8]] = &[
+    b"foreign A1 late A1\npiece A3 0 1 latest A3 earliest A3\nend\n",
+    b"foreign A1 late A1\nclear A4 after A4\nend\n",
+];
+
+/// What stands behind the opening, each without one end line as the last.
+const WRONG_ENDS: &[&[u8]] = &[b"", b"end\n\n", b"end\nend\n", b"foreign A1 early A1\n"];
+
 #[test]
 fn names_a_fault_behind_the_opening(rt: HostRuntime) -> Result<(), Fail> {
-    let cases: [(&[u8], CertificateFault); 20] = [
-        (b"", CertificateFault::End),
-        (b"end", CertificateFault::Form { line: 5 }),
-        (b"end\n\n", CertificateFault::End),
-        (b"end\nend\n", CertificateFault::End),
-        (b"\nend\n", CertificateFault::Form { line: 5 }),
-        (b"end \n", CertificateFault::Form { line: 5 }),
-        (b"foreign A1 early A1\n", CertificateFault::End),
-        (b"foreign A0 early A1\n", CertificateFault::Form { line: 5 }),
-        (b"foreign C1 early A1\n", CertificateFault::Form { line: 5 }),
-        (
-            b"foreign A1048577 late A1\n",
-            CertificateFault::Form { line: 5 },
-        ),
-        (
-            b"foreign A1 late A1\npiece A3 0 1 latest A3 earliest A3\nend\n",
-            CertificateFault::Form { line: 6 },
-        ),
-        (
-            b"piece A3 0 281474976710657 latest A3 earliest A3\n",
-            CertificateFault::Form { line: 5 },
-        ),
-        (
-            b"piece A3 0 1 earliest A3 latest A3\n",
-            CertificateFault::Form { line: 5 },
-        ),
-        (
-            b"piece A3 0 1 latest A3 earliest A3 \n",
-            CertificateFault::Form { line: 5 },
-        ),
-        (
-            b"clear A4 after A4\nend\n",
-            CertificateFault::Form { line: 5 },
-        ),
-        (
-            b"foreign A1 late A1\nclear A4 after A4\nend\n",
-            CertificateFault::Form { line: 6 },
-        ),
-        (
-            b"foreign A1 early A1>\nend\n",
-            CertificateFault::Form { line: 5 },
-        ),
-        (
-            b"foreign A1 early A1>>A2\nend\n",
-            CertificateFault::Form { line: 5 },
-        ),
-        (
-            b"foreign A3 released B4 clock A3 latest B4\nend\n",
-            CertificateFault::Form { line: 5 },
-        ),
-        (
-            b"foreign A3 released B4 A3 latest B4\nend\n",
-            CertificateFault::Form { line: 5 },
-        ),
+    let cases = [
+        (WRONG_LINES, CertificateFault::Form { line: 5 }),
+        (WRONG_SECOND_LINES, CertificateFault::Form { line: 6 }),
+        (WRONG_ENDS, CertificateFault::End),
     ];
-    for (rest, fault) in cases {
-        let text = opened(rt.alloc(), rest)?;
-        assert_eq!(rt;
-            read(rt.alloc(), &text).err(),
-            Some(CertificateError::Fault(fault))
-        );
+    for (rests, fault) in cases {
+        for rest in rests {
+            let text = opened(rt.alloc(), rest)?;
+            assert_eq!(rt;
+                read(rt.alloc(), &text).err(),
+                Some(CertificateError::Fault(fault))
+            );
+        }
     }
     Ok(())
 }

@@ -4,7 +4,15 @@
 #[cfg(test)]
 mod audits;
 #[cfg(test)]
+mod changes;
+#[cfg(test)]
+mod evidence;
+#[cfg(test)]
 mod headline;
+#[cfg(test)]
+mod inputs;
+#[cfg(test)]
+mod round_trips;
 mod texts;
 #[cfg(test)]
 mod values;

@@ -14,7 +14,7 @@ fn says_verdicts(rt: HostRuntime) -> Result<(), Fail> {
         number: 3,
     };
     let b = Role::Secondary;
-    let cases: [(Verdict, &[u8]); 15] = [
+    let cases: [(Verdict, &[u8]); 16] = [
         (Verdict::Accepted, b"accepted\n"),
         (
             Verdict::Journal(b, JournalFault::Head),
@@ -52,6 +52,10 @@ fn says_verdicts(rt: HostRuntime) -> Result<(), Fail> {
         (Verdict::PastEnd(b), b"refused C5 PastEnd B\n"),
         (Verdict::PieceGap(1), b"refused C6 PieceGap 1\n"),
         (Verdict::PieceGrant(2), b"refused C7 PieceGrant 2\n"),
+        (
+            Verdict::PieceRelease(1, at),
+            b"refused C8 PieceRelease 1 A3\n",
+        ),
         (Verdict::Uncovered(at), b"refused C9 Uncovered A3\n"),
         (Verdict::Reason(at), b"refused C10 Reason A3\n"),
     ];

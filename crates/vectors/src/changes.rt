@@ -1,0 +1,41 @@
+//! Accepted inputs of the desk with one part changed, and what is answered then.
+
+use attribution_desk::judge;
+use lead_time::Skew;
+use std::alloc::Global;
+use std::process::Abort;
+use std::test::Fail;
+
+pub const SKEW: u64 = 2000;
+
+/// A part of an input, what is put in its place, and the answer then.
+pub type Change = (&'static str, &'static str, &'static str);
+
+pub fn check_answer(
+    rt: &impl Abort,
+    alloc: Global,
+    input: &str,
+    skew: u64,
+    line: &str,
+) -> Result<(), Fail> {
+    let answer = judge(alloc, input.as_bytes(), Skew::new(skew)?)?;
+    assert_eq!(rt; answer.line.as_slice(), line.as_bytes());
+    let status = if line == "accepted\n" { 0 } else { 1 };
+    assert_eq!(rt; answer.status, status);
+    Ok(())
+}
+
+pub fn check_changes(
+    rt: &impl Abort,
+    alloc: Global,
+    input: &str,
+    changes: &[Change],
+) -> Result<(), Fail> {
+    check_answer(rt, alloc, input, SKEW, "accepted\n")?;
+    for (old, new, line) in changes {
+        let changed = input.replacen(alloc, *old, new, 1)?;
+        assert_ne!(rt; changed.as_str(), input);
+        check_answer(rt, alloc, changed.as_str(), SKEW, line)?;
+    }
+    Ok(())
+}
