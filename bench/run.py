@@ -1,8 +1,10 @@
 #!/usr/bin/env python3
-"""run.py [LINES]: times the desk on two journals of LINES lines each (100,000 if not said), against awk over the same bytes.
+"""run.py [LINES [COUNT]]: times the desk, each figure from runs of one process after another on the same machine.
 
-awk does a plain field match: it prints the lines whose prefix is the one asked of. Both read the same file in the same run,
-five times each in turn, and the best of each counts. Prints MB/s, peak memory against the input's size, and the ratio of times.
+1. On two journals of LINES mixed lines each (1,000,000 if not said), against awk over the same octets. awk does a plain field
+   match: it prints the grants of the prefix asked of. Five times each in turn, and the best of each counts.
+2. On a certificate that names COUNT leases of other clients (1,000 if not said), its foreign lines in the order of their grants,
+   against the same with the foreign lines in the reverse order.
 """
 import os
 import pathlib
@@ -26,22 +28,49 @@ def run(words, path):
         return seconds, used.ru_maxrss * 1024, taken.read()
 
 
-def main():
-    lines = sys.argv[1] if len(sys.argv) > 1 else "100000"
-    with tempfile.NamedTemporaryFile() as file:
-        subprocess.run([sys.executable, HERE / "generate.py", lines], stdout=file, check=True)
-        file.flush()
+AUDIT = [DESK, "audit", "--skew-ms", "2000"]
+MATCH = ["awk", '$3 == "grant" && $6 == "2001:0db8:0000:0000:0000:0000:0000:0000/56"']
+
+
+def generated(script, *words):
+    file = tempfile.NamedTemporaryFile()
+    subprocess.run([sys.executable, HERE / script, *words], stdout=file, check=True)
+    file.flush()
+    return file
+
+
+def best(words, path, times=5):
+    runs = [run(words, path) for _ in range(times)]
+    if words is AUDIT:
+        assert all(answer == b"accepted\n" for _, _, answer in runs), runs[0]
+    return min(runs)
+
+
+def measure_reading(lines):
+    with generated("generate.py", lines) as file:
         size = os.path.getsize(file.name)
         desk, match = [], []
         for _ in range(5):
-            desk.append(run([DESK, "audit", "--skew-ms", "2000"], file.name))
-            match.append(run(["awk", '$3 == "grant" && $6 == "2001:0db8:0000:0000:0000:0000:0000:0000/56"'], file.name))
-        assert all(answer == b"accepted\n" for _, _, answer in desk), desk[0]
-        best_desk, best_match = min(desk), min(match)
-        print(f"input            {size / 1e6:.1f} MB, 2 x {lines} lines")
-        print(f"desk             {size / 1e6 / best_desk[0]:.0f} MB/s, peak memory {best_desk[1] / size:.2f} x the input")
-        print(f"awk field match  {size / 1e6 / best_match[0]:.0f} MB/s")
-        print(f"desk : awk       {best_desk[0] / best_match[0]:.2f} (time)")
+            desk.append(best(AUDIT, file.name, 1))
+            match.append(best(MATCH, file.name, 1))
+        desk, match = min(desk), min(match)
+        print(f"input                    {size / 1e6:.1f} MB, 2 x {lines} mixed lines")
+        print(f"desk                     {size / 1e6 / desk[0]:.0f} MB/s")
+        print(f"awk field match          {size / 1e6 / match[0]:.0f} MB/s")
+        print(f"desk : awk               {desk[0] / match[0]:.2f} (time)")
+        print(f"peak memory : input      {desk[1] / size:.2f}")
+        print(f"peak memory : lines      {desk[1] / (2 * int(lines)):.0f} octets")
+
+
+def measure_foreign(count):
+    with generated("generate_foreign.py", count, "in-order") as straight, generated("generate_foreign.py", count, "reversed") as turned:
+        print(f"{count} foreign lines")
+        print(f"reversed : in order      {best(AUDIT, turned.name)[0] / best(AUDIT, straight.name)[0]:.2f} (time)")
+
+
+def main():
+    measure_reading(sys.argv[1] if len(sys.argv) > 1 else "1000000")
+    measure_foreign(sys.argv[2] if len(sys.argv) > 2 else "1000")
 
 
 main()
