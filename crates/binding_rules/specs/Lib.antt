@@ -1,1 +1,5 @@
 pub mod Role
+pub mod Unit
+pub mod Giving
+pub mod Table
+pub mod Reply

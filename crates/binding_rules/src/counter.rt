@@ -1,6 +1,6 @@
 //! Counters.
 
-ghost use Rattle.std.specs.Prelude.{◌≡◌, ◌^◌, ◌<◌, ◌≤◌, ◌↔◌, IsSome, IfSome};
+ghost use Rattle.std.specs.Prelude.{◌≡◌, ◌+◌, ◌^◌, ◌<◌, ◌≤◌, ◌↔◌, IsSome, IfSome};
 
 use std::marker::Model;
 
@@ -25,6 +25,9 @@ impl Counter {
     /// The greatest count.
     pub const MAX: u64 = 562_949_953_421_312;
 
+    /// Nothing happened yet.
+    pub const ZERO: Counter = Counter(0);
+
     /// The counter at this number, or `None` where it is over 2^49.
     pub fn new(number: u64) -> Option<Counter>
         ensures made { IfSome result (λ c. c ≡ number) }
@@ -37,10 +40,18 @@ impl Counter {
         }
     }
 
+    /// The number.
     pub fn number(self) -> u64
         ensures value { result ≡ self }
         ensures within { result ≤ 2 ^ 49 }
     {
         self.0
+    }
+    /// The counter after one more, where it is under 2^49.
+    pub fn next(self) -> Counter
+        requires { self < 2 ^ 49 }
+        ensures { result ≡ self + 1 }
+    {
+        Counter(self.0 + 1)
     }
 }

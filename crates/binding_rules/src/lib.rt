@@ -2,9 +2,18 @@
 #![tactic(auto)]
 
 mod counter;
+mod giving;
 mod role;
+mod table;
+mod taking;
+#[cfg(test)]
+mod tests;
+mod unit;
 mod update;
 
 pub use counter::Counter;
+pub use giving::{grantable, renewable};
 pub use role::Role;
+pub use taking::{Outcome, take_reply, take_update};
+pub use unit::{Binding, Unit, UnitStatus};
 pub use update::{Acknowledgement, BindReply, Status, Update};

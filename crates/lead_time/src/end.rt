@@ -25,6 +25,9 @@ impl End {
     /// The latest end, in milliseconds.
     pub const MAX: u64 = 562_949_953_421_312;
 
+    /// No end yet.
+    pub const ZERO: End = End(0);
+
     /// The end after this many milliseconds, or `EndTooLarge` where they are over 2^49.
     pub fn new(milliseconds: u64) -> Result<End, LeadTimeError>
         ensures made { IfOk result (λ e. e ≡ milliseconds) }
@@ -35,6 +38,14 @@ impl End {
             return Err(LeadTimeError::EndTooLarge);
         }
         Ok(End(milliseconds))
+    }
+
+    /// The end at a sum that is within the limit.
+    pub(crate) fn from_sum(milliseconds: u64) -> End
+        requires { milliseconds ≤ 2 ^ 49 }
+        ensures { result ≡ milliseconds }
+    {
+        End(milliseconds)
     }
 
     /// The milliseconds since 1970 UTC.

@@ -2,3 +2,11 @@ pub mod Ends
 pub mod Units
 pub mod Groups
 pub mod TextLaws
+pub mod Numerals
+pub mod Rows
+pub mod Neighbours
+pub mod Runs
+pub mod GroupLaws
+pub mod CutLaws
+pub mod AddressLaws
+pub mod SpellingLaws

@@ -17,6 +17,7 @@ use Rattle.text_fields.proofs.NumberLaws.{number_takes, number_again, decimal_la
 use Rattle.text_fields.proofs.OctetLaws.{octets_take, octets_again, length-hex, octets_are_bytes, hex_lacks, hex_lacks_colon}
 use Rattle.prefix_range.specs.Prefix.{Prefix, IsPrefix, size_of}
 use Rattle.prefix_range.specs.Text.{groups_of, group_text, address_text, prefix_text, group_of, with_group, address_on, address_of, made, parts_prefix, prefix_word}
+use Rattle.prefix_range.specs.Spelling.{value_on}
 use Rattle.prefix_range.proofs.Groups.{length-groups}
 
 -- ---- one group
@@ -45,10 +46,6 @@ group_again g lt = rw (octets_again (to_be_bytes w16 g) (group_octets g lt), fro
 AreGroups : List ℕ → Type 0
 AreGroups groups = AllByRecursion (λ g. g < 65536) groups
 
-value_on : ℕ → List ℕ → ℕ
-value_on address [] = address
-value_on address (g ∷ groups) = value_on (65536 * address + g) groups
-
 value-append : (address : ℕ) (groups : List ℕ) (g : ℕ) → value_on address (groups ++ g ∷ []) ≡ 65536 * value_on address groups + g
 unfolding value_on
 value-append address [] g = refl
@@ -60,7 +57,7 @@ grows [] address = omega arith
 grows (g ∷ groups) address = omega (arith, grows groups (65536 * address + g))
 
 -- the groups of an address make it
-groups-value : (n address : ℕ) → address < 65536 ^ n → value_on 0 (groups_of n address) ≡ address
+pub groups-value : (n address : ℕ) → address < 65536 ^ n → value_on 0 (groups_of n address) ≡ address
 unfolding value_on groups_of
 groups-value zero address lt = omega arith
 groups-value (suc n) address lt =

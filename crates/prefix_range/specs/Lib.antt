@@ -1,3 +1,6 @@
 pub mod Prefix
 pub mod Unit
 pub mod Text
+pub mod Spelling
+pub mod SpellingRead
+pub mod RowOf

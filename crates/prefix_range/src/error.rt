@@ -17,6 +17,9 @@ pub enum PrefixError {
     /// The text is not in the canonical form.
     #[error("a prefix is eight groups of four lower-case digits, a slash and its length")]
     NotCanonical,
+    /// The text is no address in form 1 or 2 of RFC 4291, section 2.2, a slash and one to three digits.
+    #[error("a prefix is an IPv6 address, a slash and its length")]
+    Text,
     /// A growth was refused.
     #[error("out of memory")]
     Memory,

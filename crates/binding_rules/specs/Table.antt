@@ -1,0 +1,109 @@
+-- The binding table: which updates a server accepts, and what they make of its unit.
+use Rattle.std.specs.Prelude.{ℕ, Bool, true, false, ◌+◌, ◌&&◌, ◌||◌, ◌==◌, nat_le, max, Option, Some, None, List, if◌then◌else◌}
+use Rattle.binding_rules.specs.declared.role.Role.{Role}
+use Rattle.binding_rules.specs.declared.role.Role.TheVariants.{Primary, Secondary}
+use Rattle.binding_rules.specs.declared.unit.UnitStatus.{UnitStatus}
+use Rattle.binding_rules.specs.declared.unit.UnitStatus.TheVariants.{Free, FreeBackup, Active, Expired, Released}
+use Rattle.binding_rules.specs.declared.unit.Unit.{Unit as UnitValue}
+use Rattle.binding_rules.specs.declared.update.Status.{Status}
+use Rattle.binding_rules.specs.declared.update.Status.TheVariants.{Active as ActiveDue, Expired as ExpiredDue, Released as ReleasedDue, Backup as BackupDue, Free as FreeDue}
+use Rattle.binding_rules.specs.declared.update.Update.{Update}
+use Rattle.binding_rules.specs.declared.update.Acknowledgement.{Acknowledgement}
+use Rattle.binding_rules.specs.declared.update.Acknowledgement.TheVariants.{Accept as AcceptReply, Reject as RejectReply}
+use Rattle.binding_rules.specs.declared.taking.Outcome.{Outcome}
+use Rattle.binding_rules.specs.declared.taking.Outcome.TheVariants.{Accept, Reject, Drop}
+use Rattle.binding_rules.specs.Unit.{same_binding, freed}
+
+-- What an update says that the unit is: of an active, expired or released one, whose.
+abbrev pub of_client : Status → List ℕ → ℕ → UnitStatus
+of_client ActiveDue client iaid = Active (record { client = client; iaid = iaid })
+of_client ExpiredDue client iaid = Expired (record { client = client; iaid = iaid })
+of_client ReleasedDue client iaid = Released (record { client = client; iaid = iaid })
+of_client BackupDue client iaid = FreeBackup
+of_client FreeDue client iaid = Free
+
+abbrev pub of_nobody : Status → Option UnitStatus
+of_nobody BackupDue = Some FreeBackup
+of_nobody FreeDue = Some Free
+of_nobody _ = None
+
+-- nothing where it should name a client and doesn't
+abbrev pub said_by : Update → Option (List ℕ) → Option UnitStatus
+said_by m (Some client) = Some (of_client m.status client m.iaid)
+said_by m None = of_nobody m.status
+
+abbrev pub said : Update → Option UnitStatus
+said m = said_by m m.client
+
+abbrev pub at_primary : Role → Bool
+at_primary Primary = true
+at_primary Secondary = false
+
+abbrev pub at_secondary : Role → Bool
+at_secondary Primary = false
+at_secondary Secondary = true
+
+-- Whether the receiver, in this role and at this reading, accepts what an update says of its unit. First what is said, then what the unit is.
+abbrev pub accepts : Role → UnitValue → ℕ → Update → UnitStatus → UnitStatus → Bool
+accepts role u now m (Active k) Free = at_secondary role
+accepts role u now m (Active k) FreeBackup = at_primary role
+accepts role u now m (Active k) (Active j) = same_binding j k
+accepts role u now m (Active k) (Expired j) = false
+accepts role u now m (Active k) (Released j) = false
+accepts role u now m (Expired k) Free = at_secondary role
+accepts role u now m (Expired k) FreeBackup = at_primary role
+accepts role u now m (Expired k) (Active j) = same_binding j k && nat_le u.own_end now
+accepts role u now m (Expired k) (Expired j) = true
+accepts role u now m (Expired k) (Released j) = true
+accepts role u now m (Released k) Free = at_secondary role
+accepts role u now m (Released k) FreeBackup = at_primary role
+accepts role u now m (Released k) (Active j) = same_binding j k && (nat_le u.own_end now || (m.seen == u.mine))
+accepts role u now m (Released k) (Expired j) = true
+accepts role u now m (Released k) (Released j) = true
+accepts role u now m FreeBackup Free = at_secondary role && (m.seen == u.mine)
+accepts role u now m FreeBackup _ = false
+accepts role u now m Free Free = at_secondary role
+accepts role u now m Free FreeBackup = at_secondary role
+accepts role u now m Free _ = false
+
+abbrev pub accepts_said : Role → UnitValue → ℕ → Update → Option UnitStatus → Bool
+accepts_said role u now m (Some s) = accepts role u now m s u.status
+accepts_said role u now m None = false
+
+abbrev pub is_accepted : Role → UnitValue → ℕ → Update → Bool
+is_accepted role u now m = accepts_said role u now m (said m)
+
+-- a due change to active stays, any other is removed
+abbrev pub kept_due : Option Status → Option Status
+kept_due (Some ActiveDue) = Some ActiveDue
+kept_due _ = None
+
+-- What the unit becomes where that is accepted, its counters and its reply apart.
+abbrev pub becomes : UnitValue → Update → UnitStatus → UnitValue
+becomes u m (Active k) = record u { status = Active k; told = max u.told m.end; due = kept_due u.due }
+becomes u m (Expired k) = freed u
+becomes u m (Released k) = freed u
+becomes u m FreeBackup = record u { status = FreeBackup }
+becomes u m Free = freed u
+
+-- the unit with the reply to an update: of the update's count, with the unit's counters
+abbrev pub answered : UnitValue → Update → Acknowledgement → UnitValue
+answered u m how = record u { pending = Some (record { acknowledgement = how; prefix = m.prefix; of = m.mine; mine = u.mine; seen = u.seen }) }
+
+-- each accepted update counts as a change of the receiver's own, and is seen
+abbrev pub counted : UnitValue → Update → UnitValue
+counted u m = record u { mine = u.mine + 1; seen = m.mine }
+
+abbrev pub accepted_as : UnitValue → Update → Option UnitStatus → UnitValue
+accepted_as u m (Some s) = answered (counted (becomes u m s) m) m AcceptReply
+accepted_as u m None = u
+
+abbrev pub accepted : UnitValue → Update → UnitValue
+accepted u m = accepted_as u m (said m)
+
+-- What is not newer than what was seen is dropped, and changes nothing. What is rejected changes the reply alone.
+abbrev pub outcome_of : Role → UnitValue → ℕ → Update → Outcome
+outcome_of role u now m = if nat_le m.mine u.seen then Drop else (if is_accepted role u now m then Accept else Reject)
+
+abbrev pub after_update : Role → UnitValue → ℕ → Update → UnitValue
+after_update role u now m = if nat_le m.mine u.seen then u else (if is_accepted role u now m then accepted u m else answered u m RejectReply)

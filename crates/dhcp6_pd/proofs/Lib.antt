@@ -1,0 +1,17 @@
+pub mod Binds
+pub mod Cleared
+pub mod Codes
+pub mod Folding
+pub mod HeldLaws
+pub mod IaLaws
+pub mod IdentityLaws
+pub mod LevelLaws
+pub mod Levels
+pub mod Messages
+pub mod MessageLaws
+pub mod Relaying
+pub mod Rows
+pub mod SaidLaws
+pub mod SaidSteps
+pub mod Sizes
+pub mod Wholes

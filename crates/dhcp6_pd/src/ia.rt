@@ -1,0 +1,90 @@
+//! Reading an IA_PD.
+
+ghost use Rattle.std.specs.Prelude.{◌≡◌, ◌≤◌, None, length};
+ghost use Rattle.dhcp6_pd.specs.Options.{row_of};
+ghost use Rattle.dhcp6_pd.specs.Reading.{plain, folded, Finds};
+ghost use Rattle.dhcp6_pd.specs.Grammar.{cleared, address_of};
+ghost use Rattle.dhcp6_pd.specs.Faults.{prefix_in, with_hint, ia_in};
+
+use crate::error::PdFault;
+use crate::message::IaPd;
+use crate::numbers::IA_PREFIX;
+use crate::options::{Options, RawOption};
+use byteorder::{BigEndian, ByteOrder};
+use client_id::Iaid;
+use prefix_range::Prefix;
+
+/// An address whose bits past a length are cleared.
+fn cleared(length: u8, address: u128) -> u128
+    requires { length ≤ 128 }
+    ensures { result ≡ cleared length address }
+{
+    if length == 0 {
+        0
+    } else {
+        address - address % (1u128 << (128 - length))
+    }
+}
+
+/// The address of an IAPREFIX option, in the sixteen octets behind two lifetimes and a length.
+#[tactic(auto, unfolding(crate::specs::Grammar::address_of))]
+fn address_of(octets: &[u8]) -> u128
+    requires { 25 ≤ length octets.now }
+    ensures { result ≡ address_of octets.now }
+{
+    BigEndian::read_u128(&octets[9..])
+}
+
+/// The prefix of an IAPREFIX option (RFC 8415, section 21.22).
+#[tactic(auto, using(crate::proofs::Cleared::cleared_host), unfolding(crate::specs::Faults::prefix_in))]
+fn prefix_in(octets: &[u8]) -> Result<Prefix, PdFault>
+    ensures { result ≡ prefix_in octets.now }
+{
+    if octets.len() < 25 {
+        return Err(PdFault::OptionLength);
+    }
+    let length = octets[8];
+    if length > 128 {
+        return Err(PdFault::BadPrefixLength);
+    }
+    match Prefix::new(cleared(length, address_of(octets)), length) {
+        Ok(prefix) => Ok(prefix),
+        Err(_) => Err(PdFault::BadPrefixLength),
+    }
+}
+
+/// Keeps the prefix of the first IAPREFIX.
+#[tactic(auto, unfolding(crate::specs::Faults::with_hint))]
+fn keep_hint(hint: &mut Option<Prefix>, option: &RawOption<'_>) -> Result<(), PdFault>
+    ensures { Finds (λ _. hint.new) result (with_hint hint.old (plain option.now)) }
+{
+    if hint.is_none() && option.code == IA_PREFIX {
+        *hint = Some(prefix_in(option.octets)?);
+    }
+    Ok(())
+}
+
+fn hint_in(octets: &[u8]) -> Result<Option<Prefix>, PdFault>
+    ensures { result ≡ folded with_hint None (row_of octets.now) }
+{
+    let mut options = Options::new(octets);
+    let mut hint = None;
+    while let Some(option) = options.next_option()? {
+        keep_hint(&mut hint, &option)?;
+    }
+    Ok(hint)
+}
+
+/// The identity association that the data of an IA_PD option is (RFC 8415, section 21.21). T1, T2 and lifetimes
+/// are not looked at.
+#[tactic(auto, unfolding(crate::specs::Faults::ia_in))]
+pub fn ia_in(octets: &[u8]) -> Result<IaPd, PdFault>
+    ensures { result ≡ ia_in octets.now }
+{
+    if octets.len() < 12 {
+        return Err(PdFault::OptionLength);
+    }
+    let iaid = Iaid(BigEndian::read_u32(octets));
+    let hint = hint_in(&octets[12..])?;
+    Ok(IaPd { iaid, hint })
+}

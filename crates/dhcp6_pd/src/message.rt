@@ -1,0 +1,87 @@
+//! What messages say (RFC 8415): those of clients that are read, and those of the server that are written.
+
+use crate::lists::{IaPdList, IaReplyList, InterfaceId, RelayList};
+use client_id::{Duid, Iaid};
+use prefix_range::Prefix;
+
+/// The types of clients' messages that are read (RFC 8415, section 7.3).
+#[derive(Clone, Copy, Debug, PartialEq, Eq)]
+pub enum ClientKind {
+    Solicit,
+    Request,
+    Renew,
+    Rebind,
+    Release,
+}
+
+/// A client's message to this server, and the relays that it came by.
+#[derive(Debug, Drop)]
+pub struct ClientMessage {
+    /// The relay nearest to the server first; none for a client on the link.
+    pub relays: RelayList,
+    pub kind: ClientKind,
+    /// The transaction identifier.
+    pub xid: [u8; 3],
+    pub client: Duid,
+    pub ias: IaPdList,
+}
+
+/// A relay agent that forwarded a message, and what it wants back (RFC 8415, section 9).
+#[derive(Debug, Drop)]
+pub struct Relay {
+    /// The hop count.
+    pub hops: u8,
+    /// The link address.
+    pub link: [u8; 16],
+    /// The peer address.
+    pub peer: [u8; 16],
+    pub interface: Option<InterfaceId>,
+}
+
+/// An identity association for prefix delegation that a client asks about (RFC 8415, section 21.21).
+#[derive(Clone, Copy, Debug, PartialEq, Eq)]
+pub struct IaPd {
+    pub iaid: Iaid,
+    /// The prefix of its first IAPREFIX.
+    pub hint: Option<Prefix>,
+}
+
+/// The types of the server's messages (RFC 8415, section 7.3).
+#[derive(Clone, Copy, Debug, PartialEq, Eq)]
+pub enum ServerKind {
+    Advertise,
+    Reply,
+}
+
+/// The server's answer to a client, and the relays that it goes by.
+#[derive(Debug, Drop)]
+pub struct ServerMessage {
+    /// The relays of the client's message, in its order.
+    pub relays: RelayList,
+    pub kind: ServerKind,
+    /// The transaction identifier of the client's message.
+    pub xid: [u8; 3],
+    pub client: Duid,
+    pub server: Duid,
+    /// Whether a status option says Success, as in the answer to a RELEASE.
+    pub success: bool,
+    pub ias: IaReplyList,
+}
+
+/// The answer to one IA_PD.
+#[derive(Clone, Copy, Debug, PartialEq, Eq)]
+pub struct IaReply {
+    pub iaid: Iaid,
+    pub answer: IaReplyAnswer,
+}
+
+/// What an IA_PD of an answer says.
+#[derive(Clone, Copy, Debug, PartialEq, Eq)]
+pub enum IaReplyAnswer {
+    /// A prefix, with its preferred and valid lifetime in seconds, which are equal.
+    Given { prefix: Prefix, valid: u32 },
+    /// Status NoPrefixAvail.
+    NoPrefix,
+    /// Status NoBinding.
+    NoBinding,
+}

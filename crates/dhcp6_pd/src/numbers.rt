@@ -1,0 +1,40 @@
+//! The numbers of RFC 8415 that messages are spelled with.
+
+/// Option codes (section 21).
+pub const CLIENT_ID: u16 = 1;
+
+pub const SERVER_ID: u16 = 2;
+
+pub const RELAY_MESSAGE: u16 = 9;
+
+pub const STATUS_CODE: u16 = 13;
+
+pub const INTERFACE_ID: u16 = 18;
+
+pub const IA_PD: u16 = 25;
+
+pub const IA_PREFIX: u16 = 26;
+
+/// Status codes (section 21.13).
+pub const SUCCESS: u16 = 0;
+
+pub const NO_BINDING: u16 = 3;
+
+pub const NO_PREFIX_AVAILABLE: u16 = 6;
+
+/// The types of relays' messages (section 7.3).
+pub const RELAY_FORWARD: u8 = 12;
+
+pub const RELAY_REPLY: u8 = 13;
+
+/// The octets of an option before its data: code and length (section 21.1).
+pub const OPTION_HEAD: usize = 4;
+
+/// The most octets of a datagram.
+pub const MOST_OCTETS: usize = 65535;
+
+/// The most IA_PDs of a message.
+pub const MOST_IAS: usize = 16;
+
+/// The most relays that a message comes by.
+pub const MOST_RELAYS: usize = 32;

@@ -1,0 +1,88 @@
+//! How many octets an answer has.
+
+ghost use Rattle.std.specs.Prelude.{◌≡◌, ◌+◌, ◌≤◌, length, sum_by};
+ghost use Rattle.std.specs.List.{flat_map};
+ghost use Rattle.dhcp6_pd.specs.Layout.{ia_octets, head_octets, message_octets};
+ghost use Rattle.dhcp6_pd.specs.Size.{fitting, relay_size};
+
+use crate::error::PdError;
+use crate::message::{IaReply, IaReplyAnswer, Relay, ServerMessage};
+use crate::numbers::{MOST_OCTETS, OPTION_HEAD};
+
+/// A size so far and some octets more, where a datagram can have as many.
+fn with_octets(size: usize, more: usize) -> Result<usize, PdError>
+    requires { size ≤ 65535 }
+    ensures { result ≡ fitting (size + more) }
+{
+    if more > MOST_OCTETS - size {
+        return Err(PdError::TooLong);
+    }
+    Ok(size + more)
+}
+
+/// How many octets the option of an IA_PD has.
+pub fn ia_size(reply: &IaReply) -> usize
+    ensures { result ≡ length (ia_octets reply.now) }
+{
+    match reply.answer {
+        IaReplyAnswer::Given { .. } => 45,
+        IaReplyAnswer::NoPrefix | IaReplyAnswer::NoBinding => 22,
+    }
+}
+
+fn ias_size(before: usize, ias: &[IaReply]) -> Result<usize, PdError>
+    requires { before ≤ 65535 }
+    ensures { result ≡ fitting (before + length (flat_map ia_octets ias.now)) }
+{
+    let mut size = before;
+    for reply in ias {
+        size = with_octets(size, ia_size(reply))?;
+    }
+    Ok(size)
+}
+
+fn head_size(message: &ServerMessage) -> usize
+    ensures value { result ≡ length (head_octets message.now) }
+    ensures most { result ≤ 65535 }
+{
+    let identifiers = 12 + message.client.as_bytes().len() + message.server.as_bytes().len();
+    if message.success {
+        identifiers + 6
+    } else {
+        identifiers
+    }
+}
+
+/// The octets of the option that an interface identifier has.
+fn relays_size(before: usize, relays: &[Relay]) -> Result<usize, PdError>
+    requires { before ≤ 65535 }
+    ensures { result ≡ fitting (before + sum_by relay_size relays.now) }
+{
+    let mut size = before;
+    for relay in relays {
+        size = with_relay(size, relay)?;
+    }
+    Ok(size)
+}
+
+fn with_relay(before: usize, relay: &Relay) -> Result<usize, PdError>
+    requires { before ≤ 65535 }
+    ensures { result ≡ fitting (before + relay_size relay.now) }
+{
+    let size = with_octets(before, 34 + OPTION_HEAD)?;
+    match &relay.interface {
+        None => Ok(size),
+        Some(interface) => {
+            let size = with_octets(size, OPTION_HEAD)?;
+            with_octets(size, interface.as_bytes().len())
+        }
+    }
+}
+
+/// How many octets an answer has, or `TooLong` where they are more than a datagram can have.
+pub fn size_of(message: &ServerMessage) -> Result<usize, PdError>
+    ensures { result ≡ fitting (length (message_octets message.now)) }
+{
+    let size = ias_size(head_size(message), message.ias.as_slice())?;
+    relays_size(size, message.relays.as_slice())
+}

@@ -1,0 +1,14 @@
+mod Sixteen
+mod FieldLaws
+mod CodeLaws
+mod HolderLaws
+mod BodyLaws
+mod KindLaws
+mod Lengths
+mod FrameLaws
+mod FaultLaws
+mod NextLaws
+mod StreamLaws
+mod FeedLaws
+mod PieceLaws
+mod JoinLaws

@@ -1,0 +1,10 @@
+//! How the two servers share what is free of a pool.
+#![tactic(auto)]
+
+mod choosing;
+mod error;
+#[cfg(test)]
+mod tests;
+
+pub use choosing::{choose, target};
+pub use error::BalanceError;
