@@ -1,4 +1,5 @@
--- The binding table: which updates a server accepts, and what they make of its unit.
+-- The binding table: which updates a server accepts, and what they make of its unit. The names are those of RFC 8156; the table is
+-- this project's own.
 use Rattle.std.specs.Prelude.{ℕ, Bool, true, false, ◌+◌, ◌&&◌, ◌||◌, ◌==◌, nat_le, max, Option, Some, None, List, if◌then◌else◌}
 use Rattle.binding_rules.specs.declared.role.Role.{Role}
 use Rattle.binding_rules.specs.declared.role.Role.TheVariants.{Primary, Secondary}
