@@ -1,7 +1,7 @@
 #!/usr/bin/env python3
 """run.py [FOLDER]: times decode and encode of dhcp6_pd against the same walk in plain Rust (plain.rs, rustc -O), on one core.
 
-Makes a workspace in FOLDER (/tmp/dhcp6-bench if not said) of the crates that dhcp6_pd stands on and a program, driver.txt, that
+Makes a workspace in FOLDER (a temporary one if not said) of the crates that dhcp6_pd stands on and a program, driver.txt, that
 reads a datagram and answers it as often as it is told. Proves and builds it there, the first time in some minutes. Each program
 runs five times in turn over the same datagram, and the best of each counts, less what it takes for no datagram. Prints messages
 read and answered per second, and the ratio of times.
@@ -10,6 +10,7 @@ import pathlib
 import shutil
 import subprocess
 import sys
+import tempfile
 import time
 
 HERE = pathlib.Path(__file__).resolve().parent
@@ -48,7 +49,7 @@ def seconds(program, count, datagram):
 
 
 def main():
-    ours, plain = workspace(pathlib.Path(sys.argv[1] if len(sys.argv) > 1 else "/tmp/dhcp6-bench"))
+    ours, plain = workspace(pathlib.Path(sys.argv[1] if len(sys.argv) > 1 else tempfile.mkdtemp()))
     for name, datagram in [("SOLICIT", SOLICIT), ("SOLICIT in two relays", by_relay(by_relay(SOLICIT)))]:
         best = {}
         for _ in range(5):
