@@ -3,3 +3,4 @@ pub mod Unit
 pub mod Giving
 pub mod Table
 pub mod Reply
+pub mod Messages

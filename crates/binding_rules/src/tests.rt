@@ -40,7 +40,7 @@ fn take(role: Role, unit: &Unit, now: Reading, update: &Update) -> Result<(Outco
 
 /// What a server tells its partner of a unit that it changed.
 fn update_of(unit: &Unit, prefix: Prefix, status: Status, binding: &Binding) -> Update {
-    let names_a_client = status != Status::Backup && status != Status::Free;
+    let names_a_client = status.has_client();
     Update {
         status,
         prefix,
@@ -221,85 +221,76 @@ fn renews_for_its_client_alone(rt: HostRuntime) -> Result<(), Fail> {
     Ok(())
 }
 
-#[test]
-fn rejects_what_the_table_lacks(rt: HostRuntime) -> Result<(), Fail> {
-    let prefix = read_canonical(LAST_UNIT)?;
-    let client = binding(CLIENT, 1)?;
-    let other = binding(OTHER_CLIENT, 1)?;
+/// That a server rejects each of these updates of a unit, and keeps all but the reply.
+fn rejects(role: Role, unit: &Unit, updates: &[Update]) -> Result<bool, Fail> {
     let now = Reading::new(10_000)?;
-    let second = Unit {
-        mine: count(2)?,
-        ..Unit::fresh()
-    };
-    let held = given(client, 10_001)?;
-    let released = update_of(&second, prefix, Status::Released, &client);
-    let cases = [
-        // A client's lease isn't over by the own clock.
-        (
-            Role::Primary,
-            held,
-            update_of(&second, prefix, Status::Expired, &client),
-        ),
-        // The release doesn't know the last change here.
-        (Role::Primary, held, released),
-        // Another client's, another identity association's.
-        (
-            Role::Primary,
-            held,
-            update_of(&second, prefix, Status::Active, &other),
-        ),
-        (
-            Role::Primary,
-            held,
-            Update {
-                seen: held.mine,
-                iaid: Iaid(2),
-                ..released
-            },
-        ),
-        // Units move from the primary to the secondary alone.
-        (
-            Role::Primary,
-            Unit::fresh(),
-            update_of(&second, prefix, Status::Backup, &client),
-        ),
-        (
-            Role::Primary,
-            Unit::fresh(),
-            update_of(&second, prefix, Status::Free, &client),
-        ),
-        (
-            Role::Primary,
-            Unit::fresh(),
-            update_of(&second, prefix, Status::Active, &client),
-        ),
-        // An active unit with no client.
-        (
-            Role::Secondary,
-            Unit::fresh(),
-            Update {
-                client: None,
-                ..update_of(&second, prefix, Status::Active, &client)
-            },
-        ),
-    ];
-    for (role, unit, update) in cases {
+    for update in updates {
         let reply = BindReply {
             acknowledgement: Acknowledgement::Reject,
-            prefix,
+            prefix: update.prefix,
             of: update.mine,
             mine: unit.mine,
             seen: unit.seen,
         };
         let rejected = Unit {
             pending: Some(reply),
-            ..unit
+            ..*unit
         };
-        assert_eq!(rt;
-            take(role, &unit, now, &update)?,
-            (Outcome::Reject, rejected)
-        );
+        if take(role, unit, now, update)? != (Outcome::Reject, rejected) {
+            return Ok(false);
+        }
     }
+    Ok(true)
+}
+
+#[test]
+fn rejects_updates_of_a_lease_that_runs(rt: HostRuntime) -> Result<(), Fail> {
+    let prefix = read_canonical(LAST_UNIT)?;
+    let client = binding(CLIENT, 1)?;
+    let second = Unit {
+        mine: count(2)?,
+        ..Unit::fresh()
+    };
+    let held = given(client, 10_001)?;
+    let released = update_of(&second, prefix, Status::Released, &client);
+    let of_another_association = Update {
+        seen: held.mine,
+        iaid: Iaid(2),
+        ..released
+    };
+    let updates = [
+        // The lease isn't over by the own clock.
+        update_of(&second, prefix, Status::Expired, &client),
+        // The release doesn't know the last change here.
+        released,
+        update_of(&second, prefix, Status::Active, &binding(OTHER_CLIENT, 1)?),
+        of_another_association,
+    ];
+    assert!(rt; rejects(Role::Primary, &held, &updates)?);
+    Ok(())
+}
+
+#[test]
+fn rejects_moves_to_the_primary(rt: HostRuntime) -> Result<(), Fail> {
+    let prefix = read_canonical(LAST_UNIT)?;
+    let client = binding(CLIENT, 1)?;
+    let fresh = Unit::fresh();
+    let second = Unit {
+        mine: count(2)?,
+        ..fresh
+    };
+    // Units move from the primary to the secondary alone.
+    let updates = [
+        update_of(&second, prefix, Status::Backup, &client),
+        update_of(&second, prefix, Status::Free, &client),
+        update_of(&second, prefix, Status::Active, &client),
+    ];
+    assert!(rt; rejects(Role::Primary, &fresh, &updates)?);
+    let of_nobody = Update {
+        client: None,
+        ..update_of(&second, prefix, Status::Active, &client)
+    };
+    assert!(rt; rejects(Role::Secondary, &fresh, &[of_nobody])?);
     Ok(())
 }
 

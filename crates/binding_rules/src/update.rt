@@ -1,5 +1,8 @@
 //! What the partners tell each other of a unit.
 
+ghost use Rattle.std.specs.Prelude.{◌≡◌};
+ghost use Rattle.binding_rules.specs.Messages.{has_client, latest_end};
+
 use crate::counter::Counter;
 use client_id::{Duid, Iaid};
 use lead_time::End;
@@ -18,6 +21,29 @@ pub enum Status {
     Backup,
     /// The primary's to give.
     Free,
+}
+
+impl Status {
+    /// Whether a unit of this status is, or was, a client's.
+    pub fn has_client(self) -> bool
+        ensures { result ≡ has_client self }
+    {
+        match self {
+            Status::Active | Status::Expired | Status::Released => true,
+            Status::Backup | Status::Free => false,
+        }
+    }
+
+    /// The latest end that an update of this status tells, in milliseconds: 0, which is none, unless the unit is
+    /// active.
+    pub fn latest_end(self) -> u64
+        ensures { result ≡ latest_end self }
+    {
+        match self {
+            Status::Active => End::MAX,
+            _ => 0,
+        }
+    }
 }
 
 /// A binding update (RFC 8156, section 5: BNDUPD): what a unit became at the sender.

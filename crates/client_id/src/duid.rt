@@ -1,6 +1,6 @@
 //! DHCP unique identifiers.
 
-ghost use Rattle.std.specs.Prelude.{◌≡◌, ◌≤◌, ◌↔◌, ℕ, List, length, Ok, IfOk, IsErrOf, string_bytes};
+ghost use Rattle.std.specs.Prelude.{◌≡◌, ◌≤◌, ◌↔◌, ℕ, List, length, Ok, IfOk, IfErr, IsErrOf, string_bytes};
 ghost use Rattle.text_fields.specs.Octets.{hex};
 ghost use Rattle.client_id.specs.Octets.{padded};
 ghost use Rattle.client_id.specs.Duid.{IsDuid, IsHex, duid_in, duid_of};
@@ -105,7 +105,8 @@ impl Duid {
 
     /// Two lower-case digits for each octet; `Memory` where a growth was refused.
     pub fn to_hex(&self, alloc: Global) -> Result<String, ClientIdError>
-        ensures { IfOk result (λ text. string_bytes text ≡ hex self.now) }
+        ensures text { IfOk result (λ text. string_bytes text ≡ hex self.now) }
+        ensures memory { IfErr result (λ e. e ≡ ClientIdError.Memory) }
     {
         let text = hex::encode(alloc, self.as_bytes())?;
         Ok(text)

@@ -9,7 +9,8 @@ use Rattle.binding_rules.specs.declared.update.Status.{Status}
 use Rattle.binding_rules.specs.declared.update.Status.TheVariants.{Active, Expired, Released, Backup, Free}
 use Rattle.binding_rules.specs.declared.update.Update.{Update}
 use Rattle.binding_rules.specs.declared.update.BindReply.{BindReply}
-use Rattle.failover_message.specs.Frames.{number_octets, count_octets, prefix_octets, client_octets, status_code, verdict_code, role_code, update_octets, reply_octets, greeting_octets, has_client, latest_end, IsUpdate, IsReply}
+use Rattle.failover_message.specs.Frames.{number_octets, count_octets, prefix_octets, client_octets, status_code, verdict_code, role_code, update_octets, reply_octets, greeting_octets}
+use Rattle.binding_rules.specs.Messages.{has_client, latest_end, IsUpdate, IsReply}
 use Rattle.failover_message.specs.Reading.{limited_at, count_at, coded_at, prefix_at, holder_at, status_of, verdict_of, role_of, update_at, reply_at, greeting_at, contact_at}
 use Rattle.failover_message.proofs.FieldLaws.{IsBytes, Takes, Takes-then, limited_takes, limited_again, coded_takes, coded_again}
 use Rattle.failover_message.proofs.CodeLaws.{status_takes, status_again, verdict_takes, verdict_again, role_takes, role_again}

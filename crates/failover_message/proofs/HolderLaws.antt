@@ -10,7 +10,8 @@ use Rattle.client_id.specs.Duid.{IsDuid, duid_in, found_duid}
 use Rattle.client_id.proofs.Filling.{bytes_are_octets}
 use Rattle.prefix_range.specs.Prefix.{Prefix, IsPrefix, size_of}
 use Rattle.prefix_range.specs.Text.{made}
-use Rattle.failover_message.specs.Frames.{number_octets, prefix_octets, client_octets, IsHeld}
+use Rattle.failover_message.specs.Frames.{number_octets, prefix_octets, client_octets}
+use Rattle.binding_rules.specs.Messages.{IsHeld}
 use Rattle.failover_message.specs.Reading.{number_at, octets_at, prefix_at, somebody_at, nobody_at, holder_at}
 use Rattle.failover_message.proofs.FieldLaws.{IsBytes, IsBytes-rest, Takes, Takes-then, none_is, wide32, wide128, number_takes, number_again, octets_take, octets_again}
 

@@ -4,7 +4,8 @@ use Rattle.std.specs.Int.{w32}
 use Rattle.failover_message.specs.declared.frame.FrameKind.{FrameKind}
 use Rattle.failover_message.specs.declared.frame.FrameKind.TheVariants.{BindingUpdate, BindingReply, PoolRequest, PoolResponse, UpdateRequest, UpdateRequestAll, UpdateDone, Connect, ConnectReply, Disconnect, State, Contact}
 use Rattle.failover_message.specs.declared.frame.Frame.{Frame}
-use Rattle.failover_message.specs.Frames.{number_octets, count_octets, client_octets, body_octets, content_octets, has_client, IsHeld, IsBody, IsFrame}
+use Rattle.failover_message.specs.Frames.{number_octets, count_octets, client_octets, body_octets, content_octets, IsBody, IsFrame}
+use Rattle.binding_rules.specs.Messages.{has_client, IsHeld}
 
 client_length : (held : Bool) (iaid : ℕ) (client : Option (List ℕ)) → IsHeld held iaid client → length (client_octets client) ≤ 131
 client_length true iaid (Some client) h = omega (arith, h.1.most)

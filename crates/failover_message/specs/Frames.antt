@@ -2,8 +2,7 @@
 -- project's own.
 use Rattle.std.specs.Prelude.{◌≡◌, ℕ, ◌^◌, ◌<◌, ◌≤◌, Bool, true, false, List, [], ◌∷◌, ◌++◌, length, Option, Some, None, ◌&&◌, nat_le}
 use Rattle.std.specs.Int.{Width, w32, w64, w128, to_be_bytes}
-use Rattle.client_id.specs.Duid.{IsDuid}
-use Rattle.prefix_range.specs.Prefix.{Prefix, IsPrefix}
+use Rattle.prefix_range.specs.Prefix.{Prefix}
 use Rattle.binding_rules.specs.declared.role.Role.{Role}
 use Rattle.binding_rules.specs.declared.role.Role.TheVariants.{Primary, Secondary}
 use Rattle.binding_rules.specs.declared.update.Status.{Status}
@@ -12,6 +11,7 @@ use Rattle.binding_rules.specs.declared.update.Acknowledgement.{Acknowledgement}
 use Rattle.binding_rules.specs.declared.update.Acknowledgement.TheVariants.{Accept, Reject}
 use Rattle.binding_rules.specs.declared.update.Update.{Update}
 use Rattle.binding_rules.specs.declared.update.BindReply.{BindReply}
+use Rattle.binding_rules.specs.Messages.{IsUpdate, IsReply}
 use Rattle.failover_message.specs.declared.frame.ServerState.{ServerState}
 use Rattle.failover_message.specs.declared.frame.ServerState.TheVariants.{Normal, Interrupted, Down}
 use Rattle.failover_message.specs.declared.frame.FrameKind.{FrameKind}
@@ -105,38 +105,6 @@ abbrev pub frame_octets : Frame → List ℕ
 frame_octets f = number_octets w32 (length (content_octets f)) ++ content_octets f
 
 -- ---- the frames that have octets
-
--- a unit of this status is, or was, a client's
-abbrev pub has_client : Status → Bool
-has_client Active = true
-has_client Expired = true
-has_client Released = true
-has_client Backup = false
-has_client Free = false
-
--- the latest end that an update tells: none is told unless the unit is active
-abbrev pub latest_end : Status → ℕ
-latest_end Active = 2 ^ 49
-latest_end _ = 0
-
--- whose a unit is: a client's by its identity association, or nobody's and then the IAID is 0
-abbrev pub IsHeld : Bool → ℕ → Option (List ℕ) → Type 0
-IsHeld true iaid (Some client) = (iaid < 2 ^ 32) × IsDuid client
-IsHeld false iaid None = iaid ≡ 0
-IsHeld _ _ _ = ⊥
-
-pub record IsUpdate (u : Update) : Type 0 where
-  pub prefix : IsPrefix u.prefix
-  pub mine : u.mine ≤ 2 ^ 49
-  pub seen : u.seen ≤ 2 ^ 49
-  pub end : u.end ≤ latest_end u.status
-  pub holder : IsHeld (has_client u.status) u.iaid u.client
-
-pub record IsReply (r : BindReply) : Type 0 where
-  pub prefix : IsPrefix r.prefix
-  pub of : r.of ≤ 2 ^ 49
-  pub mine : r.mine ≤ 2 ^ 49
-  pub seen : r.seen ≤ 2 ^ 49
 
 abbrev pub IsBody : FrameKind → Type 0
 IsBody (BindingUpdate u) = IsUpdate u

@@ -20,7 +20,8 @@ use Rattle.failover_message.specs.declared.frame.ServerState.TheVariants.{Normal
 use Rattle.failover_message.specs.declared.frame.FrameKind.{FrameKind}
 use Rattle.failover_message.specs.declared.frame.FrameKind.TheVariants.{BindingUpdate, BindingReply, PoolRequest, PoolResponse, UpdateRequest, UpdateRequestAll, UpdateDone, Connect, ConnectReply, Disconnect, State, Contact}
 use Rattle.failover_message.specs.declared.frame.Frame.{Frame}
-use Rattle.failover_message.specs.Frames.{has_client, latest_end, is_numbered, is_length}
+use Rattle.failover_message.specs.Frames.{is_numbered, is_length}
+use Rattle.binding_rules.specs.Messages.{has_client, latest_end}
 
 -- what a function found, seen by view, and the octets that it left, are what reading gives
 abbrev pub Moves : {X Y : Type 0} → (X → Y) → Option X → List ℕ → Option (Y × List ℕ) → Type 0

@@ -1,6 +1,6 @@
 //! Frames as octets.
 
-ghost use Rattle.std.specs.Prelude.{◌≡◌, ◌≤◌, ◌++◌, ◌∷◌, [], length, OnOk, IfOk};
+ghost use Rattle.std.specs.Prelude.{◌≡◌, ◌≤◌, ◌++◌, ◌∷◌, [], length, OnOk, IfOk, IfErr};
 ghost use Rattle.std.specs.Int.{w32, w64, w128};
 ghost use Rattle.failover_message.specs.Frames.{status_code, verdict_code, role_code, state_code, kind_code, number_octets, count_octets, prefix_octets, client_octets, update_octets, reply_octets, greeting_octets, body_octets, content_octets, frame_octets};
 
@@ -222,7 +222,8 @@ fn content_len(frame: &Frame) -> u32
 
 /// The octets of a frame; `Memory` where a growth was refused.
 pub fn encode(alloc: Global, frame: &Frame) -> Result<BytesMut, LinkError>
-    ensures { IfOk result (λ octets. octets.items ≡ frame_octets frame.now) }
+    ensures octets { IfOk result (λ octets. octets.items ≡ frame_octets frame.now) }
+    ensures memory { IfErr result (λ e. e ≡ LinkError.Memory) }
 {
     let mut out = BytesMut::with_capacity(alloc, MOST_OCTETS)?;
     put_u32(&mut out, content_len(frame))?;

@@ -103,7 +103,8 @@ pub fn push_prefix(out: &mut Vec<u8>, prefix: &Prefix) -> Result<(), AllocError>
 
 /// The canonical text of a prefix; `Memory` where a growth was refused.
 pub fn write_text(alloc: Global, prefix: Prefix) -> Result<Vec<u8>, PrefixError>
-    ensures { IfOk result (λ text. text.items ≡ prefix_text prefix) }
+    ensures text { IfOk result (λ text. text.items ≡ prefix_text prefix) }
+    ensures memory { IfErr result (λ e. e ≡ PrefixError.Memory) }
 {
     let mut text = Vec::new(alloc);
     push_prefix(&mut text, &prefix)?;
