@@ -4,11 +4,6 @@ use Rattle.text_fields.specs.Pieces.{joined, split}
 use Rattle.text_fields.proofs.PieceLaws.{joined-split}
 use Rattle.attribution_desk.specs.Input.{begins_with_end, first_length, text_length}
 
--- a list of lines, its first and the others
-pub line_last : (lines rest : List (List ℕ)) (line : List ℕ) → lines ≡ line ∷ rest → rest ≡ [] → first_length lines ≡ length line
-unfolding first_length
-line_last lines rest line e none = rw (e, none) refl
-
 ends_by : (b : Bool) (line : List ℕ) (later : ℕ) → b ≡ true → cond b (length line + 1) later ≡ length line + 1
 ends_by true line later e = refl
 ends_by false line later e = absurd cc
@@ -17,28 +12,16 @@ goes_by : (b : Bool) (n later : ℕ) → b ≡ false → cond b n later ≡ late
 goes_by true n later e = absurd cc
 goes_by false n later e = refl
 
-pub line_ends : (lines rest : List (List ℕ)) (line : List ℕ) → lines ≡ line ∷ rest → rest ≢ [] → begins_with_end line ≡ true → first_length lines ≡ length line + 1
+-- a line that others follow
+pub line_ends : (line : List ℕ) (rest : List (List ℕ)) → rest ≢ [] → begins_with_end line ≡ true → first_length (line ∷ rest) ≡ length line + 1
 unfolding first_length
-line_ends lines [] line e some t = absurd (some refl)
-line_ends lines (next ∷ rest) line e some t = rw e (ends_by (begins_with_end line) line (length line + 1 + first_length (next ∷ rest)) t)
+line_ends line [] some t = absurd (some refl)
+line_ends line (next ∷ rest) some t = ends_by (begins_with_end line) line (length line + 1 + first_length (next ∷ rest)) t
 
-pub line_goes : (lines rest : List (List ℕ)) (line : List ℕ) → lines ≡ line ∷ rest → rest ≢ [] → begins_with_end line ≡ false → first_length lines ≡ length line + 1 + first_length rest
+pub line_goes : (line : List ℕ) (rest : List (List ℕ)) → rest ≢ [] → begins_with_end line ≡ false → first_length (line ∷ rest) ≡ length line + 1 + first_length rest
 unfolding first_length
-line_goes lines [] line e some t = absurd (some refl)
-line_goes lines (next ∷ rest) line e some t = rw e (goes_by (begins_with_end line) (length line + 1) (length line + 1 + first_length (next ∷ rest)) t)
-
-at_least : (b : Bool) (n more : ℕ) → n ≤ cond b n (n + more)
-at_least true n more = omega arith
-at_least false n more = omega arith
-
-pub line_more : (lines rest : List (List ℕ)) (line : List ℕ) → lines ≡ line ∷ rest → rest ≢ [] → length line + 1 ≤ first_length lines
-unfolding first_length
-line_more lines [] line e some = absurd (some refl)
-line_more lines (next ∷ rest) line e some = rw e (at_least (begins_with_end line) (length line + 1) (first_length (next ∷ rest)))
-
-pub lines_none : (lines : List (List ℕ)) → lines ≡ [] → first_length lines ≡ 0
-unfolding first_length
-lines_none lines e = rw e refl
+line_goes line [] some t = absurd (some refl)
+line_goes line (next ∷ rest) some t = goes_by (begins_with_end line) (length line + 1) (length line + 1 + first_length (next ∷ rest)) t
 
 -- no text is longer than the input
 least_by : (b : Bool) (n later most : ℕ) → n ≤ most → later ≤ most → cond b n later ≤ most

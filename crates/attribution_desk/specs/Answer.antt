@@ -1,5 +1,6 @@
 -- What the desk answers to an input.
-use Rattle.std.specs.Prelude.{◌≡◌, ℕ, List, take, drop}
+use Rattle.std.specs.Prelude.{◌≡◌, ℕ, List, take, drop, Option, IfSome}
+use Rattle.std.specs.Io.KnownBytes.{Appends}
 use Rattle.attribution.specs.declared.verdict.Verdict.{Verdict}
 use Rattle.attribution.specs.declared.verdict.Verdict.TheVariants.{Accepted}
 use Rattle.attribution.specs.VerdictText.{verdict_line}
@@ -22,3 +23,7 @@ abbrev pub IsAnswer : List ℕ → ℕ → List ℕ → ℕ → Type 0
 IsAnswer input skew line status =
     (v : Verdict) × IsVerdictOfTexts (first_text input) (first_text (text_behind input)) (text_behind (text_behind input)) skew v
     × (line ≡ verdict_line v) × (status ≡ status_of v)
+
+-- where it is known what the reader had to give, the answer to all of that was written, behind what the writer held
+abbrev pub IsAnswered : ℕ → Option (List ℕ) → Option (List ℕ) → Option (List ℕ) → ℕ → Type 0
+IsAnswered skew input held written status = IfSome input (λ octets. (line : List ℕ) × IsAnswer octets skew line status × Appends held written line)

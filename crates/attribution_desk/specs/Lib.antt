@@ -2,3 +2,4 @@ pub mod Words
 pub mod Given
 pub mod Input
 pub mod Answer
+pub mod Intake

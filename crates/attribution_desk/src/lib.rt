@@ -2,11 +2,15 @@
 #![tactic(auto)]
 
 mod answer;
+mod audit;
 mod command;
+mod end_line;
 mod error;
-mod input;
+mod intake;
+mod journal_intake;
 
-pub use answer::{Answer, judge, run};
+pub use answer::Answer;
+pub use audit::{judge, run};
 pub use command::{Command, command_of};
 pub use error::{DeskError, UsageError};
-pub use input::{cut_text, read_input};
+pub use intake::Intake;

@@ -1,7 +1,8 @@
 -- Journals that were read are closed, and what is accepted of texts is accepted of what they spell.
-use Rattle.std.proofs.Common.{◌≡◌, ℕ, zero, suc, ◌+◌, ◌<◌, List, [], ◌∷◌, length, Some, Ok, ap, subst, ◌∙◌, arith}
-use Rattle.std.specs.Prelude.{slice_get, IsTrue, ◌↔◌}
+use Rattle.std.proofs.Common.{◌≡◌, ℕ, zero, suc, ◌+◌, ◌<◌, List, [], ◌∷◌, length, Some, Result, Ok, ap, subst, ◌∙◌, arith}
+use Rattle.std.specs.Prelude.{slice_get, IsTrue, ◌↔◌, IfOk}
 use Rattle.binding_rules.specs.declared.role.Role.TheVariants.{Primary, Secondary}
+use Rattle.journal_lines.specs.declared.fault.JournalFault.{JournalFault}
 use Rattle.journal_lines.specs.declared.line.Line.{Line}
 use Rattle.journal_lines.specs.declared.line.Journal.{Journal as Lines}
 use Rattle.journal_lines.specs.Close.{is_close}
@@ -20,8 +21,9 @@ use Rattle.attribution.proofs.Deciding.{decides_close}
 use Rattle.attribution.proofs.Refusals.{accepted_from}
 use Rattle.attribution.proofs.Runs.{headline}
 use Rattle.attribution.proofs.Serials.{legal_once}
+use Rattle.auditor.specs.declared.texts.AuditError.{AuditError}
 use Rattle.auditor.specs.Closing.{IsClosed}
-use Rattle.auditor.specs.Texts.{journals_of, IsVerdictOfReadings, IsVerdictOfTexts, TextsAreTrueInEveryRun}
+use Rattle.auditor.specs.Texts.{journals_of, IsVerdictOfReadings, ReadingsAreTrueInEveryRun, TextsAreTrueInEveryRun}
 
 -- ---- closed journals
 
@@ -48,18 +50,23 @@ written_closed j h = record { some = some_lines j.lines h.closing; few = omega (
 
 -- ---- the headline over texts
 
-pub accepted_texts : (a b certificate : List ℕ) (skew : ℕ) → IsVerdictOfTexts a b certificate skew Accepted → TextsAreTrueInEveryRun a b certificate skew
-accepted_texts a b certificate skew v ja jb claim sa sb sc =
-    let ra : side_reading Primary a ≡ Ok ja = ap (side_reading Primary) sa.spelled ∙ side_again Primary ja sa.written sa.of_side in
-    let rb : side_reading Secondary b ≡ Ok jb = ap (side_reading Secondary) sb.spelled ∙ side_again Secondary jb sb.written sb.of_side in
+pub accepted_read : (a b : Result Lines JournalFault) (certificate : List ℕ) (skew : ℕ) (r : Result Verdict AuditError) → r ≡ Ok Accepted → IfOk r (IsVerdictOfReadings a b skew (reading_of certificate)) → ReadingsAreTrueInEveryRun a b certificate skew
+accepted_read a b certificate skew r accepted h ja jb claim ra rb sc =
     let rc : reading_of certificate ≡ Ok claim = ap reading_of sc.spelled ∙ reading_again claim sc.written in
-    let first = subst (λ r. IsVerdictOfReadings r (side_reading Secondary b) skew (reading_of certificate) Accepted) ra v in
-    let second = subst (λ r. IsVerdictOfReadings (Ok ja) r skew (reading_of certificate) Accepted) rb first in
-    let third : IsVerdict (journals_of ja jb) skew claim Accepted = subst (λ r. IsVerdictOfReadings (Ok ja) (Ok jb) skew r Accepted) rc second in
+    let read : IsVerdictOfReadings a b skew (reading_of certificate) Accepted = subst (λ x. IfOk x (IsVerdictOfReadings a b skew (reading_of certificate))) accepted h in
+    let first = subst (λ x. IsVerdictOfReadings x b skew (reading_of certificate) Accepted) ra read in
+    let second = subst (λ x. IsVerdictOfReadings (Ok ja) x skew (reading_of certificate) Accepted) rb first in
+    let third : IsVerdict (journals_of ja jb) skew claim Accepted = subst (λ x. IsVerdictOfReadings (Ok ja) (Ok jb) skew x Accepted) rc second in
     headline IsLegal legal_once (journals_of ja jb) skew claim (accepted_from (journals_of ja jb) skew claim third)
 
--- the verdict on what three texts spell is that on the texts
-pub verdict_of : (a b certificate : List ℕ) (skew : ℕ) (v : Verdict) (ja jb : Lines) (claim : Claim) (js : Journals)
-    → side_reading Primary a ≡ Ok ja → side_reading Secondary b ≡ Ok jb → reading_of certificate ≡ Ok claim → js ≡ journals_of ja jb → IsVerdict js skew claim v
-    → IsVerdictOfTexts a b certificate skew v
+-- what is true of readings is true of the texts
+pub texts_read : (a b certificate : List ℕ) (skew : ℕ) (ra rb : Result Lines JournalFault) → ra ≡ side_reading Primary a → rb ≡ side_reading Secondary b
+    → ReadingsAreTrueInEveryRun ra rb certificate skew → TextsAreTrueInEveryRun a b certificate skew
+texts_read a b certificate skew ra rb ea eb h ja jb claim sa sb sc =
+    h ja jb claim (ea ∙ (ap (side_reading Primary) sa.spelled ∙ side_again Primary ja sa.written sa.of_side)) (eb ∙ (ap (side_reading Secondary) sb.spelled ∙ side_again Secondary jb sb.written sb.of_side)) sc
+
+-- the verdict on what was read
+pub verdict_of : (a b : Result Lines JournalFault) (certificate : List ℕ) (skew : ℕ) (v : Verdict) (ja jb : Lines) (claim : Claim) (js : Journals)
+    → a ≡ Ok ja → b ≡ Ok jb → reading_of certificate ≡ Ok claim → js ≡ journals_of ja jb → IsVerdict js skew claim v
+    → IsVerdictOfReadings a b skew (reading_of certificate) v
 verdict_of a b certificate skew v ja jb claim js ra rb rc e h = rw (ra, rb, rc) (subst (λ x. IsVerdict x skew claim v) e h)

@@ -48,6 +48,11 @@ pub record SpellsCertificate (text : List ℕ) (claim : Claim) : Type 0 where
   pub written : IsWrittenCertificate claim
   pub spelled : text ≡ certificate_text claim
 
+-- the certificate that the text spells is true in every run that leaves the journals that reading gave
+abbrev pub ReadingsAreTrueInEveryRun : Result Lines JournalFault → Result Lines JournalFault → List ℕ → ℕ → Type 0
+ReadingsAreTrueInEveryRun a b certificate skew = (ja jb : Lines) (claim : Claim) → a ≡ Ok ja → b ≡ Ok jb → SpellsCertificate certificate claim
+    → IsTrueInEveryRun IsLegal (journals_of ja jb) skew claim
+
 -- the certificate that the third text spells is true in every run that leaves the journals that the first two spell
 abbrev pub TextsAreTrueInEveryRun : (a b certificate : List ℕ) → ℕ → Type 0
 TextsAreTrueInEveryRun a b certificate skew = (ja jb : Lines) (claim : Claim)

@@ -15,4 +15,4 @@ pub use auditing::audit;
 pub use grants::reason_holds;
 pub use plain::PlainSource;
 pub use source::LineSource;
-pub use texts::{AuditError, audit_bytes};
+pub use texts::{AuditError, audit_bytes, audit_read};

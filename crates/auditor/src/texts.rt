@@ -1,13 +1,18 @@
-//! The audit of three texts.
+//! The audit of journals that were read and of texts.
 
 ghost use Rattle.std.specs.Prelude.{◌≡◌, IfOk};
-ghost use Rattle.auditor.specs.Texts.{IsVerdictOfTexts, TextsAreTrueInEveryRun};
+ghost use Rattle.std.specs.Result.{ForOk};
+ghost use Rattle.journal_text.specs.Faults.{side_reading};
+ghost use Rattle.certificate.specs.Faults.{reading_of};
+ghost use Rattle.auditor.specs.Closing.{IsClosed};
+ghost use Rattle.auditor.specs.Texts.{IsVerdictOfReadings, IsVerdictOfTexts, ReadingsAreTrueInEveryRun, TextsAreTrueInEveryRun};
 
 use crate::auditing::audit;
 use crate::plain::PlainSource;
 use attribution::Verdict;
 use binding_rules::Role;
 use certificate::CertificateError;
+use journal_lines::{Journal, JournalFault};
 use journal_text::{JournalError, read_side};
 use lead_time::Skew;
 use std::alloc::Global;
@@ -21,24 +26,24 @@ pub enum AuditError {
     Memory,
 }
 
-fn verdict_on_texts(
+fn verdict_on_readings(
     alloc: Global,
-    a: &[u8],
-    b: &[u8],
+    a: Result<Journal, JournalFault>,
+    b: Result<Journal, JournalFault>,
     certificate: &[u8],
     skew: Skew,
 ) -> Result<Verdict, AuditError>
-    ensures { IfOk result (IsVerdictOfTexts a.now b.now certificate.now skew) }
+    requires a_closed { ForOk a (λ journal. IsClosed journal.lines) }
+    requires b_closed { ForOk b (λ journal. IsClosed journal.lines) }
+    ensures { IfOk result (IsVerdictOfReadings a b skew (reading_of certificate.now)) }
 {
-    let primary = match read_side(alloc, Role::Primary, a) {
+    let primary = match a {
         Ok(journal) => journal,
-        Err(JournalError::Fault(fault)) => return Ok(Verdict::Journal(Role::Primary, fault)),
-        Err(JournalError::Memory) => return Err(AuditError::Memory),
+        Err(fault) => return Ok(Verdict::Journal(Role::Primary, fault)),
     };
-    let secondary = match read_side(alloc, Role::Secondary, b) {
+    let secondary = match b {
         Ok(journal) => journal,
-        Err(JournalError::Fault(fault)) => return Ok(Verdict::Journal(Role::Secondary, fault)),
-        Err(JournalError::Memory) => return Err(AuditError::Memory),
+        Err(fault) => return Ok(Verdict::Journal(Role::Secondary, fault)),
     };
     let claim = match certificate::read(alloc, certificate) {
         Ok(claim) => claim,
@@ -47,6 +52,41 @@ fn verdict_on_texts(
     };
     let source = PlainSource::new(&primary, &secondary);
     Ok(audit(&source, &claim, skew))
+}
+
+/// Judges the certificate that a text spells over what reading the journals of side A and of side B gave: the first
+/// of the faults of A's journal, of B's and of the certificate's text, then the verdict of `audit`. `Memory` where a
+/// growth was refused.
+pub fn audit_read(
+    alloc: Global,
+    a: Result<Journal, JournalFault>,
+    b: Result<Journal, JournalFault>,
+    certificate: &[u8],
+    skew: Skew,
+) -> Result<Verdict, AuditError>
+    requires a_closed { ForOk a (λ journal. IsClosed journal.lines) }
+    requires b_closed { ForOk b (λ journal. IsClosed journal.lines) }
+    ensures verdict { IfOk result (IsVerdictOfReadings a b skew (reading_of certificate.now)) }
+    // What is accepted is true in every run of the pair that leaves these journals.
+    ensures headline { result ≡ Ok Verdict.Accepted → ReadingsAreTrueInEveryRun a b certificate.now skew }
+{
+    verdict_on_readings(alloc, a, b, certificate, skew)
+}
+
+/// The journal of this side that a text spells, or its first fault.
+fn reading(
+    alloc: Global,
+    side: Role,
+    text: &[u8],
+) -> Result<Result<Journal, JournalFault>, AuditError>
+    ensures exact { IfOk result (λ read. read ≡ side_reading side text.now) }
+    ensures closed { IfOk result (λ read. ForOk read (λ journal. IsClosed journal.lines)) }
+{
+    match read_side(alloc, side, text) {
+        Ok(journal) => Ok(Ok(journal)),
+        Err(JournalError::Fault(fault)) => Ok(Err(fault)),
+        Err(JournalError::Memory) => Err(AuditError::Memory),
+    }
 }
 
 /// Judges the certificate that the third text spells over the journals of side A and side B that the first two
@@ -64,5 +104,10 @@ pub fn audit_bytes(
     // of true time.
     ensures headline { result ≡ Ok Verdict.Accepted → TextsAreTrueInEveryRun a.now b.now certificate.now skew }
 {
-    verdict_on_texts(alloc, a, b, certificate, skew)
+    let primary = match reading(alloc, Role::Primary, a)? {
+        Ok(journal) => journal,
+        Err(fault) => return Ok(Verdict::Journal(Role::Primary, fault)),
+    };
+    let secondary = reading(alloc, Role::Secondary, b)?;
+    audit_read(alloc, Ok(primary), secondary, certificate, skew)
 }

@@ -12,6 +12,8 @@ mod headline;
 #[cfg(test)]
 mod inputs;
 #[cfg(test)]
+mod pieces;
+#[cfg(test)]
 mod round_trips;
 mod texts;
 #[cfg(test)]

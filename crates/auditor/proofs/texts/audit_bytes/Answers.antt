@@ -1,9 +1,6 @@
-use Rattle.std.proofs.Common.{subst}
-use Rattle.std.specs.Prelude.{IfOk}
-use Rattle.auditor.specs.Texts.{IsVerdictOfTexts}
-use Rattle.auditor.proofs.TextVerdicts.{accepted_texts}
+use Rattle.std.proofs.Common.{sym, ◌∙◌}
+use Rattle.auditor.proofs.TextVerdicts.{texts_read}
 use Rattle.auditor.proofs.texts.audit_bytes.Goals as goal
 
 pub returns-clause-headline : goal.returns-clause-headline
-returns-clause-headline c accepted =
-    accepted_texts _ _ _ _ (subst (λ r. IfOk r (IsVerdictOfTexts c.args.a.now c.args.b.now c.args.certificate.now c.args.skew)) accepted c.verdict_on_texts.ensures)
+returns-clause-headline c accepted = texts_read _ _ _ _ _ _ (sym c.in-Ok.is ∙ c.in_ok-journal.ensures.exact) c.in_ok-secondary.ensures.exact (c.audit_read.ensures.headline accepted)

@@ -1,0 +1,41 @@
+-- Standard input that comes in pieces.
+use Rattle.std.specs.Prelude.{◌≡◌, ℕ, ◌+◌, Bool, true, false, List, ◌++◌, length}
+use Rattle.text_fields.specs.Pieces.{Lacks}
+use Rattle.binding_rules.specs.declared.role.Role.{Role}
+use Rattle.binding_rules.specs.declared.role.Role.TheVariants.{Primary, Secondary}
+use Rattle.journal_text.specs.Faults.{side_reading}
+use Rattle.journal_text.specs.Stages.{HasTaken as HasRead}
+use Rattle.attribution_desk.specs.declared.journal_intake.JournalIntake.{JournalIntake}
+use Rattle.attribution_desk.specs.declared.intake.Intake.{Intake}
+use Rattle.attribution_desk.specs.Input.{text_length}
+use Rattle.attribution_desk.specs.Answer.{first_text, text_behind}
+
+-- this is the first text, whatever follows
+abbrev pub IsWhole : List ℕ → Type 0
+IsWhole text = (more : List ℕ) → text_length (text ++ more) ≡ length text
+
+-- the input's first text stays, whatever follows
+abbrev pub HasEnded : List ℕ → Type 0
+HasEnded input = (more : List ℕ) → text_length (input ++ more) ≡ text_length input
+
+-- The input's first text goes on, in a line that begins with these octets: whatever follows, as much of that belongs to
+-- it as behind these octets alone.
+pub record GoesOn (input line : List ℕ) : Type 0 where
+  pub unbroken : Lacks 10 line
+  pub alike : (more : List ℕ) → text_length (input ++ more) + length line ≡ length input + text_length (line ++ more)
+
+-- the input's first text has ended, or else goes on in such a line
+abbrev pub Stands : Bool → List ℕ → List ℕ → Type 0
+Stands true line input = HasEnded input
+Stands false line input = GoesOn input line
+
+-- the intake of this side's journal has taken its text, the first of the input
+pub record HasTakenFirst (side : Role) (intake : JournalIntake) (input : List ℕ) : Type 0 where
+  pub read : HasRead (side_reading side) intake.reader (first_text input)
+  pub stands : Stands intake.is_ended intake.line.items input
+
+-- the intake has taken this input: journal A, journal B and the certificate, as far as they have come
+pub record HasTaken (intake : Intake) (input : List ℕ) : Type 0 where
+  pub primary : HasTakenFirst Primary intake.primary input
+  pub secondary : HasTakenFirst Secondary intake.secondary (text_behind input)
+  pub certificate : intake.certificate.items ≡ text_behind (text_behind input)
