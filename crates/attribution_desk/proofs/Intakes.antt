@@ -1,5 +1,7 @@
 -- What the intakes have taken.
-use Rattle.std.proofs.Common.{◌≡◌, ℕ, true, false, List, [], ◌++◌, length, take, drop, Result, Ok, sym, ap, subst, ◌∙◌, append_assoc}
+use Rattle.std.proofs.Common.{◌≡◌, ℕ, Some, None, List, [], ◌++◌, length, take, drop, Result, Ok, sym, ap, subst, ◌∙◌, append_assoc}
+use Rattle.std.specs.declared.vec.Vec.{Vec}
+use Rattle.std.specs.declared.alloc.Global.{Global}
 use Rattle.std.proofs.lemmas.List.{take-append-drop, take-append-le, drop-append-le}
 use Rattle.std.proofs.Math.Seq.{take-length, drop-length, take-append_seam, drop-append_seam}
 use Rattle.binding_rules.specs.declared.role.Role.{Role}
@@ -15,7 +17,7 @@ use Rattle.attribution_desk.specs.declared.intake.Intake.{Intake}
 use Rattle.attribution_desk.specs.declared.journal_intake.JournalIntake.{JournalIntake}
 use Rattle.attribution_desk.specs.Input.{text_length}
 use Rattle.attribution_desk.specs.Answer.{first_text, text_behind}
-use Rattle.attribution_desk.specs.Intake.{IsWhole, HasEnded, GoesOn, Stands, HasTakenFirst, HasTaken}
+use Rattle.attribution_desk.specs.Intake.{IsWhole, HasEnded, GoesOn, HasTakenFirst, HasTaken}
 use Rattle.attribution_desk.proofs.Lines.{text_within}
 use Rattle.attribution_desk.proofs.EndLines.{all_of}
 
@@ -54,52 +56,52 @@ module _ (text rest : List ℕ) (h : IsWhole text) where
 -- ---- what a journal's intake takes of a piece
 
 module _ (side : Role) (old : JournalIntake) (piece input : List ℕ) (h : HasTakenFirst side old input) where
-  module _ (is : old.is_ended ≡ true) where
+  module _ (is : old.line ≡ None) where
     ended : HasEnded input
-    ended = subst (λ b. Stands b old.line.items input) is h.stands
+    ended = rw is at h.stands
 
     pub nothing_taken : HasTakenFirst side old (input ++ piece)
     nothing_taken = record {
       read = subst (HasRead (side_reading side) old.reader) (sym (first_stays input piece ended)) h.read;
-      stands = subst (λ b. Stands b old.line.items (input ++ piece)) (sym is) (still_ended input piece ended);
+      stands = rw is (still_ended input piece ended);
     }
 
     pub all_left : text_behind (input ++ piece) ≡ text_behind input ++ piece
     all_left = behind_grows input piece ended
 
-  module _ (is : old.is_ended ≡ false) where
-    goes : GoesOn input old.line.items
-    goes = subst (λ b. Stands b old.line.items input) is h.stands
+  module _ (line : Vec ℕ Global) (is : old.line ≡ Some line) where
+    goes : GoesOn input line.items
+    goes = rw is at h.stands
 
     all_read : HasRead (side_reading side) old.reader input
-    all_read = subst (HasRead (side_reading side) old.reader) (all_first input old.line.items goes) h.read
+    all_read = subst (HasRead (side_reading side) old.reader) (all_first input line.items goes) h.read
 
     -- all of it
-    module _ (next : List ℕ) (line : (text : List ℕ) → GoesOn text old.line.items → GoesOn (text ++ piece) next) where
+    module _ (next : List ℕ) (on : (text : List ℕ) → GoesOn text line.items → GoesOn (text ++ piece) next) where
       pub nothing_left : text_behind (input ++ piece) ≡ text_behind input ++ drop (length piece) piece
-      nothing_left = none_behind (input ++ piece) next (line input goes) ∙ sym (ap (λ t. t ++ drop (length piece) piece) (none_behind input old.line.items goes) ∙ drop-length piece)
+      nothing_left = none_behind (input ++ piece) next (on input goes) ∙ sym (ap (λ t. t ++ drop (length piece) piece) (none_behind input line.items goes) ∙ drop-length piece)
 
-    module _ (new : JournalIntake) (still : new.is_ended ≡ false) (line : (text : List ℕ) → GoesOn text old.line.items → GoesOn (text ++ piece) new.line.items)
+    module _ (new : JournalIntake) (next : Vec ℕ Global) (still : new.line ≡ Some next) (on : (text : List ℕ) → GoesOn text line.items → GoesOn (text ++ piece) next.items)
         (read : (reading : List ℕ → Result Journal JournalFault) (text : List ℕ) → HasRead reading old.reader text → HasRead reading new.reader (text ++ piece)) where
       pub all_taken : HasTakenFirst side new (input ++ piece)
       all_taken = record {
-        read = subst (HasRead (side_reading side) new.reader) (sym (all_first (input ++ piece) new.line.items (line input goes))) (read (side_reading side) input all_read);
-        stands = subst (λ b. Stands b new.line.items (input ++ piece)) (sym still) (line input goes);
+        read = subst (HasRead (side_reading side) new.reader) (sym (all_first (input ++ piece) next.items (on input goes))) (read (side_reading side) input all_read);
+        stands = rw still (on input goes);
       }
 
     -- up to the end of the text
-    module _ (count : ℕ) (whole : (text : List ℕ) → GoesOn text old.line.items → IsWhole (text ++ take count piece)) where
+    module _ (count : ℕ) (whole : (text : List ℕ) → GoesOn text line.items → IsWhole (text ++ take count piece)) where
       cut : (input ++ take count piece) ++ drop count piece ≡ input ++ piece
       cut = append_assoc input (take count piece) (drop count piece) ∙ ap (λ t. input ++ t) (take-append-drop count piece)
 
       pub rest_left : text_behind (input ++ piece) ≡ text_behind input ++ drop count piece
-      rest_left = sym (ap text_behind cut) ∙ (whole_behind (input ++ take count piece) (drop count piece) (whole input goes) ∙ sym (ap (λ t. t ++ drop count piece) (none_behind input old.line.items goes)))
+      rest_left = sym (ap text_behind cut) ∙ (whole_behind (input ++ take count piece) (drop count piece) (whole input goes) ∙ sym (ap (λ t. t ++ drop count piece) (none_behind input line.items goes)))
 
-      module _ (new : JournalIntake) (over : new.is_ended ≡ true) (read : (reading : List ℕ → Result Journal JournalFault) (text : List ℕ) → HasRead reading old.reader text → HasRead reading new.reader (text ++ take count piece)) where
+      module _ (new : JournalIntake) (over : new.line ≡ None) (read : (reading : List ℕ → Result Journal JournalFault) (text : List ℕ) → HasRead reading old.reader text → HasRead reading new.reader (text ++ take count piece)) where
         pub end_taken : HasTakenFirst side new (input ++ piece)
         end_taken = subst (HasTakenFirst side new) cut (record {
           read = subst (HasRead (side_reading side) new.reader) (sym (whole_first (input ++ take count piece) (drop count piece) (whole input goes))) (read (side_reading side) input all_read);
-          stands = subst (λ b. Stands b new.line.items ((input ++ take count piece) ++ drop count piece)) (sym over) (whole_ended (input ++ take count piece) (drop count piece) (whole input goes));
+          stands = rw over (whole_ended (input ++ take count piece) (drop count piece) (whole input goes));
         })
 
 -- a journal that reading gives is closed

@@ -1,5 +1,5 @@
 -- Standard input that comes in pieces.
-use Rattle.std.specs.Prelude.{◌≡◌, ℕ, ◌+◌, Bool, true, false, List, ◌++◌, length}
+use Rattle.std.specs.Prelude.{◌≡◌, ℕ, ◌+◌, List, ◌++◌, length, MatchOption}
 use Rattle.text_fields.specs.Pieces.{Lacks}
 use Rattle.binding_rules.specs.declared.role.Role.{Role}
 use Rattle.binding_rules.specs.declared.role.Role.TheVariants.{Primary, Secondary}
@@ -24,15 +24,11 @@ pub record GoesOn (input line : List ℕ) : Type 0 where
   pub unbroken : Lacks 10 line
   pub alike : (more : List ℕ) → text_length (input ++ more) + length line ≡ length input + text_length (line ++ more)
 
--- the input's first text has ended, or else goes on in such a line
-abbrev pub Stands : Bool → List ℕ → List ℕ → Type 0
-Stands true line input = HasEnded input
-Stands false line input = GoesOn input line
-
--- the intake of this side's journal has taken its text, the first of the input
+-- The intake of this side's journal has taken its text, the first of the input, which has ended or else goes on in the line
+-- that begins so.
 pub record HasTakenFirst (side : Role) (intake : JournalIntake) (input : List ℕ) : Type 0 where
   pub read : HasRead (side_reading side) intake.reader (first_text input)
-  pub stands : Stands intake.is_ended intake.line.items input
+  pub stands : MatchOption intake.line (HasEnded input) (λ line. GoesOn input line.items)
 
 -- the intake has taken this input: journal A, journal B and the certificate, as far as they have come
 pub record HasTaken (intake : Intake) (input : List ℕ) : Type 0 where

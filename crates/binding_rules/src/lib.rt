@@ -6,8 +6,6 @@ mod giving;
 mod role;
 mod table;
 mod taking;
-#[cfg(test)]
-mod tests;
 mod unit;
 mod update;
 

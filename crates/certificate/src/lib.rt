@@ -7,8 +7,6 @@ mod fields;
 mod line;
 mod reading;
 mod reasons;
-#[cfg(test)]
-mod tests;
 mod text_lines;
 mod writing;
 

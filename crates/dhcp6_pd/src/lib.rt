@@ -2,10 +2,6 @@
 //! not, and its answers.
 #![tactic(auto)]
 
-#[cfg(test)]
-mod capture_tests;
-#[cfg(test)]
-mod captures;
 mod decoding;
 mod error;
 mod heard;
@@ -18,8 +14,6 @@ mod option_code;
 mod options;
 mod said;
 mod size;
-#[cfg(test)]
-mod tests;
 mod writing;
 
 pub use decoding::decode;

@@ -11,8 +11,6 @@ mod fields;
 mod frame;
 mod laws;
 mod octets;
-#[cfg(test)]
-mod tests;
 mod writing;
 
 pub use body::Body;

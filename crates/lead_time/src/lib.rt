@@ -7,8 +7,6 @@ mod error;
 mod lease;
 mod reading;
 mod skew;
-#[cfg(test)]
-mod tests;
 
 pub use bounds::{earliest, latest};
 pub use end::End;

@@ -3,8 +3,6 @@
 
 mod choosing;
 mod error;
-#[cfg(test)]
-mod tests;
 
 pub use choosing::{choose, target};
 pub use error::BalanceError;

@@ -9,8 +9,6 @@ mod numeral;
 mod pool;
 mod prefix;
 mod row;
-#[cfg(test)]
-mod tests;
 mod text;
 
 pub use canonical::{push_prefix, read_canonical, write_text};

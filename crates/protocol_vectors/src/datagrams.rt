@@ -1,8 +1,10 @@
-use crate::{
+//! Datagrams of clients and relays, and the answers to them.
+
+use client_id::{Duid, Iaid};
+use dhcp6_pd::{
     ClientKind, ClientMessage, IaPd, IaReply, IaReplyAnswer, IaReplyList, InterfaceId, PdError,
     PdFault, Relay, RelayList, ServerKind, ServerMessage, decode, encode,
 };
-use client_id::{Duid, Iaid};
 use prefix_range::Prefix;
 use std::alloc::Global;
 use std::test::Fail;

@@ -1,7 +1,9 @@
+//! Frames of the link, whole and in pieces.
+
 ghost use Rattle.std.specs.Prelude.{◌≤◌};
 
-use crate::{Feed, Frame, FrameKind, LinkError, decode, encode};
 use binding_rules::{Counter, Role, Status};
+use failover_message::{Feed, Frame, FrameKind, LinkError, decode, encode};
 use std::alloc::Global;
 use std::test::Fail;
 use text_fields::{is_hex, octets_of};

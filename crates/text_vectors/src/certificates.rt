@@ -1,5 +1,7 @@
-use crate::{CertificateError, CertificateFault, Reason, Why, read, write};
+//! Certificates' texts.
+
 use binding_rules::Role;
+use certificate::{CertificateError, CertificateFault, Reason, Why, read, write};
 use std::alloc::{AllocError, Global};
 use std::test::Fail;
 

@@ -1,4 +1,6 @@
-use crate::{End, Reading, Skew, allowed_valid, ended, own_end, told_end};
+//! The sums of the lead-time rule.
+
+use lead_time::{End, Reading, Skew, allowed_valid, ended, own_end, told_end};
 use std::test::Fail;
 
 /// A desired lifetime of an hour, in seconds.

@@ -1,4 +1,6 @@
-use crate::{
+//! The binding table, and the story of a unit.
+
+use binding_rules::{
     Acknowledgement, BindReply, Binding, Counter, Outcome, Role, Status, Unit, UnitStatus, Update,
     grantable, renewable, take_reply, take_update,
 };

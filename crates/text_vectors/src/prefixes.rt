@@ -1,4 +1,6 @@
-use crate::{Prefix, PrefixError, read_text};
+//! Prefixes as people write them.
+
+use prefix_range::{Prefix, PrefixError, read_text};
 use std::test::Fail;
 
 /// A text, and the address and length that it spells.

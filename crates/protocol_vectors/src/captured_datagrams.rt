@@ -1,8 +1,10 @@
+//! What captured datagrams read as, whole, cut and altered.
+
 ghost use Rattle.std.specs.Prelude.{◌<◌};
 
 use crate::captures::CAPTURES;
-use crate::tests::{octets, read, read_text};
-use crate::{ClientKind, ClientMessage, PdError, PdFault, Relay};
+use crate::datagrams::{octets, read, read_text};
+use dhcp6_pd::{ClientKind, ClientMessage, PdError, PdFault, Relay};
 use prefix_range::{Prefix, push_prefix};
 use std::alloc::{AllocError, Global};
 use std::test::Fail;

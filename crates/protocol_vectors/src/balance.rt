@@ -1,5 +1,7 @@
-use crate::{choose, target};
+//! How many units the secondary gets, and which.
+
 use binding_rules::Status;
+use pool_balance::{choose, target};
 use prefix_range::{Prefix, unit};
 use std::test::Fail;
 

@@ -1,0 +1,11 @@
+//! Vectors from outside for the texts: prefixes, journals, certificates.
+#![tactic(auto)]
+
+#[cfg(test)]
+mod certificates;
+#[cfg(test)]
+mod journal_pieces;
+#[cfg(test)]
+mod journals;
+#[cfg(test)]
+mod prefixes;
