@@ -12,7 +12,7 @@ use Rattle.journal_lines.specs.declared.event.Event.{Event}
 use Rattle.journal_lines.specs.declared.event.Event.TheVariants.{Grant, Close}
 use Rattle.journal_lines.specs.declared.event.Lease.{Lease}
 use Rattle.journal_lines.specs.declared.line.Line.{Line}
-use Rattle.causal_order.specs.declared.reference.Ref.{Ref}
+use Rattle.claims.specs.declared.reference.Ref.{Ref}
 use Rattle.causal_order.specs.Journals.{Journals, line_of}
 use Rattle.causal_order.proofs.Deciding.{decides_le, decides_lt, decides_ref, line_names, names_line, decides_written_from, decides_precedes}
 use Rattle.claims.specs.declared.certificate.Certificate.{Certificate}
@@ -20,8 +20,7 @@ use Rattle.claims.specs.declared.certificate.Piece.{Piece}
 use Rattle.claims.specs.declared.certificate.Why.{Why}
 use Rattle.claims.specs.declared.certificate.Why.TheVariants.{Before, After}
 use Rattle.journal_lines.specs.Close.{is_close}
-use Rattle.attribution.specs.Acceptance.{Grants, IsCleared}
-use Rattle.attribution.specs.FirstRefusal.{Discharges, IsNamed}
+use Rattle.attribution.specs.Acceptance.{Grants, IsCleared, Discharges, IsNamed}
 use Rattle.attribution.specs.Tests.{granted_by, granted_at, lease_of, first_of, past_of, contains, overlaps, is_cleared, discharges, is_named}
 
 -- some item

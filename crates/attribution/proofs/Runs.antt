@@ -8,19 +8,18 @@ use Rattle.std.proofs.lemmas.Slice.Eq.{bytes_eq-Decides}
 use Rattle.prefix_range.specs.Prefix.{HasAddress}
 use Rattle.binding_rules.specs.declared.role.Role.{Role}
 use Rattle.binding_rules.specs.declared.role.Role.TheVariants.{Primary, Secondary}
-use Rattle.binding_rules.specs.Role.{partner_of}
+use Rattle.binding_rules.specs.Role.{partner_of, is_side}
 use Rattle.journal_lines.specs.declared.event.Event.{Event}
 use Rattle.journal_lines.specs.declared.event.Event.TheVariants.{Grant, Release, Send, Take, Close}
 use Rattle.journal_lines.specs.declared.event.Lease.{Lease}
-use Rattle.journal_lines.specs.declared.event.Letter.{Letter}
+use Rattle.binding_rules.specs.declared.message.PartnerMessage.{PartnerMessage}
 use Rattle.journal_lines.specs.declared.line.Line.{Line}
 use Rattle.journal_lines.specs.Close.{is_close, until_close}
-use Rattle.causal_order.specs.declared.reference.Ref.{Ref}
-use Rattle.causal_order.specs.declared.chain.Precedes.{Precedes}
-use Rattle.causal_order.specs.declared.chain.Precedes.TheVariants.{Chain, Clock}
+use Rattle.claims.specs.declared.reference.Ref.{Ref}
+use Rattle.claims.specs.declared.order.Precedes.{Precedes}
+use Rattle.claims.specs.declared.order.Precedes.TheVariants.{Chain, Clock}
 use Rattle.causal_order.specs.Journals.{Journals, journal_of, Names}
 use Rattle.causal_order.specs.Order.{IsLater, IsTakeOf, IsSurelyBefore, IsChain, EndsWith, Leads, WrittenBy, WrittenFrom}
-use Rattle.causal_order.specs.Tests.{is_side}
 use Rattle.causal_order.proofs.Deciding.{decides_side}
 use Rattle.claims.specs.declared.certificate.Certificate.{Certificate}
 use Rattle.claims.specs.declared.certificate.Piece.{Piece}
@@ -198,7 +197,7 @@ module _ (IsLegal : Role → List Line → Type 0) (js : Journals) (skew : ℕ) 
   partner_twice Secondary = refl
 
   -- the letter that is taken at j was sent at n, and the line r sends it at i
-  sent_at : (r : Ref) (m : Letter) (i n : ℕ) (s t : Step) → RefAt js run r i s → s.line.event ≡ Send m
+  sent_at : (r : Ref) (m : PartnerMessage) (i n : ℕ) (s t : Step) → RefAt js run r i s → s.line.event ≡ Send m
       → At run n t → t.side ≡ r.side → t.line.event ≡ Send m → (n < i) ⊎ (i ≤ n) → i ≤ n
   sent_at r m i n s t a sends at of sends' (inr le) = le
   sent_at r m i n s t a sends at of sends' (inl lt) =
@@ -306,26 +305,26 @@ module _ (IsLegal : Role → List Line → Type 0) (js : Journals) (skew : ℕ) 
 
   -- no release comes between the grant and a moment in the piece
   not_released_by : (p : Piece) (c : Certificate) (h : IsCarried js skew c p) → p.to ≤ c.to
-      → (m i j : ℕ) (s t : Step) → m < p.to → RefAt js run p.grant i s → i < j → At run j t → t.line.event ≡ Release h.lease.client h.lease.iaid h.lease.prefix → t.moment ≤ m
+      → (m i j : ℕ) (s t : Step) → m < p.to → RefAt js run p.grant i s → i < j → At run j t → t.line.event ≡ Release h.0.lease.client h.0.lease.iaid h.0.lease.prefix → t.moment ≤ m
       → IsOpenAt run j t ⊎ (c.to ≤ t.moment) → ⊥
   not_released_by p c h within m i j s t before a after at releases by (inr late) = absurd (omega arith)
   not_released_by p c h within m i j s t before a after at releases by (inl open_there) =
       let b = line_there j t at open_there in
-      let k = h.cleared (record { side = t.side; number = count t.side run j + 1 }) (t.line, b.names, releases) in
+      let k = h.1 (record { side = t.side; number = count t.side run j + 1 }) h.0.lease h.0.grants (t.line, b.names, releases) in
       cleared_apart (record { side = t.side; number = count t.side run j + 1 }) p.grant p.to m i j s t k.0.why k.3 a b after by before
 
   -- a grant that carries a piece is valid in it
   carries : (p : Piece) (c : Certificate) → IsCarried js skew c p → ((side : Role) → ClosesFrom (journal_of js side) (c.to + skew)) → p.to ≤ c.to
       → (m : ℕ) → p.from ≤ m → m < p.to → HoldsWhole run c.prefix c.holder m
   carries p c h closed within m from to =
-      let a = ref_at p.grant h.grants.0 h.grants.1 in
-      let grants : a.1.line.event ≡ Grant h.lease = ap (λ (l : Line). l.event) a.3 ∙ h.grants.2 in
-      let by = written_by p.latest p.grant h.latest a.0 a.1 h.written_by a.2 in
-      let since = written_from p.earliest p.grant h.earliest a.0 a.1 h.written_from a.2 in
-      let begun = h.begun in
-      let ends : (h.lease.valid ≡ infinity) ⊎ (m < a.1.moment + 1000 * h.lease.valid) = elim h.lasts [ inl x ↦ inl x | inr x ↦ inr (omega arith) ] in (
+      let a = ref_at p.grant h.0.grants.0 h.0.grants.1 in
+      let grants : a.1.line.event ≡ Grant h.0.lease = ap (λ (l : Line). l.event) a.3 ∙ h.0.grants.2 in
+      let by = written_by p.latest p.grant h.0.latest a.0 a.1 h.0.written_by a.2 in
+      let since = written_from p.earliest p.grant h.0.earliest a.0 a.1 h.0.written_from a.2 in
+      let begun = h.0.begun in
+      let ends : (h.0.lease.valid ≡ infinity) ⊎ (m < a.1.moment + 1000 * h.0.lease.valid) = elim h.0.lasts [ inl x ↦ inl x | inr x ↦ inr (omega arith) ] in (
         a.0,
-        h.lease,
+        h.0.lease,
         record {
           step = a.1;
           here = a.2.stands.here;
@@ -334,8 +333,8 @@ module _ (IsLegal : Role → List Line → Type 0) (js : Journals) (skew : ℕ) 
           lasts = ends;
           kept = λ r. not_released_by p c h within m a.0 r.0 a.1 r.1 to a.2 r.2 r.3 r.4 r.5 (open_or_late c.to r.0 r.1 (closed r.1.side) r.3);
         },
-        h.holder,
-        h.round,
+        h.0.holder,
+        h.0.round,
       )
 
   -- another client's lease that does not touch the interval is not valid in it
@@ -368,7 +367,7 @@ module _ (IsLegal : Role → List Line → Type 0) (js : Journals) (skew : ℕ) 
   alone_by c ok m address i g v ge lt mine theirs differs (inr late) = let x = v.begun in absurd (omega arith)
   alone_by c ok m address i g v ge lt mine theirs differs (inl open_there) =
       let a = line_there i v.step v.here open_there in
-      let f = ok.covered (record { side = v.step.side; number = count v.step.side run i + 1 }) g (v.step.line, a.names, v.grants) differs (address, theirs, mine) in
+      let f = ok.covered (record { side = v.step.side; number = count v.step.side run i + 1 }) g ((v.step.line, a.names, v.grants), differs, (address, theirs, mine)) in
       let r : Ref = record { side = v.step.side; number = count v.step.side run i + 1 } in
       let out = subst (λ (x : Foreign). (h : Lease) × Grants js x.grant h × IsOutside js skew x.grant h c.from c.to x.reason) f.1.2 (ok.outside f.1.0 f.0 f.1.1) in
       let at_r = subst (λ x. (h : Lease) × Grants js x h × IsOutside js skew x h c.from c.to f.0.reason) f.2 out in

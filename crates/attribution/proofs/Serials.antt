@@ -1,10 +1,8 @@
 -- A legal journal sends each message once.
-use Rattle.std.specs.Prelude.{◌≡◌, ℕ, ◌<◌, ◌≤◌, ◌⊎◌, List, Some, slice_get}
+use Rattle.std.specs.Prelude.{◌≡◌, ℕ, ◌<◌, ◌≤◌, ◌⊎◌, List}
 use Rattle.std.proofs.Common.{arith, inl, inr}
 use Rattle.std.proofs.lemmas.Bool.{cases_lt}
 use Rattle.binding_rules.specs.declared.role.Role.{Role}
-use Rattle.journal_lines.specs.declared.event.Event.TheVariants.{Send}
-use Rattle.journal_lines.specs.declared.event.Letter.{Letter}
 use Rattle.journal_lines.specs.declared.line.Line.{Line}
 use Rattle.attribution.specs.Legal.{SerialsRise, SendsOnce, IsLegal}
 

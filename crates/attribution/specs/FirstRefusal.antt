@@ -1,20 +1,23 @@
--- What the auditor answers: that it accepts, or the first refusal in the order C4 to C10, with the number or line that it names.
-use Rattle.std.specs.Prelude.{◌≡◌, ◌≢◌, ℕ, ◌+◌, ◌*◌, ◌<◌, ◌≤◌, ◌⊎◌, List, [], ◌∷◌, length, slice_get, Some, All, Contains as Has, zero, suc}
-use Rattle.prefix_range.specs.Prefix.{Contains, Overlaps}
+-- What the auditor answers: that it accepts, or the refusal of the first condition that isn't met, C4 to C10, with the
+-- number or line that it names.
+use Rattle.std.specs.Prelude.{◌≡◌, ℕ, ◌+◌, ◌<◌, ◌≤◌, ◌⊎◌, List, [], ◌∷◌, length, slice_get, Some, All, zero, suc}
 use Rattle.binding_rules.specs.declared.role.Role.{Role}
 use Rattle.binding_rules.specs.declared.role.Role.TheVariants.{Primary, Secondary}
 use Rattle.journal_lines.specs.declared.event.Lease.{Lease}
-use Rattle.causal_order.specs.declared.reference.Ref.{Ref}
-use Rattle.causal_order.specs.Journals.{Journals, journal_of}
-use Rattle.causal_order.specs.Order.{WrittenBy, WrittenFrom}
+use Rattle.claims.specs.declared.reference.Ref.{Ref}
+use Rattle.causal_order.specs.Journals.{Journals}
 use Rattle.claims.specs.declared.certificate.Certificate.{Certificate}
 use Rattle.claims.specs.declared.certificate.Piece.{Piece}
-use Rattle.claims.specs.declared.certificate.Clear.{Clear}
 use Rattle.claims.specs.declared.certificate.Foreign.{Foreign}
+use Rattle.attribution.specs.declared.condition.TheConstants.{CONDITIONS}
+use Rattle.attribution.specs.declared.condition.Condition.{Condition}
+use Rattle.attribution.specs.declared.condition.Condition.TheVariants.{Moment, Shown, Tiled, Granted, Discharged}
+use Rattle.attribution.specs.declared.condition.Condition.TheVariants.{Covered, Reasoned}
 use Rattle.attribution.specs.declared.verdict.Verdict.{Verdict}
-use Rattle.attribution.specs.declared.verdict.Verdict.TheVariants.{Accepted, Journal, Certificate as NoCertificate, EmptyInterval, PastEnd, PieceGap, PieceGrant, PieceRelease, Uncovered, Reason}
-use Rattle.attribution.specs.Run.{infinity}
-use Rattle.attribution.specs.Acceptance.{Grants, GivesBack, IsCleared, IsOutside, ClosesFrom, IsAccepted}
+use Rattle.attribution.specs.declared.verdict.Verdict.TheVariants.{Accepted, EmptyInterval, PastEnd, PieceGap}
+use Rattle.attribution.specs.declared.verdict.Verdict.TheVariants.{PieceGrant, PieceRelease, Uncovered, Reason}
+use Rattle.attribution.specs.Acceptance.{Grants, GivesBack, IsGranted, Discharges, IsDischarged, IsForeign, IsNamed}
+use Rattle.attribution.specs.Acceptance.{IsCovered, ReasonHolds, Reaches, IsAccepted}
 
 -- lines are ordered A before B, and then by number
 abbrev pub ComesBefore : Ref → Ref → Type 0
@@ -36,10 +39,6 @@ HoldsBefore {X} P xs k = (j : ℕ) (y : X) → j < k → slice_get xs j ≡ Some
 abbrev pub IsFirstNot : {X : Type 0} → (X → Type 0) → List X → ℕ → X → Type 0
 IsFirstNot P xs k x = (slice_get xs k ≡ Some x) × (P x → ⊥) × HoldsBefore P xs k
 
--- C5: a close line of the side stands late enough
-abbrev pub Reaches : Journals → ℕ → Certificate → Role → Type 0
-Reaches js skew c side = ClosesFrom (journal_of js side) (c.to + skew)
-
 -- where the piece at index k must begin: at `from`, or where the piece before it ends
 abbrev pub begin_at : ℕ → List Piece → ℕ → ℕ
 begin_at from ps zero = from
@@ -59,71 +58,54 @@ IsTiled c = (k : ℕ) → k ≤ length c.pieces → IsInPlace c k
 abbrev pub IsGap : Certificate → ℕ → Type 0
 IsGap c n = (k : ℕ) × (n ≡ k + 1) × (k ≤ length c.pieces) × (IsInPlace c k → ⊥) × ((j : ℕ) → j < k → IsInPlace c j)
 
--- C7: the piece's grant is the holder's, of a prefix round the one asked of, and its bounds reach round the piece
-pub record IsGranted (js : Journals) (skew : ℕ) (c : Certificate) (p : Piece) : Type 0 where
-  pub lease : Lease
-  pub grants : Grants js p.grant lease
-  pub holder : lease.client ≡ c.holder
-  pub round : Contains lease.prefix c.prefix
-  pub latest : ℕ
-  pub written_by : WrittenBy js p.latest p.grant latest
-  pub begun : latest + skew ≤ p.from
-  pub earliest : ℕ
-  pub written_from : WrittenFrom js p.earliest p.grant earliest
-  pub lasts : (lease.valid ≡ infinity) ⊎ (p.to + skew ≤ earliest + 1000 * lease.valid)
-
--- C8: a clear entry of the piece discharges the release
-abbrev pub Discharges : Journals → ℕ → Piece → Ref → Type 0
-Discharges js skew p r = (k : Clear) × Has p.clear k × (k.release ≡ r) × IsCleared js skew r p.grant p.to k.why
-
--- the release gives back what the piece's grant gave, and no entry discharges it
-abbrev pub Cuts : Journals → ℕ → Piece → Ref → Type 0
-Cuts js skew p r = (g : Lease) × Grants js p.grant g × GivesBack js r g × (Discharges js skew p r → ⊥)
-
-abbrev pub IsUncut : Journals → ℕ → Piece → Type 0
-IsUncut js skew p = (r : Ref) (g : Lease) → Grants js p.grant g → GivesBack js r g → Discharges js skew p r
+-- C8: the release gives back what the piece's grant gave, and no entry discharges it
+abbrev pub CutsShort : Journals → ℕ → Piece → Ref → Type 0
+CutsShort js skew p r = (g : Lease) × Grants js p.grant g × GivesBack js r g × (Discharges js skew p r → ⊥)
 
 -- C9: another client's grant touches the prefix, and no foreign entry names it
-abbrev pub IsNamed : Certificate → Ref → Type 0
-IsNamed c r = (f : Foreign) × Has c.foreign f × (f.grant ≡ r)
-
-abbrev pub IsForeign : Journals → Certificate → Ref → Lease → Type 0
-IsForeign js c r g = Grants js r g × (g.client ≢ c.holder) × Overlaps g.prefix c.prefix
-
 abbrev pub IsUncovered : Journals → Certificate → Ref → Type 0
 IsUncovered js c r = (g : Lease) × IsForeign js c r g × (IsNamed c r → ⊥)
 
-abbrev pub IsCovered : Journals → Certificate → Type 0
-IsCovered js c = (r : Ref) (g : Lease) → IsForeign js c r g → IsNamed c r
+-- ---- the conditions, and the refusal of each
 
--- C10: the entry names a grant, and its reason holds
-abbrev pub ReasonHolds : Journals → ℕ → Certificate → Foreign → Type 0
-ReasonHolds js skew c f = (g : Lease) × Grants js f.grant g × IsOutside js skew f.grant g c.from c.to f.reason
+-- what each condition asks
+abbrev pub IsMet : Journals → ℕ → Certificate → Condition → Type 0
+IsMet js skew c Moment = c.from < c.to
+IsMet js skew c (Shown side) = Reaches js skew c side
+IsMet js skew c Tiled = IsTiled c
+IsMet js skew c Granted = All (IsGranted js skew c) c.pieces
+IsMet js skew c Discharged = All (IsDischarged js skew) c.pieces
+IsMet js skew c Covered = IsCovered js c
+IsMet js skew c Reasoned = All (ReasonHolds js skew c) c.foreign
 
--- The verdict on the certificate: each condition before it is met, and its own is not. (The refusals of texts are no matter of it.)
-abbrev pub IsVerdict : Journals → ℕ → Certificate → Verdict → Type 0
-IsVerdict js skew c (Journal side fault) = ⊥
-IsVerdict js skew c (NoCertificate fault) = ⊥
-IsVerdict js skew c EmptyInterval = c.from < c.to → ⊥
-IsVerdict js skew c (PastEnd Primary) = (c.from < c.to) × (Reaches js skew c Primary → ⊥)
-IsVerdict js skew c (PastEnd Secondary) = (c.from < c.to) × Reaches js skew c Primary × (Reaches js skew c Secondary → ⊥)
-IsVerdict js skew c (PieceGap n) = (c.from < c.to) × Reaches js skew c Primary × Reaches js skew c Secondary × IsGap c n
-IsVerdict js skew c (PieceGrant n) =
-    (c.from < c.to) × Reaches js skew c Primary × Reaches js skew c Secondary × IsTiled c
+-- Which verdict refuses where it isn't met. A piece is named by its number from 1; of lines the least is, of entries
+-- the first.
+abbrev pub Refuses : Journals → ℕ → Certificate → Condition → Verdict → Type 0
+Refuses js skew c Moment v = (v ≡ EmptyInterval) × (c.from < c.to → ⊥)
+Refuses js skew c (Shown side) v = (v ≡ PastEnd side) × (Reaches js skew c side → ⊥)
+Refuses js skew c Tiled v = (n : ℕ) × (v ≡ PieceGap n) × IsGap c n
+Refuses js skew c Granted v =
+    (n : ℕ) × (v ≡ PieceGrant n)
     × ((k : ℕ) × (p : Piece) × (n ≡ k + 1) × IsFirstNot (IsGranted js skew c) c.pieces k p)
-IsVerdict js skew c (PieceRelease n r) =
-    (c.from < c.to) × Reaches js skew c Primary × Reaches js skew c Secondary × IsTiled c × All (IsGranted js skew c) c.pieces
-    × ((k : ℕ) × (p : Piece) × (n ≡ k + 1) × (slice_get c.pieces k ≡ Some p) × HoldsBefore (IsUncut js skew) c.pieces k × IsLeast (Cuts js skew p) r)
-IsVerdict js skew c (Uncovered r) =
-    (c.from < c.to) × Reaches js skew c Primary × Reaches js skew c Secondary × IsTiled c × All (IsGranted js skew c) c.pieces
-    × All (IsUncut js skew) c.pieces × IsLeast (IsUncovered js c) r
-IsVerdict js skew c (Reason r) =
-    (c.from < c.to) × Reaches js skew c Primary × Reaches js skew c Secondary × IsTiled c × All (IsGranted js skew c) c.pieces
-    × All (IsUncut js skew) c.pieces × IsCovered js c
+Refuses js skew c Discharged v =
+    (n : ℕ) × (r : Ref) × (v ≡ PieceRelease n r)
+    × ((k : ℕ) × (p : Piece) × (n ≡ k + 1) × (slice_get c.pieces k ≡ Some p)
+    × HoldsBefore (IsDischarged js skew) c.pieces k × IsLeast (CutsShort js skew p) r)
+Refuses js skew c Covered v = (r : Ref) × (v ≡ Uncovered r) × IsLeast (IsUncovered js c) r
+Refuses js skew c Reasoned v =
+    (r : Ref) × (v ≡ Reason r)
     × ((k : ℕ) × (f : Foreign) × (f.grant ≡ r) × IsFirstNot (ReasonHolds js skew c) c.foreign k f)
-IsVerdict js skew c Accepted =
-    (c.from < c.to) × Reaches js skew c Primary × Reaches js skew c Secondary × IsTiled c × All (IsGranted js skew c) c.pieces
-    × All (IsUncut js skew) c.pieces × IsCovered js c × All (ReasonHolds js skew c) c.foreign
+
+-- the first of these conditions that isn't met refuses; where all are met the certificate is accepted
+abbrev pub IsVerdictBy : Journals → ℕ → Certificate → List Condition → Verdict → Type 0
+IsVerdictBy js skew c [] v = v ≡ Accepted
+IsVerdictBy js skew c (k ∷ ks) v = Refuses js skew c k v ⊎ (IsMet js skew c k × IsVerdictBy js skew c ks v)
+
+-- The verdict on the certificate.
+abbrev pub IsVerdict : Journals → ℕ → Certificate → Verdict → Type 0
+IsVerdict js skew c v = IsVerdictBy js skew c CONDITIONS v
+
+-- ---- laws of verdicts
 
 -- the verdict is that it accepts exactly where the certificate is accepted
 abbrev pub AcceptsTheAccepted : Type 0
@@ -132,8 +114,5 @@ AcceptsTheAccepted = (js : Journals) (skew : ℕ) (c : Certificate)
 
 -- there is no second verdict on a certificate
 abbrev pub OneVerdict : Type 0
-OneVerdict = (js : Journals) (skew : ℕ) (c : Certificate) (v w : Verdict) → IsVerdict js skew c v → IsVerdict js skew c w → v ≡ w
-
--- and there always is one
-abbrev pub SomeVerdict : Type 0
-SomeVerdict = (js : Journals) (skew : ℕ) (c : Certificate) → (v : Verdict) × IsVerdict js skew c v
+OneVerdict =
+    (js : Journals) (skew : ℕ) (c : Certificate) (v w : Verdict) → IsVerdict js skew c v → IsVerdict js skew c w → v ≡ w

@@ -1,13 +1,14 @@
 -- What carries the headline, step by step: laws of every run that leaves two journals.
-use Rattle.std.specs.Prelude.{◌≡◌, ℕ, zero, suc, ◌+◌, ◌-◌, ◌<◌, ◌≤◌, ◌⊎◌, List, [], ◌∷◌, length, Contains as Has, if◌then◌else◌}
+use Rattle.binding_rules.specs.Role.{is_side}
+use Rattle.std.specs.Prelude.{◌≡◌, ℕ, zero, suc, ◌+◌, ◌-◌, ◌<◌, ◌≤◌, ◌⊎◌, List, [], ◌∷◌, length, Contains as Has}
+use Rattle.std.specs.Prelude.{if◌then◌else◌}
 use Rattle.prefix_range.specs.Prefix.{Prefix, IsPrefix, Overlaps, Contains, size_of}
 use Rattle.binding_rules.specs.declared.role.Role.{Role}
 use Rattle.journal_lines.specs.Close.{until_close}
 use Rattle.journal_lines.specs.declared.line.Line.{Line}
-use Rattle.causal_order.specs.declared.reference.Ref.{Ref}
+use Rattle.claims.specs.declared.reference.Ref.{Ref}
 use Rattle.causal_order.specs.Journals.{Journals, journal_of, Names}
 use Rattle.causal_order.specs.Order.{Leads, WrittenBy, WrittenFrom}
-use Rattle.causal_order.specs.Tests.{is_side}
 use Rattle.claims.specs.declared.certificate.Piece.{Piece}
 use Rattle.attribution.specs.Run.{Step, lines_of, At, IsOpenAt, IsRun, KeepsSkew}
 use Rattle.attribution.specs.Acceptance.{Tile, ClosesFrom}
@@ -40,10 +41,12 @@ pub record RefAt (js : Journals) (run : List Step) (r : Ref) (i : ℕ) (s : Step
 -- Chains: each line of a chain was written before the next.
 abbrev pub ChainsStandInOrder : (Role → List Line → Type 0) → Type 0
 ChainsStandInOrder IsLegal = (js : Journals) (skew : ℕ) (run : List Step) → Setting IsLegal js skew run
-    → (chain : List Ref) (r q : Ref) (i j : ℕ) (s t : Step) → Leads js chain r q → RefAt js run r i s → RefAt js run q j t
+    → (chain : List Ref) (r q : Ref) (i j : ℕ) (s t : Step)
+    → Leads js chain r q → RefAt js run r i s → RefAt js run q j t
     → (i ≤ j) × (2 ≤ length chain → i < j)
 
--- Bounds: a line was written by the reading of a chain's last line and the skew, and not before that of a chain's first line less the skew.
+-- Bounds: a line was written by the reading of a chain's last line and the skew, and not before that of a chain's first
+-- line less the skew.
 abbrev pub BoundsHold : (Role → List Line → Type 0) → Type 0
 BoundsHold IsLegal = (js : Journals) (skew : ℕ) (run : List Step) → Setting IsLegal js skew run
     → (chain : List Ref) (r : Ref) (x i : ℕ) (s : Step) → RefAt js run r i s
@@ -52,15 +55,16 @@ BoundsHold IsLegal = (js : Journals) (skew : ℕ) (run : List Step) → Setting 
 -- Close lines: what a journal doesn't show was written at or after the interval's end.
 abbrev pub LateAfterClose : (Role → List Line → Type 0) → Type 0
 LateAfterClose IsLegal = (js : Journals) (skew : ℕ) (run : List Step) → Setting IsLegal js skew run
-    → (to i : ℕ) (s : Step) → ClosesFrom (journal_of js s.side) (to + skew) → At run i s → IsOpenAt run i s ⊎ (to ≤ s.moment)
+    → (to i : ℕ) (s : Step) → ClosesFrom (journal_of js s.side) (to + skew) → At run i s
+    → IsOpenAt run i s ⊎ (to ≤ s.moment)
 
 -- Pieces: where they lie end to end, each moment of the interval is in one of them.
 abbrev pub PiecesMeetEveryMoment : Type 0
 PiecesMeetEveryMoment = (pieces : List Piece) (from to m : ℕ) → Tile from to pieces → from ≤ m → m < to
     → (p : Piece) × Has pieces p × (p.from ≤ m) × (m < p.to) × (p.to ≤ to)
 
--- End points: two prefixes share an address exactly where neither ends before the other begins, and one holds the other exactly
--- where it begins no later and ends no earlier.
+-- End points: two prefixes share an address exactly where neither ends before the other begins, and one holds the other
+-- exactly where it begins no later and ends no earlier.
 abbrev pub EndPointsDecide : Type 0
 EndPointsDecide = (p q : Prefix) → IsPrefix p → IsPrefix q
     → (Overlaps p q → (p.address < q.address + size_of q.length) × (q.address < p.address + size_of p.length))

@@ -2,13 +2,12 @@
 use Rattle.std.specs.Prelude.{◌≡◌, ◌≢◌, ℕ, ◌+◌, ◌*◌, ◌<◌, ◌≤◌, ◌⊎◌, List, Some, slice_get, map, filter}
 use Rattle.prefix_range.specs.Prefix.{Prefix, HasAddress, Contains}
 use Rattle.binding_rules.specs.declared.role.Role.{Role}
-use Rattle.binding_rules.specs.Role.{partner_of}
+use Rattle.binding_rules.specs.Role.{partner_of, is_side}
 use Rattle.journal_lines.specs.declared.event.Event.TheVariants.{Grant, Release, Send, Take, Close}
 use Rattle.journal_lines.specs.declared.event.Lease.{Lease}
-use Rattle.journal_lines.specs.declared.event.Letter.{Letter}
+use Rattle.binding_rules.specs.declared.message.PartnerMessage.{PartnerMessage}
 use Rattle.journal_lines.specs.declared.line.Line.{Line}
 use Rattle.journal_lines.specs.Close.{until_close}
-use Rattle.causal_order.specs.Tests.{is_side}
 
 -- one event of one server, at a moment
 pub record Step : Type 0 where
@@ -34,7 +33,7 @@ pub record IsRun (IsLegal : Role → List Line → Type 0) (run : List Step) : T
   pub in_time : (i j : ℕ) (s t : Step) → i ≤ j → At run i s → At run j t → s.moment ≤ t.moment
   pub legal : (side : Role) → IsLegal side (until_close (lines_of side run))
   -- what a side takes before its close line was sent before by its partner
-  pub sent : (i : ℕ) (s : Step) (m : Letter) → At run i s → IsOpenAt run i s → s.line.event ≡ Take m
+  pub sent : (i : ℕ) (s : Step) (m : PartnerMessage) → At run i s → IsOpenAt run i s → s.line.event ≡ Take m
       → (j : ℕ) × (t : Step) × (j < i) × At run j t × (t.side ≡ partner_of s.side) × (t.line.event ≡ Send m)
 
 -- up to its side's close line each reading is within the skew of the moment
@@ -44,7 +43,9 @@ KeepsSkew skew run = (i : ℕ) (s : Step) → At run i s → IsOpenAt run i s
 
 -- the run leaves this journal on that side, closed
 abbrev pub Leaves : List Step → Role → List Line → Type 0
-Leaves run side lines = (lines ≡ until_close (lines_of side run)) × ((k : ℕ) × (l : Line) × (slice_get lines k ≡ Some l) × (l.event ≡ Close))
+Leaves run side lines =
+    (lines ≡ until_close (lines_of side run))
+    × ((k : ℕ) × (l : Line) × (slice_get lines k ≡ Some l) × (l.event ≡ Close))
 
 -- the valid lifetime that never ends (RFC 8415, section 7.7)
 abbrev pub infinity : ℕ
@@ -52,9 +53,10 @@ infinity = 4294967295
 
 -- by m the lease's client gave it back, after step i (RFC 8415, section 18.2.7: Release)
 abbrev pub IsReleasedBy : List Step → ℕ → Lease → ℕ → Type 0
-IsReleasedBy run i g m = (j : ℕ) × (s : Step) × (i < j) × At run j s × (s.line.event ≡ Release g.client g.iaid g.prefix) × (s.moment ≤ m)
+IsReleasedBy run i g m =
+    (j : ℕ) × (s : Step) × (i < j) × At run j s × (s.line.event ≡ Release g.client g.iaid g.prefix) × (s.moment ≤ m)
 
--- step i grants the lease, and the lease is valid at m (RFC 8415, section 21.22: the valid lifetime of an IA prefix, in seconds)
+-- step i grants the lease, and the lease is valid at m (RFC 8415, section 21.22: the valid lifetime, in seconds)
 pub record IsValidAt (run : List Step) (i : ℕ) (g : Lease) (m : ℕ) : Type 0 where
   pub step : Step
   pub here : At run i step
@@ -65,8 +67,10 @@ pub record IsValidAt (run : List Step) (i : ℕ) (g : Lease) (m : ℕ) : Type 0 
 
 -- some lease of the client that is valid at m has the address
 abbrev pub Holds : List Step → ℕ → List ℕ → ℕ → Type 0
-Holds run address client m = (i : ℕ) × (g : Lease) × IsValidAt run i g m × (g.client ≡ client) × HasAddress g.prefix address
+Holds run address client m =
+    (i : ℕ) × (g : Lease) × IsValidAt run i g m × (g.client ≡ client) × HasAddress g.prefix address
 
 -- one lease of the client that is valid at m has all of the prefix
 abbrev pub HoldsWhole : List Step → Prefix → List ℕ → ℕ → Type 0
-HoldsWhole run prefix client m = (i : ℕ) × (g : Lease) × IsValidAt run i g m × (g.client ≡ client) × Contains g.prefix prefix
+HoldsWhole run prefix client m =
+    (i : ℕ) × (g : Lease) × IsValidAt run i g m × (g.client ≡ client) × Contains g.prefix prefix

@@ -1,14 +1,15 @@
--- Tests that decide what a certificate is judged by: each is true exactly where its relation holds.
-use Rattle.std.specs.Prelude.{ℕ, ◌+◌, ◌*◌, ◌/◌, ◌^◌, min, max, Bool, ◌&&◌, ◌||◌, nat_le, nat_lt, length, Option, Some, None}
+-- For bodies only: tests that decide what a certificate is judged by. Each is true exactly where its relation holds.
+use Rattle.std.specs.Prelude.{ℕ, ◌+◌, ◌*◌, ◌/◌, ◌^◌, min, max, Bool, ◌&&◌, ◌||◌, nat_le, nat_lt, Option, Some}
+use Rattle.std.specs.Prelude.{None}
 use Rattle.std.specs.List.{list_any}
 use Rattle.prefix_range.specs.Prefix.{Prefix, size_of}
 use Rattle.journal_lines.specs.declared.event.Event.{Event}
 use Rattle.journal_lines.specs.declared.event.Event.TheVariants.{Grant}
 use Rattle.journal_lines.specs.declared.event.Lease.{Lease}
 use Rattle.journal_lines.specs.declared.line.Line.{Line}
-use Rattle.causal_order.specs.declared.reference.Ref.{Ref}
+use Rattle.claims.specs.declared.reference.Ref.{Ref}
 use Rattle.causal_order.specs.Journals.{Journals, line_of}
-use Rattle.causal_order.specs.Tests.{same_ref, written_from, precedes}
+use Rattle.causal_order.specs.Tests.{in_line, same_ref, written_from, precedes}
 use Rattle.claims.specs.declared.certificate.Certificate.{Certificate}
 use Rattle.claims.specs.declared.certificate.Piece.{Piece}
 use Rattle.claims.specs.declared.certificate.Why.{Why}
@@ -20,8 +21,7 @@ granted_by _ = None
 
 -- the lease that a line grants
 abbrev pub granted_at : Option Line → Option Lease
-granted_at None = None
-granted_at (Some l) = granted_by l.event
+granted_at o = in_line granted_by o
 
 abbrev pub lease_of : Journals → Ref → Option Lease
 lease_of js r = granted_at (line_of js r)
@@ -35,7 +35,9 @@ past_of p = first_of p + size_of p.length
 
 -- one prefix holds another, and two prefixes meet, by their end points
 abbrev pub contains : Prefix → Prefix → Bool
-contains p q = nat_le (2 ^ 128) (first_of q) || (nat_le (first_of p) (first_of q) && nat_le (min (past_of q) (2 ^ 128)) (past_of p))
+contains p q =
+    nat_le (2 ^ 128) (first_of q)
+    || (nat_le (first_of p) (first_of q) && nat_le (min (past_of q) (2 ^ 128)) (past_of p))
 
 abbrev pub overlaps : Prefix → Prefix → Bool
 overlaps p q = nat_lt (max (first_of p) (first_of q)) (min (min (past_of p) (past_of q)) (2 ^ 128))

@@ -8,7 +8,9 @@ use Rattle.journal_lines.specs.declared.fault.JournalFault.TheVariants.{Head, Fo
 use Rattle.claims.specs.declared.fault.CertificateFault.{CertificateFault}
 use Rattle.claims.specs.declared.fault.CertificateFault.TheVariants.{Head as NoHead, Form as NoForm, End as NoEnd}
 use Rattle.attribution.specs.declared.verdict.Verdict.{Verdict}
-use Rattle.attribution.specs.declared.verdict.Verdict.TheVariants.{Accepted, Journal, Certificate, EmptyInterval, PastEnd, PieceGap, PieceGrant, PieceRelease, Uncovered, Reason}
+use Rattle.attribution.specs.declared.verdict.Verdict.TheVariants.{Accepted, Journal, Certificate, EmptyInterval}
+use Rattle.attribution.specs.declared.verdict.Verdict.TheVariants.{PastEnd, PieceGap, PieceGrant, PieceRelease}
+use Rattle.attribution.specs.declared.verdict.Verdict.TheVariants.{Uncovered, Reason}
 
 -- the primary is side A
 abbrev pub side_text : Role → List ℕ
@@ -39,7 +41,8 @@ verdict_text EmptyInterval = codes "refused C4 EmptyInterval"
 verdict_text (PastEnd side) = codes "refused C5 PastEnd " ++ side_text side
 verdict_text (PieceGap n) = codes "refused C6 PieceGap " ++ decimal n
 verdict_text (PieceGrant n) = codes "refused C7 PieceGrant " ++ decimal n
-verdict_text (PieceRelease n r) = codes "refused C8 PieceRelease " ++ decimal n ++ codes " " ++ place_text r.side r.number
+verdict_text (PieceRelease n r) =
+    codes "refused C8 PieceRelease " ++ decimal n ++ codes " " ++ place_text r.side r.number
 verdict_text (Uncovered r) = codes "refused C9 Uncovered " ++ place_text r.side r.number
 verdict_text (Reason r) = codes "refused C10 Reason " ++ place_text r.side r.number
 

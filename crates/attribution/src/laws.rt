@@ -2,7 +2,8 @@
 
 ghost use Rattle.attribution.specs.Acceptance.{AcceptedIsTrue};
 ghost use Rattle.attribution.specs.FirstRefusal.{AcceptsTheAccepted, OneVerdict};
-ghost use Rattle.attribution.specs.Laws.{ChainsStandInOrder, BoundsHold, LateAfterClose, PiecesMeetEveryMoment, EndPointsDecide};
+ghost use Rattle.attribution.specs.Laws.{ChainsStandInOrder, BoundsHold, LateAfterClose, PiecesMeetEveryMoment};
+ghost use Rattle.attribution.specs.Laws.{EndPointsDecide};
 ghost use Rattle.attribution.specs.Legal.{IsLegal};
 
 /// What is accepted is true in every run of the pair that leaves the journals, with clocks within the skew.

@@ -1,7 +1,8 @@
 //! The line that a verdict is printed as.
 
 ghost use Rattle.std.specs.Prelude.{◌≡◌, ◌++◌, OnOk, IfOk};
-ghost use Rattle.attribution.specs.VerdictText.{side_text, place_text, journal_refusal, certificate_refusal, verdict_text, verdict_line as line_of};
+ghost use Rattle.attribution.specs.VerdictText.{side_text, place_text, journal_refusal, certificate_refusal};
+ghost use Rattle.attribution.specs.VerdictText.{verdict_text, verdict_line as line_of};
 
 use crate::verdict::Verdict;
 use binding_rules::Role;

@@ -6,13 +6,20 @@ use Rattle.std.proofs.lemmas.Bool.{eq-eqb, eqb-true, ne_eqb, cases_lt}
 use Rattle.std.proofs.lemmas.List.{take_more, take-append-drop}
 use Rattle.std.proofs.Math.Seq.{take-add, take-length}
 use Rattle.memchr.specs.Find.{IsFirstByte, is_byte}
-use Rattle.text_fields.specs.Pieces.{split, Lacks}
+use Rattle.text_fields.specs.Cuts.{split, Lacks}
 use Rattle.text_fields.proofs.Cutting.{split_some}
-use Rattle.text_fields.proofs.PieceLaws.{split-cons, split-last, Lacks-append}
-use Rattle.journal_text.proofs.Feeding.{some_piece}
+use Rattle.text_fields.proofs.CutLaws.{split-cons, split-last, Lacks-append}
 use Rattle.attribution_desk.specs.Input.{begins_with_end, first_length, text_length}
 use Rattle.attribution_desk.specs.Intake.{IsWhole, GoesOn}
 use Rattle.attribution_desk.proofs.Lines.{line_ends, line_goes}
+
+-- a text has a first cut
+some_cut : (text : List ℕ) → (first : List ℕ) × (cuts : List (List ℕ)) × (split 10 text ≡ first ∷ cuts)
+some_cut text = by (split 10 text) (split_some 10 text)
+  where
+    by : (cuts : List (List ℕ)) → cuts ≢ [] → (first : List ℕ) × (more : List (List ℕ)) × (cuts ≡ first ∷ more)
+    by [] some = absurd (some refl)
+    by (first ∷ more) some = (first, more, refl)
 
 -- ---- octets that lack a line feed
 
@@ -75,7 +82,7 @@ alike_lines line start (next ∷ lines) e =
 
 alike_start : (line more : List ℕ) → Lacks 10 line → text_length (line ++ more) + length (take 3 line) ≡ length line + text_length (take 3 line ++ more)
 alike_start line more h =
-    let w = some_piece more in
+    let w = some_cut more in
     let whole : text_length (line ++ more) ≡ first_length ((line ++ w.0) ∷ w.1) = ap first_length (split_behind line more w.0 w.1 h w.2) in
     let short : text_length (take 3 line ++ more) ≡ first_length ((take 3 line ++ w.0) ∷ w.1) = ap first_length (split_behind (take 3 line) more w.0 w.1 (Lacks-take 3 line h) w.2) in
     let same = alike_lines (line ++ w.0) (take 3 line ++ w.0) w.1 (same_start line w.0) in
@@ -83,27 +90,27 @@ alike_start line more h =
 
 -- ---- a text that goes on
 
-module _ (text line piece : List ℕ) (h : GoesOn text line) where
-  goes_with : (start : List ℕ) → GoesOn (line ++ piece) start → GoesOn (text ++ piece) start
+module _ (text line chunk : List ℕ) (h : GoesOn text line) where
+  goes_with : (start : List ℕ) → GoesOn (line ++ chunk) start → GoesOn (text ++ chunk) start
   goes_with start k = record {
     unbroken = k.unbroken;
     alike = λ more.
-        (let outer = h.alike (piece ++ more) in
+        (let outer = h.alike (chunk ++ more) in
         let inner = k.alike more in
-        omega (arith, outer, inner, ap text_length (append_assoc text piece more), ap text_length (append_assoc line piece more), length-append text piece, length-append line piece));
+        omega (arith, outer, inner, ap text_length (append_assoc text chunk more), ap text_length (append_assoc line chunk more), length-append text chunk, length-append line chunk));
   }
 
-  whole_with : IsWhole (line ++ piece) → IsWhole (text ++ piece)
+  whole_with : IsWhole (line ++ chunk) → IsWhole (text ++ chunk)
   whole_with whole more =
-      let outer = h.alike (piece ++ more) in
+      let outer = h.alike (chunk ++ more) in
       let inner = whole more in
-      omega (arith, outer, inner, ap text_length (append_assoc text piece more), ap text_length (append_assoc line piece more), length-append text piece, length-append line piece)
+      omega (arith, outer, inner, ap text_length (append_assoc text chunk more), ap text_length (append_assoc line chunk more), length-append text chunk, length-append line chunk)
 
   -- within its line
-  pub goes_on : (start : List ℕ) → Lacks 10 piece → start ≡ take 3 (line ++ piece) → GoesOn (text ++ piece) start
+  pub goes_on : (start : List ℕ) → Lacks 10 chunk → start ≡ take 3 (line ++ chunk) → GoesOn (text ++ chunk) start
   goes_on start lacks is =
-      let whole = Lacks-append 10 line piece h.unbroken lacks in
-      goes_with start (subst (λ s. GoesOn (line ++ piece) s) (sym is) (record { unbroken = Lacks-take 3 (line ++ piece) whole; alike = λ more. alike_start (line ++ piece) more whole }))
+      let whole = Lacks-append 10 line chunk h.unbroken lacks in
+      goes_with start (subst (λ s. GoesOn (line ++ chunk) s) (sym is) (record { unbroken = Lacks-take 3 (line ++ chunk) whole; alike = λ more. alike_start (line ++ chunk) more whole }))
 
 module _ (text line : List ℕ) (h : GoesOn text line) where
   -- behind its line feed
@@ -130,39 +137,39 @@ module _ (text line : List ℕ) (h : GoesOn text line) where
       let one = ap first_length (split-last 10 line h.unbroken) in
       omega (arith, same, one, ap text_length (append-nil text), ap text_length (append-nil line))
 
--- ---- the loop over the lines of a piece
+-- ---- the loop over the lines of a chunk
 
-pub record IsWithin (start piece : List ℕ) (from : ℕ) (line : List ℕ) : Type 0 where
-  pub within : from ≤ length piece
-  pub goes : (text : List ℕ) → GoesOn text start → GoesOn (text ++ take from piece) line
+pub record IsWithin (start chunk : List ℕ) (from : ℕ) (line : List ℕ) : Type 0 where
+  pub within : from ≤ length chunk
+  pub goes : (text : List ℕ) → GoesOn text start → GoesOn (text ++ take from chunk) line
 
-pub begins : (start piece : List ℕ) → IsWithin start piece 0 start
-begins start piece = record { within = omega arith; goes = λ text h. subst (λ t. GoesOn t start) (sym (append-nil text)) h }
+pub begins : (start chunk : List ℕ) → IsWithin start chunk 0 start
+begins start chunk = record { within = omega arith; goes = λ text h. subst (λ t. GoesOn t start) (sym (append-nil text)) h }
 
-module _ (start piece : List ℕ) (from : ℕ) (line : List ℕ) (h : IsWithin start piece from line) (at : ℕ) (lt : at < length (drop from piece)) (before : (k : ℕ) → k < at → get_or (drop from piece) k 0 ≢ 10) (here : get_or (drop from piece) at 0 ≡ 10) (kept : List ℕ) (is : kept ≡ take 3 (line ++ take at (drop from piece))) where
-  one_line : take (from + (at + 1)) piece ≡ take from piece ++ (take at (drop from piece) ++ 10 ∷ [])
-  one_line = take-add from (at + 1) piece ∙ ap (λ t. take from piece ++ t) (take_more (drop from piece) at 0 lt ∙ ap (λ b. take at (drop from piece) ++ b ∷ []) here)
+module _ (start chunk : List ℕ) (from : ℕ) (line : List ℕ) (h : IsWithin start chunk from line) (at : ℕ) (lt : at < length (drop from chunk)) (before : (k : ℕ) → k < at → get_or (drop from chunk) k 0 ≢ 10) (here : get_or (drop from chunk) at 0 ≡ 10) (kept : List ℕ) (is : kept ≡ take 3 (line ++ take at (drop from chunk))) where
+  one_line : take (from + (at + 1)) chunk ≡ take from chunk ++ (take at (drop from chunk) ++ 10 ∷ [])
+  one_line = take-add from (at + 1) chunk ∙ ap (λ t. take from chunk ++ t) (take_more (drop from chunk) at 0 lt ∙ ap (λ b. take at (drop from chunk) ++ b ∷ []) here)
 
-  behind_line : (text : List ℕ) → (text ++ (take from piece ++ take at (drop from piece))) ++ 10 ∷ [] ≡ text ++ take (from + (at + 1)) piece
+  behind_line : (text : List ℕ) → (text ++ (take from chunk ++ take at (drop from chunk))) ++ 10 ∷ [] ≡ text ++ take (from + (at + 1)) chunk
   behind_line text =
-      append_assoc text (take from piece ++ take at (drop from piece)) (10 ∷ [])
-      ∙ ap (λ t. text ++ t) (append_assoc (take from piece) (take at (drop from piece)) (10 ∷ []) ∙ sym one_line)
+      append_assoc text (take from chunk ++ take at (drop from chunk)) (10 ∷ [])
+      ∙ ap (λ t. text ++ t) (append_assoc (take from chunk) (take at (drop from chunk)) (10 ∷ []) ∙ sym one_line)
 
-  line_goes_on : (text : List ℕ) → GoesOn text start → GoesOn (text ++ (take from piece ++ take at (drop from piece))) kept
+  line_goes_on : (text : List ℕ) → GoesOn text start → GoesOn (text ++ (take from chunk ++ take at (drop from chunk))) kept
   line_goes_on text g =
-      subst (λ t. GoesOn t kept) (append_assoc text (take from piece) (take at (drop from piece)))
-      (goes_on (text ++ take from piece) line (take at (drop from piece)) (h.goes text g) kept (lacks_below (drop from piece) at (omega arith) before) is)
+      subst (λ t. GoesOn t kept) (append_assoc text (take from chunk) (take at (drop from chunk)))
+      (goes_on (text ++ take from chunk) line (take at (drop from chunk)) (h.goes text g) kept (lacks_below (drop from chunk) at (omega arith) before) is)
 
-  pub another_line : begins_with_end kept ≡ false → from + (at + 1) ≤ length piece → IsWithin start piece (from + (at + 1)) []
+  pub another_line : begins_with_end kept ≡ false → from + (at + 1) ≤ length chunk → IsWithin start chunk (from + (at + 1)) []
   another_line goes le = record { within = le; goes = λ text g. subst (λ t. GoesOn t []) (behind_line text) (next_line _ kept (line_goes_on text g) goes) }
 
-  pub end_found : begins_with_end kept ≡ true → (text : List ℕ) → GoesOn text start → IsWhole (text ++ take (from + (at + 1)) piece)
+  pub end_found : begins_with_end kept ≡ true → (text : List ℕ) → GoesOn text start → IsWhole (text ++ take (from + (at + 1)) chunk)
   end_found is text g = subst (λ t. IsWhole t) (behind_line text) (ends _ kept (line_goes_on text g) is)
 
 -- behind the last line feed
-pub none_found : (start piece : List ℕ) (from : ℕ) (line : List ℕ) → IsWithin start piece from line → ((k : ℕ) → k < length (drop from piece) → get_or (drop from piece) k 0 ≢ 10)
-    → (kept : List ℕ) → kept ≡ take 3 (line ++ drop from piece) → (text : List ℕ) → GoesOn text start → GoesOn (text ++ piece) kept
-none_found start piece from line h before kept is text g =
-    let lacks = subst (Lacks 10) (take-length (drop from piece)) (lacks_below (drop from piece) (length (drop from piece)) (omega arith) before) in
-    subst (λ t. GoesOn t kept) (append_assoc text (take from piece) (drop from piece) ∙ ap (λ t. text ++ t) (take-append-drop from piece))
-    (goes_on (text ++ take from piece) line (drop from piece) (h.goes text g) kept lacks is)
+pub none_found : (start chunk : List ℕ) (from : ℕ) (line : List ℕ) → IsWithin start chunk from line → ((k : ℕ) → k < length (drop from chunk) → get_or (drop from chunk) k 0 ≢ 10)
+    → (kept : List ℕ) → kept ≡ take 3 (line ++ drop from chunk) → (text : List ℕ) → GoesOn text start → GoesOn (text ++ chunk) kept
+none_found start chunk from line h before kept is text g =
+    let lacks = subst (Lacks 10) (take-length (drop from chunk)) (lacks_below (drop from chunk) (length (drop from chunk)) (omega arith) before) in
+    subst (λ t. GoesOn t kept) (append_assoc text (take from chunk) (drop from chunk) ∙ ap (λ t. text ++ t) (take-append-drop from chunk))
+    (goes_on (text ++ take from chunk) line (drop from chunk) (h.goes text g) kept lacks is)

@@ -1,7 +1,7 @@
 -- How long the first text of the input is.
 use Rattle.std.proofs.Common.{◌≡◌, ◌≢◌, ℕ, ◌+◌, ◌≤◌, Bool, true, false, cond, List, [], ◌∷◌, length, refl, ap, length-append, arith}
-use Rattle.text_fields.specs.Pieces.{joined, split}
-use Rattle.text_fields.proofs.PieceLaws.{joined-split}
+use Rattle.text_fields.specs.Cuts.{joined, split}
+use Rattle.text_fields.proofs.CutLaws.{joined-split}
 use Rattle.attribution_desk.specs.Input.{begins_with_end, first_length, text_length}
 
 ends_by : (b : Bool) (line : List ℕ) (later : ℕ) → b ≡ true → cond b (length line + 1) later ≡ length line + 1

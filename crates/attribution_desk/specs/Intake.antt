@@ -1,10 +1,10 @@
--- Standard input that comes in pieces.
+-- For bodies only: standard input that comes in chunks.
 use Rattle.std.specs.Prelude.{◌≡◌, ℕ, ◌+◌, List, ◌++◌, length, MatchOption}
-use Rattle.text_fields.specs.Pieces.{Lacks}
+use Rattle.text_fields.specs.Cuts.{Lacks}
 use Rattle.binding_rules.specs.declared.role.Role.{Role}
 use Rattle.binding_rules.specs.declared.role.Role.TheVariants.{Primary, Secondary}
-use Rattle.journal_text.specs.Faults.{side_reading}
-use Rattle.journal_text.specs.Stages.{HasTaken as HasRead}
+use Rattle.journal_text.specs.Faults.{journal_of_side}
+use Rattle.journal_text.specs.Progress.{HasTaken as HasParsed}
 use Rattle.attribution_desk.specs.declared.journal_intake.JournalIntake.{JournalIntake}
 use Rattle.attribution_desk.specs.declared.intake.Intake.{Intake}
 use Rattle.attribution_desk.specs.Input.{text_length}
@@ -27,7 +27,7 @@ pub record GoesOn (input line : List ℕ) : Type 0 where
 -- The intake of this side's journal has taken its text, the first of the input, which has ended or else goes on in the line
 -- that begins so.
 pub record HasTakenFirst (side : Role) (intake : JournalIntake) (input : List ℕ) : Type 0 where
-  pub read : HasRead (side_reading side) intake.reader (first_text input)
+  pub read : HasParsed (journal_of_side side) intake.reader (first_text input)
   pub stands : MatchOption intake.line (HasEnded input) (λ line. GoesOn input line.items)
 
 -- the intake has taken this input: journal A, journal B and the certificate, as far as they have come

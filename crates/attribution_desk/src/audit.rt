@@ -13,7 +13,7 @@ use std::alloc::Global;
 use std::io::{Read, Write};
 
 /// How often a reader is asked.
-const MOST_READS: u32 = 1_048_576;
+const MAX_READS: u32 = 1_048_576;
 
 /// How many octets a reader is asked for at a time.
 const READ_SIZE: usize = 65_536;
@@ -39,7 +39,7 @@ fn judge_all<R: Read>(
     ensures { IfOk result (λ answer. IfSome (R.remaining reader.old) (λ input. IsAnswer input skew answer.line.items answer.status)) }
 {
     let mut intake = Intake::new(alloc);
-    for _ in 0..MOST_READS {
+    for _ in 0..MAX_READS {
         let Ok(count) = reader.read(buffer) else {
             return Err(DeskError::Read);
         };

@@ -1,7 +1,7 @@
 //! Command words, as clap finds them.
 
-ghost use Rattle.std.specs.Prelude.{◌≡◌, ℕ, IfOk, IfSome, IsErrOf, Some, None, true, false, map, string_bytes};
-ghost use Rattle.clap.specs.Words.{app_of, rule_of, first_of, rows_of, found_of, subcommand_of, subcommand_rows_of, takes, kind_of};
+ghost use Rattle.std.specs.Prelude.{◌≡◌, ℕ, [], IfOk, IfSome, IsErrOf, Some, None, true, false, map, string_bytes};
+ghost use Rattle.clap.specs.Words.{app_of, rule_of, first_of, rows_of, found_of, subcommand_of, subcommand_rows_of, takes, fault_of, kind_of};
 ghost use Rattle.attribution_desk.specs.Words.{option_rule, desk};
 ghost use Rattle.attribution_desk.specs.Given.{IsSkewOf, IsGiven, IsNoCommand};
 
@@ -77,10 +77,14 @@ fn command_in(matches: &ArgMatches) -> Option<Command>
 /// in them or a value is no value, `Memory` where a growth was refused.
 pub fn command_of(alloc: Global, words: &[String]) -> Result<Command, UsageError>
     ensures given { IfOk result (IsGiven (subcommand_of desk (map string_bytes words.now))) }
+    // clap finds nothing wrong: no word too many, no option twice
+    ensures accepted { IfOk result (λ _. fault_of desk (map string_bytes words.now) ≡ []) }
     ensures refused { IsErrOf result UsageError.Usage → takes desk (map string_bytes words.now) ≡ true
         → IsNoCommand (subcommand_of desk (map string_bytes words.now)) }
 {
-    let command = desk_command(alloc)?;
+    let Ok(command) = desk_command(alloc) else {
+        return Err(UsageError::Memory);
+    };
     match command.try_get_matches_from(words) {
         Ok(matches) => command_in(&matches).ok_or(UsageError::Usage),
         Err(error) => Err(usage_error(error)),

@@ -1,8 +1,7 @@
 //! Why the desk gives no answer.
 
 ghost use Rattle.std.specs.Prelude.{◌≡◌};
-ghost use Rattle.attribution_desk.specs.declared.error.UsageError.TheVariants.{Memory as UsageMemory};
-ghost use Rattle.attribution_desk.specs.declared.error.DeskError.TheVariants.{Memory as DeskMemory};
+ghost use Rattle.attribution_desk.specs.declared.error.DeskError.TheVariants.{Memory};
 
 use std::alloc::AllocError;
 use thiserror::Error;
@@ -15,14 +14,6 @@ pub enum UsageError {
     /// A growth was refused.
     #[error("fault Memory")]
     Memory,
-}
-
-impl From<AllocError> for UsageError {
-    ghost from_gives = { λ _ e. e ≡ UsageMemory };
-
-    fn from(_e: AllocError) -> UsageError {
-        UsageError::Memory
-    }
 }
 
 /// Why a command was not carried out.
@@ -40,7 +31,7 @@ pub enum DeskError {
 }
 
 impl From<AllocError> for DeskError {
-    ghost from_gives = { λ _ e. e ≡ DeskMemory };
+    ghost from_gives = { λ _ e. e ≡ Memory };
 
     fn from(_e: AllocError) -> DeskError {
         DeskError::Memory

@@ -1,4 +1,4 @@
-//! Standard input in pieces.
+//! Standard input in chunks.
 
 ghost use Rattle.std.specs.Prelude.{◌≡◌, ℕ, List, [], ◌++◌, IfOk, IfErr};
 ghost use Rattle.attribution_desk.specs.Answer.{IsAnswer};
@@ -9,13 +9,14 @@ use crate::error::DeskError;
 use crate::journal_intake::JournalIntake;
 use auditor::{AuditError, audit_read};
 use binding_rules::Role;
+use journal_text::{text_gives_what_it_spells, written_is_closed};
 use lead_time::Skew;
 use std::alloc::Global;
 
 /// The input's three texts, journal A, journal B and the certificate, as far as they have come: the lines of the
 /// journals, and the octets of the certificate.
 #[derive(Drop)]
-pub struct Intake {
+pub(crate) struct Intake {
     primary: JournalIntake,
     secondary: JournalIntake,
     certificate: Vec<u8>,
@@ -23,7 +24,7 @@ pub struct Intake {
 
 impl Intake {
     /// An intake that has taken nothing.
-    pub fn new(alloc: Global) -> Intake
+    pub(crate) fn new(alloc: Global) -> Intake
         ensures { HasTaken result [] }
     {
         Intake {
@@ -33,27 +34,29 @@ impl Intake {
         }
     }
 
-    /// Takes the next piece of the input, which may end anywhere. A journal's fault is kept, and what follows is
+    /// Takes the next chunk of the input, which may end anywhere. A journal's fault is kept, and what follows is
     /// still taken. `Memory` where a growth was refused.
-    pub fn feed(self, piece: &[u8]) -> Result<Intake, DeskError>
-        ensures taken { IfOk result (λ intake. (input : List ℕ) → HasTaken self input → HasTaken intake (input ++ piece.now)) }
+    pub(crate) fn feed(self, chunk: &[u8]) -> Result<Intake, DeskError>
+        ensures taken { IfOk result (λ intake. (input : List ℕ) → HasTaken self input → HasTaken intake (input ++ chunk.now)) }
         ensures refused { IfErr result (λ e. e ≡ DeskError.Memory) }
     {
         let mut intake = self;
-        let primary = intake.primary.feed(piece)?;
-        let rest = &piece[primary..];
+        let primary = intake.primary.feed(chunk)?;
+        let rest = &chunk[primary..];
         let secondary = intake.secondary.feed(rest)?;
         intake.certificate.extend_from_slice(&rest[secondary..])?;
         Ok(intake)
     }
 
     /// The answer to the input that was taken; `Memory` where a growth was refused.
-    pub fn answer(self, alloc: Global, skew: Skew) -> Result<Answer, DeskError>
+    pub(crate) fn answer(self, alloc: Global, skew: Skew) -> Result<Answer, DeskError>
         // What was made by `new` and `feed` has taken some input.
         requires { (input : List ℕ) × HasTaken self input }
         ensures answer { IfOk result (λ answer. (input : List ℕ) → HasTaken self input → IsAnswer input skew answer.line.items answer.status) }
         ensures refused { IfErr result (λ e. e ≡ DeskError.Memory) }
     {
+        text_gives_what_it_spells();
+        written_is_closed();
         let primary = self.primary.finish();
         let secondary = self.secondary.finish();
         match audit_read(alloc, primary, secondary, &self.certificate, skew) {

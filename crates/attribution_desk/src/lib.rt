@@ -1,4 +1,15 @@
 //! The desk: a command line and standard input to one verdict line.
+//!
+//! `command_of` gives the [`Command`] that clap finds in the words, `run` carries it out between a reader and a
+//! writer, and `judge` answers an input that is at hand. The input is journal A, journal B and the certificate, one
+//! after the other, and is never held whole: each chunk goes to the readers of the journals. specs/Answer says what
+//! is answered, specs/Input where a text ends, specs/Words and specs/Given what a command is; specs/Intake is for
+//! bodies only.
+//!
+//! ```text
+//! let command = command_of(alloc, &words)?;
+//! let status = run(alloc, &command, &mut reader, &mut writer)?; // 0: accepted
+//! ```
 #![tactic(auto)]
 
 mod answer;
@@ -13,4 +24,3 @@ pub use answer::Answer;
 pub use audit::{judge, run};
 pub use command::{Command, command_of};
 pub use error::{DeskError, UsageError};
-pub use intake::Intake;

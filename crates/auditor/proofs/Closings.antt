@@ -7,7 +7,8 @@ use Rattle.journal_lines.specs.declared.event.Event.TheVariants.{Close}
 use Rattle.journal_lines.specs.declared.line.Line.{Line}
 use Rattle.journal_lines.specs.Close.{is_close}
 use Rattle.attribution.specs.Acceptance.{ClosesFrom}
-use Rattle.auditor.specs.Closing.{ClosesAt, IsClosed}
+use Rattle.journal_text.specs.Closed.{IsClosed}
+use Rattle.auditor.specs.Closing.{ClosesAt}
 use Rattle.auditor.proofs.Given.{Contains-get, get-Contains}
 
 close_is : (e : Event) → is_close e ≡ true → e ≡ Close

@@ -4,7 +4,7 @@ use Rattle.std.proofs.Common.{arith, sym, ◌∙◌, ap, subst, inl, inr}
 use Rattle.std.proofs.lemmas.Bool.{cases_lt}
 use Rattle.binding_rules.specs.declared.role.Role.{Role}
 use Rattle.binding_rules.specs.declared.role.Role.TheVariants.{Primary, Secondary}
-use Rattle.causal_order.specs.declared.reference.Ref.{Ref}
+use Rattle.claims.specs.declared.reference.Ref.{Ref}
 use Rattle.attribution.specs.FirstRefusal.{ComesBefore, IsLeast}
 use Rattle.auditor.specs.Refusals.{ComesFirst}
 

@@ -1,9 +1,10 @@
+pub mod Asked
 pub mod Bounds
 pub mod Closings
 pub mod Given
 pub mod Leases
 pub mod Least
 pub mod Others
-pub mod Cuts
+pub mod ShortCuts
 pub mod Tiling
 pub mod TextVerdicts

@@ -4,10 +4,11 @@ use Rattle.std.proofs.Common.{sym, subst, inl, inr}
 use Rattle.std.proofs.lemmas.Bool.{cases_Bool}
 use Rattle.prefix_range.specs.Prefix.{Overlaps}
 use Rattle.journal_lines.specs.declared.event.Lease.{Lease}
-use Rattle.causal_order.specs.declared.reference.Ref.{Ref}
+use Rattle.claims.specs.declared.reference.Ref.{Ref}
 use Rattle.causal_order.specs.Journals.{Journals}
 use Rattle.claims.specs.declared.certificate.Certificate.{Certificate}
-use Rattle.attribution.specs.FirstRefusal.{IsLeast, IsNamed, IsUncovered, IsCovered}
+use Rattle.attribution.specs.Acceptance.{IsNamed, IsCovered}
+use Rattle.attribution.specs.FirstRefusal.{IsLeast, IsUncovered}
 use Rattle.attribution.specs.Listing.{Concerns, IsListing}
 use Rattle.attribution.specs.Tests.{lease_of, is_named}
 use Rattle.attribution.proofs.Deciding.{lease_grants, decides_named}

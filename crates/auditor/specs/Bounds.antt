@@ -1,6 +1,6 @@
 -- What chains show of the moments at which a line was written, and how long a lease lasts from there, in milliseconds.
 use Rattle.std.specs.Prelude.{◌≡◌, ◌≢◌, ℕ, ◌+◌, ◌*◌, ◌≤◌, ◌⊎◌, List, Option, Some, None, ℤ, pos, ◌+ℤ◌, ◌≤ℤ◌}
-use Rattle.causal_order.specs.declared.reference.Ref.{Ref}
+use Rattle.claims.specs.declared.reference.Ref.{Ref}
 use Rattle.causal_order.specs.Journals.{Journals}
 use Rattle.causal_order.specs.Order.{WrittenBy, WrittenFrom}
 use Rattle.prefix_range.specs.Prefix.{Prefix, Contains}

@@ -2,14 +2,14 @@
 use Rattle.std.specs.Prelude.{◌≡◌, ◌≢◌, ℕ, ◌+◌, ◌≤◌, Option, Some, None, All, slice_get}
 use Rattle.prefix_range.specs.Prefix.{Overlaps}
 use Rattle.journal_lines.specs.declared.event.Lease.{Lease}
-use Rattle.causal_order.specs.declared.reference.Ref.{Ref}
+use Rattle.claims.specs.declared.reference.Ref.{Ref}
 use Rattle.causal_order.specs.Journals.{Journals}
 use Rattle.claims.specs.declared.certificate.Certificate.{Certificate}
 use Rattle.claims.specs.declared.certificate.Piece.{Piece}
 use Rattle.claims.specs.declared.certificate.Clear.{Clear}
 use Rattle.claims.specs.declared.certificate.Foreign.{Foreign}
-use Rattle.attribution.specs.Acceptance.{GivesBack, IsCleared}
-use Rattle.attribution.specs.FirstRefusal.{ComesBefore, IsLeast, HoldsBefore, IsFirstNot, IsGranted, Discharges, Cuts, IsUncut, ReasonHolds}
+use Rattle.attribution.specs.Acceptance.{GivesBack, IsCleared, IsGranted, Discharges, IsDischarged, ReasonHolds}
+use Rattle.attribution.specs.FirstRefusal.{ComesBefore, IsLeast, HoldsBefore, IsFirstNot, CutsShort}
 
 -- each piece is carried by its grant
 abbrev pub AreGranted : Journals → ℕ → Certificate → Type 0
@@ -20,20 +20,20 @@ abbrev pub IsUngranted : Journals → ℕ → Certificate → ℕ → Type 0
 IsUngranted js skew c n = (k : ℕ) × (p : Piece) × (n ≡ k + 1) × IsFirstNot (IsGranted js skew c) c.pieces k p
 
 -- no release cuts a piece short
-abbrev pub AreUncut : Journals → ℕ → Certificate → Type 0
-AreUncut js skew c = All (IsUncut js skew) c.pieces
+abbrev pub AreDischarged : Journals → ℕ → Certificate → Type 0
+AreDischarged js skew c = All (IsDischarged js skew) c.pieces
 
 -- this entry discharges the release from the piece
 abbrev pub DischargesBy : Journals → ℕ → Piece → Ref → Clear → Type 0
 DischargesBy js skew p r k = (k.release ≡ r) × IsCleared js skew r p.grant p.to k.why
 
 -- the release gives back this lease, which the piece's grant gave, and no clear entry discharges it
-abbrev pub CutsLease : Journals → ℕ → Piece → Lease → Ref → Type 0
-CutsLease js skew p g r = GivesBack js r g × (Discharges js skew p r → ⊥)
+abbrev pub CutsLeaseShort : Journals → ℕ → Piece → Lease → Ref → Type 0
+CutsLeaseShort js skew p g r = GivesBack js r g × (Discharges js skew p r → ⊥)
 
 -- n counts, from 1, the first piece that is cut short, and r is the least release that does
-abbrev pub IsCutAt : Journals → ℕ → Certificate → ℕ × Ref → Type 0
-IsCutAt js skew c (n, r) = (k : ℕ) × (p : Piece) × (n ≡ k + 1) × (slice_get c.pieces k ≡ Some p) × HoldsBefore (IsUncut js skew) c.pieces k × IsLeast (Cuts js skew p) r
+abbrev pub IsCutShortAt : Journals → ℕ → Certificate → ℕ × Ref → Type 0
+IsCutShortAt js skew c (n, r) = (k : ℕ) × (p : Piece) × (n ≡ k + 1) × (slice_get c.pieces k ≡ Some p) × HoldsBefore (IsDischarged js skew) c.pieces k × IsLeast (CutsShort js skew p) r
 
 -- the lease is another client's, of a prefix that overlaps the one asked of
 abbrev pub IsOthers : Lease → Certificate → Type 0

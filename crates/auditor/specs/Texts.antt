@@ -5,11 +5,11 @@ use Rattle.binding_rules.specs.declared.role.Role.TheVariants.{Primary, Secondar
 use Rattle.journal_lines.specs.declared.line.Journal.{Journal as Lines}
 use Rattle.journal_lines.specs.declared.fault.JournalFault.{JournalFault}
 use Rattle.journal_text.specs.Spelling.{journal_text, IsWritten as IsWrittenJournal}
-use Rattle.journal_text.specs.Faults.{side_reading}
+use Rattle.journal_text.specs.Faults.{journal_of_side}
 use Rattle.claims.specs.declared.certificate.Certificate.{Certificate as Claim}
 use Rattle.claims.specs.declared.fault.CertificateFault.{CertificateFault}
 use Rattle.certificate.specs.Spelling.{certificate_text, IsWritten as IsWrittenCertificate}
-use Rattle.certificate.specs.Faults.{reading_of}
+use Rattle.certificate.specs.Faults.{certificate_of}
 use Rattle.causal_order.specs.Journals.{Journals}
 use Rattle.attribution.specs.declared.verdict.Verdict.{Verdict}
 use Rattle.attribution.specs.declared.verdict.Verdict.TheVariants.{Journal, Certificate}
@@ -31,12 +31,12 @@ IsVerdictBehindA a (Ok b) skew claim v = IsVerdictOfClaim (journals_of a b) skew
 IsVerdictBehindA a (Err fault) skew claim v = v ≡ Journal Secondary fault
 
 -- the faults of A's text first
-abbrev pub IsVerdictOfReadings : Result Lines JournalFault → Result Lines JournalFault → ℕ → Result Claim CertificateFault → Verdict → Type 0
-IsVerdictOfReadings (Ok a) b skew claim v = IsVerdictBehindA a b skew claim v
-IsVerdictOfReadings (Err fault) b skew claim v = v ≡ Journal Primary fault
+abbrev pub IsVerdictOfParsed : Result Lines JournalFault → Result Lines JournalFault → ℕ → Result Claim CertificateFault → Verdict → Type 0
+IsVerdictOfParsed (Ok a) b skew claim v = IsVerdictBehindA a b skew claim v
+IsVerdictOfParsed (Err fault) b skew claim v = v ≡ Journal Primary fault
 
 abbrev pub IsVerdictOfTexts : (a b certificate : List ℕ) → ℕ → Verdict → Type 0
-IsVerdictOfTexts a b certificate skew v = IsVerdictOfReadings (side_reading Primary a) (side_reading Secondary b) skew (reading_of certificate) v
+IsVerdictOfTexts a b certificate skew v = IsVerdictOfParsed (journal_of_side Primary a) (journal_of_side Secondary b) skew (certificate_of certificate) v
 
 -- the text spells this side's journal
 pub record SpellsJournal (side : Role) (text : List ℕ) (j : Lines) : Type 0 where
@@ -48,9 +48,9 @@ pub record SpellsCertificate (text : List ℕ) (claim : Claim) : Type 0 where
   pub written : IsWrittenCertificate claim
   pub spelled : text ≡ certificate_text claim
 
--- the certificate that the text spells is true in every run that leaves the journals that reading gave
-abbrev pub ReadingsAreTrueInEveryRun : Result Lines JournalFault → Result Lines JournalFault → List ℕ → ℕ → Type 0
-ReadingsAreTrueInEveryRun a b certificate skew = (ja jb : Lines) (claim : Claim) → a ≡ Ok ja → b ≡ Ok jb → SpellsCertificate certificate claim
+-- the certificate that the text spells is true in every run that leaves the journals that parsing gave
+abbrev pub ParsedIsTrueInEveryRun : Result Lines JournalFault → Result Lines JournalFault → List ℕ → ℕ → Type 0
+ParsedIsTrueInEveryRun a b certificate skew = (ja jb : Lines) (claim : Claim) → a ≡ Ok ja → b ≡ Ok jb → SpellsCertificate certificate claim
     → IsTrueInEveryRun IsLegal (journals_of ja jb) skew claim
 
 -- the certificate that the third text spells is true in every run that leaves the journals that the first two spell

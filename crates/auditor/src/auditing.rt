@@ -1,15 +1,15 @@
 //! The verdict on a certificate.
 
-ghost use Rattle.std.specs.Prelude.{◌≡◌, ◌↔◌, IsTrue};
-ghost use Rattle.attribution.specs.Acceptance.{IsTrueInEveryRun};
-ghost use Rattle.attribution.specs.FirstRefusal.{Reaches, IsVerdict};
+ghost use Rattle.std.specs.Prelude.{◌≡◌, ◌↔◌, IsTrue, MatchOption};
+ghost use Rattle.attribution.specs.Acceptance.{IsTrueInEveryRun, Reaches};
+ghost use Rattle.attribution.specs.FirstRefusal.{IsMet, Refuses, IsVerdict};
 ghost use Rattle.attribution.specs.Legal.{IsLegal};
 
 use crate::foreign::{first_unreasoned, least_uncovered};
 use crate::pieces::{first_gap, first_ungranted};
-use crate::releases::first_cut;
+use crate::releases::first_cut_short;
 use crate::source::LineSource;
-use attribution::Verdict;
+use attribution::{CONDITIONS, Condition, Verdict};
 use binding_rules::Role;
 use claims::Certificate;
 use lead_time::Skew;
@@ -22,33 +22,54 @@ fn reaches<S: LineSource>(source: &S, certificate: &Certificate, side: Role, ske
     certificate.to.milliseconds() + skew.milliseconds() <= source.close_reading(side).milliseconds()
 }
 
-/// The first condition that isn't met, or that the certificate is accepted.
+/// The refusal of a condition, or `None` where it is met.
+fn refusal_by<S: LineSource>(
+    source: &S,
+    certificate: &Certificate,
+    condition: Condition,
+    skew: Skew,
+) -> Option<Verdict>
+    ensures { MatchOption result (IsMet (S.journals source.now) skew certificate.now condition)
+        (Refuses (S.journals source.now) skew certificate.now condition) }
+{
+    match condition {
+        Condition::Moment => {
+            if certificate.from < certificate.to {
+                return None;
+            }
+            Some(Verdict::EmptyInterval)
+        }
+        Condition::Shown(side) => {
+            if reaches(source, certificate, side, skew) {
+                return None;
+            }
+            Some(Verdict::PastEnd(side))
+        }
+        Condition::Tiled => Some(Verdict::PieceGap(first_gap(certificate)?)),
+        Condition::Granted => {
+            let number = first_ungranted(source, certificate, skew)?;
+            Some(Verdict::PieceGrant(number))
+        }
+        Condition::Discharged => {
+            let (number, release) = first_cut_short(source, certificate, skew)?;
+            Some(Verdict::PieceRelease(number, release))
+        }
+        Condition::Covered => Some(Verdict::Uncovered(least_uncovered(source, certificate)?)),
+        Condition::Reasoned => {
+            let grant = first_unreasoned(source, certificate, skew)?;
+            Some(Verdict::Reason(grant))
+        }
+    }
+}
+
+/// The refusal of the first condition that isn't met, or that the certificate is accepted.
 fn judgment<S: LineSource>(source: &S, certificate: &Certificate, skew: Skew) -> Verdict
     ensures { IsVerdict (S.journals source.now) skew certificate.now result }
 {
-    if certificate.from >= certificate.to {
-        return Verdict::EmptyInterval;
-    }
-    if !reaches(source, certificate, Role::Primary, skew) {
-        return Verdict::PastEnd(Role::Primary);
-    }
-    if !reaches(source, certificate, Role::Secondary, skew) {
-        return Verdict::PastEnd(Role::Secondary);
-    }
-    if let Some(number) = first_gap(certificate) {
-        return Verdict::PieceGap(number);
-    }
-    if let Some(number) = first_ungranted(source, certificate, skew) {
-        return Verdict::PieceGrant(number);
-    }
-    if let Some((number, release)) = first_cut(source, certificate, skew) {
-        return Verdict::PieceRelease(number, release);
-    }
-    if let Some(grant) = least_uncovered(source, certificate) {
-        return Verdict::Uncovered(grant);
-    }
-    if let Some(grant) = first_unreasoned(source, certificate, skew) {
-        return Verdict::Reason(grant);
+    for condition in &CONDITIONS {
+        if let Some(refusal) = refusal_by(source, certificate, *condition, skew) {
+            return refusal;
+        }
     }
     Verdict::Accepted
 }

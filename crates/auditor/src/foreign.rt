@@ -1,10 +1,11 @@
 //! Whether a certificate names each grant to another client, with a reason that holds.
 
 ghost use Rattle.std.specs.Prelude.{◌↔◌, IsTrue, MatchOption};
-ghost use Rattle.attribution.specs.FirstRefusal.{IsLeast, IsNamed, IsUncovered, IsCovered};
+ghost use Rattle.attribution.specs.Acceptance.{IsNamed, IsCovered};
+ghost use Rattle.attribution.specs.FirstRefusal.{IsLeast, IsUncovered};
 ghost use Rattle.auditor.specs.Refusals.{IsOthers, AreReasoned, IsUnreasoned};
 
-use crate::grants::{is_same_client, lease_at, reason_holds};
+use crate::grants::{lease_at, reason_holds};
 use crate::order::{comes_first, is_before};
 use crate::source::LineSource;
 use causal_order::{Lines, Ref};
@@ -49,7 +50,7 @@ fn is_named(certificate: &Certificate, at: Ref) -> bool
 fn is_foreign(lease: &Lease, certificate: &Certificate) -> bool
     ensures { IsTrue result ↔ IsOthers lease.now certificate.now }
 {
-    !is_same_client(&lease.client, &certificate.holder)
+    lease.client != certificate.holder
         && lease.prefix.overlaps(&certificate.prefix)
 }
 

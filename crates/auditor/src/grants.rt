@@ -1,8 +1,7 @@
 //! Whether a grant carries a piece, and whether it stays out of an interval.
 
 ghost use Rattle.std.specs.Prelude.{◌≡◌, ◌↔◌, ◌*◌, IsTrue, pos};
-ghost use Rattle.attribution.specs.Acceptance.{GivesBack, IsOutside};
-ghost use Rattle.attribution.specs.FirstRefusal.{IsGranted, ReasonHolds};
+ghost use Rattle.attribution.specs.Acceptance.{GivesBack, IsOutside, IsGranted, ReasonHolds};
 ghost use Rattle.attribution.specs.Tests.{lease_of};
 ghost use Rattle.auditor.specs.Bounds.{IsLatestAt, IsEarliestAt, LastsTo, EndsBy, IsWrittenBy, IsWrittenFrom, IsOver, IsLasting, IsHolders, IsLeaseOf, IsValidThroughout};
 
@@ -158,21 +157,14 @@ pub fn gives_back<L: Lines>(lines: &L, at: Ref, lease: &Lease) -> bool
 fn is_lease_of(lease: &Lease, client: &Duid, iaid: Iaid, prefix: &Prefix) -> bool
     ensures { IsTrue result ↔ IsLeaseOf lease.now client.now iaid prefix.now }
 {
-    is_same_client(client, &lease.client) && iaid == lease.iaid && *prefix == lease.prefix
-}
-
-/// Whether both are one client.
-pub fn is_same_client(one: &Duid, other: &Duid) -> bool
-    ensures { IsTrue result ↔ (one.now ≡ other.now) }
-{
-    one.as_bytes() == other.as_bytes()
+    *client == lease.client && iaid == lease.iaid && *prefix == lease.prefix
 }
 
 /// Whether the lease is the holder's, of a prefix round the one asked of.
 fn is_holders(lease: &Lease, certificate: &Certificate) -> bool
     ensures { IsTrue result ↔ IsHolders lease.now certificate.now }
 {
-    is_same_client(&lease.client, &certificate.holder) && lease.prefix.contains(&certificate.prefix)
+    lease.client == certificate.holder && lease.prefix.contains(&certificate.prefix)
 }
 
 /// Whether the piece's chains show its grant's lease to be valid from its beginning to its end.
@@ -214,7 +206,7 @@ fn is_outside<L: Lines>(
             latest,
         } => {
             gives_back(lines, *release, lease)
-                && precedes(lines, order, foreign.grant, *release, skew)
+                && precedes(lines, foreign.grant, *release, order, skew)
                 && is_written_by(lines, latest, *release, skew, certificate.from)
         }
     }

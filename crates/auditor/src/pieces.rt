@@ -1,7 +1,8 @@
 //! Whether a certificate's pieces cover its interval, and whether their grants carry them.
 
 ghost use Rattle.std.specs.Prelude.{MatchOption};
-ghost use Rattle.attribution.specs.FirstRefusal.{IsTiled, IsGap, IsGranted};
+ghost use Rattle.attribution.specs.Acceptance.{IsGranted};
+ghost use Rattle.attribution.specs.FirstRefusal.{IsTiled, IsGap};
 ghost use Rattle.auditor.specs.Refusals.{IsUngranted, AreGranted};
 
 use crate::grants::is_granted;

@@ -3,7 +3,8 @@
 ghost use Rattle.std.specs.Prelude.{◌≡◌, ◌<◌, ◌≤◌, ◌^◌, length, slice_get, Some};
 ghost use Rattle.binding_rules.specs.declared.role.Role.{Role as RoleValue};
 ghost use Rattle.causal_order.specs.Journals.{journal_of, line_of};
-ghost use Rattle.auditor.specs.Closing.{IsClosed, ClosesAt};
+ghost use Rattle.journal_text.specs.Closed.{IsClosed};
+ghost use Rattle.auditor.specs.Closing.{ClosesAt};
 ghost use Rattle.auditor.specs.Overlaps.{concerns, overlaps_from, overlaps_of};
 
 use crate::source::LineSource;
@@ -23,7 +24,7 @@ pub struct PlainSource<'a> {
 
 impl<'a> Model for PlainSource<'a> {
     ghost use Rattle.causal_order.specs.Journals.{Journals};
-    ghost use Rattle.auditor.specs.Closing.{IsClosed};
+    ghost use Rattle.journal_text.specs.Closed.{IsClosed};
 
     ghost Value = { Journals };
 

@@ -2,10 +2,10 @@
 
 ghost use Rattle.std.specs.Prelude.{◌↔◌, IsTrue, MatchOption};
 ghost use Rattle.prefix_range.specs.Prefix.{Overlaps};
-ghost use Rattle.causal_order.specs.declared.reference.Ref.{Ref as RefValue};
-ghost use Rattle.attribution.specs.Acceptance.{GivesBack, IsCleared};
-ghost use Rattle.attribution.specs.FirstRefusal.{IsLeast, Discharges, Cuts, IsUncut};
-ghost use Rattle.auditor.specs.Refusals.{AreUncut, CutsLease, DischargesBy, IsCutAt};
+ghost use Rattle.claims.specs.declared.reference.Ref.{Ref as RefValue};
+ghost use Rattle.attribution.specs.Acceptance.{GivesBack, IsCleared, Discharges, IsDischarged};
+ghost use Rattle.attribution.specs.FirstRefusal.{IsLeast, CutsShort};
+ghost use Rattle.auditor.specs.Refusals.{AreDischarged, CutsLeaseShort, DischargesBy, IsCutShortAt};
 
 use crate::grants::{gives_back, is_written_from, lease_at};
 use crate::order::comes_first;
@@ -21,7 +21,7 @@ fn is_cleared<L: Lines>(lines: &L, piece: &Piece, release: Ref, why: &Why, skew:
     ensures { IsTrue result ↔ IsCleared (L.journals lines.now) skew release piece.now.grant piece.now.to why.now }
 {
     match why {
-        Why::Before(order) => precedes(lines, order, release, piece.grant, skew),
+        Why::Before(order) => precedes(lines, release, piece.grant, order, skew),
         Why::After(chain) => is_written_from(lines, chain, release, skew, piece.to),
     }
 }
@@ -47,8 +47,8 @@ fn is_discharged<L: Lines>(lines: &L, piece: &Piece, release: Ref, skew: Skew) -
 }
 
 /// Whether the line gives the lease back, and no clear entry of the piece discharges it.
-fn is_cut_by<L: Lines>(lines: &L, piece: &Piece, lease: &Lease, at: Ref, skew: Skew) -> bool
-    ensures { IsTrue result ↔ CutsLease (L.journals lines.now) skew piece.now lease.now at }
+fn cuts_short<L: Lines>(lines: &L, piece: &Piece, lease: &Lease, at: Ref, skew: Skew) -> bool
+    ensures { IsTrue result ↔ CutsLeaseShort (L.journals lines.now) skew piece.now lease.now at }
 {
     gives_back(lines, at, lease) && !is_discharged(lines, piece, at, skew)
 }
@@ -61,15 +61,15 @@ fn overlaps_itself(prefix: &Prefix)
 }
 
 /// The least line that gives the lease of the piece's grant back and that no clear entry discharges.
-fn least_cut<S: LineSource>(source: &S, piece: &Piece, lease: &Lease, skew: Skew) -> Option<Ref>
-    ensures { MatchOption result ((r : RefValue) → CutsLease (S.journals source.now) skew piece.now lease.now r → ⊥) (IsLeast (CutsLease (S.journals source.now) skew piece.now lease.now)) }
+fn least_cutting<S: LineSource>(source: &S, piece: &Piece, lease: &Lease, skew: Skew) -> Option<Ref>
+    ensures { MatchOption result ((r : RefValue) → CutsLeaseShort (S.journals source.now) skew piece.now lease.now r → ⊥) (IsLeast (CutsLeaseShort (S.journals source.now) skew piece.now lease.now)) }
 {
     overlaps_itself(&lease.prefix);
     let mut least: Option<Ref> = None;
     let count = source.overlap_count(&lease.prefix);
     for index in 0..count {
         let at = source.overlap_at(&lease.prefix, index);
-        if comes_first(at, least) && is_cut_by(source, piece, lease, at, skew) {
+        if comes_first(at, least) && cuts_short(source, piece, lease, at, skew) {
             least = Some(at);
         }
     }
@@ -77,25 +77,25 @@ fn least_cut<S: LineSource>(source: &S, piece: &Piece, lease: &Lease, skew: Skew
 }
 
 /// The least release that cuts the piece short.
-#[tactic(auto, using(crate::proofs::Cuts::uncut_of_none))]
-fn cut_of<S: LineSource>(source: &S, piece: &Piece, skew: Skew) -> Option<Ref>
-    ensures { MatchOption result (IsUncut (S.journals source.now) skew piece.now) (IsLeast (Cuts (S.journals source.now) skew piece.now)) }
+#[tactic(auto, using(crate::proofs::ShortCuts::discharged_of_none))]
+fn cutting_release<S: LineSource>(source: &S, piece: &Piece, skew: Skew) -> Option<Ref>
+    ensures { MatchOption result (IsDischarged (S.journals source.now) skew piece.now) (IsLeast (CutsShort (S.journals source.now) skew piece.now)) }
 {
     let lease = lease_at(source, piece.grant)?;
-    least_cut(source, piece, &lease, skew)
+    least_cutting(source, piece, &lease, skew)
 }
 
 /// The number, from 1, of the first piece that a release cuts short, and the least such release.
-#[tactic(auto, using(crate::proofs::Cuts::cut_at))]
-pub fn first_cut<S: LineSource>(
+#[tactic(auto, using(crate::proofs::ShortCuts::cut_at))]
+pub fn first_cut_short<S: LineSource>(
     source: &S,
     certificate: &Certificate,
     skew: Skew,
 ) -> Option<(u64, Ref)>
-    ensures { MatchOption result (AreUncut (S.journals source.now) skew certificate.now) (IsCutAt (S.journals source.now) skew certificate.now) }
+    ensures { MatchOption result (AreDischarged (S.journals source.now) skew certificate.now) (IsCutShortAt (S.journals source.now) skew certificate.now) }
 {
     for (index, piece) in certificate.pieces.as_slice().iter().enumerate() {
-        if let Some(release) = cut_of(source, piece, skew) {
+        if let Some(release) = cutting_release(source, piece, skew) {
             return Some((index as u64 + 1, release));
         }
     }

@@ -2,7 +2,7 @@
 
 ghost use Rattle.std.specs.Prelude.{◌≡◌, ◌<◌, List, length, slice_get};
 ghost use Rattle.prefix_range.specs.Prefix.{Prefix as PrefixValue};
-ghost use Rattle.causal_order.specs.declared.reference.Ref.{Ref as RefValue};
+ghost use Rattle.claims.specs.declared.reference.Ref.{Ref as RefValue};
 ghost use Rattle.causal_order.specs.Journals.{journal_of};
 ghost use Rattle.attribution.specs.Listing.{IsListing};
 ghost use Rattle.auditor.specs.Closing.{ClosesAt};

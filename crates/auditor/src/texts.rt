@@ -2,18 +2,18 @@
 
 ghost use Rattle.std.specs.Prelude.{◌≡◌, IfOk};
 ghost use Rattle.std.specs.Result.{ForOk};
-ghost use Rattle.journal_text.specs.Faults.{side_reading};
-ghost use Rattle.certificate.specs.Faults.{reading_of};
-ghost use Rattle.auditor.specs.Closing.{IsClosed};
-ghost use Rattle.auditor.specs.Texts.{IsVerdictOfReadings, IsVerdictOfTexts, ReadingsAreTrueInEveryRun, TextsAreTrueInEveryRun};
+ghost use Rattle.journal_text.specs.Faults.{journal_of_side};
+ghost use Rattle.certificate.specs.Faults.{certificate_of};
+ghost use Rattle.journal_text.specs.Closed.{IsClosed};
+ghost use Rattle.auditor.specs.Texts.{IsVerdictOfParsed, IsVerdictOfTexts, ParsedIsTrueInEveryRun, TextsAreTrueInEveryRun};
 
 use crate::auditing::audit;
 use crate::plain::PlainSource;
 use attribution::Verdict;
 use binding_rules::Role;
-use certificate::CertificateError;
+use certificate::{CertificateError, certificates_are_spelled};
 use journal_lines::{Journal, JournalFault};
-use journal_text::{JournalError, read_side};
+use journal_text::{JournalError, read_side, text_gives_what_it_spells, written_is_closed};
 use lead_time::Skew;
 use std::alloc::Global;
 use thiserror::Error;
@@ -26,7 +26,7 @@ pub enum AuditError {
     Memory,
 }
 
-fn verdict_on_readings(
+fn verdict_on_parsed(
     alloc: Global,
     a: Result<Journal, JournalFault>,
     b: Result<Journal, JournalFault>,
@@ -35,7 +35,7 @@ fn verdict_on_readings(
 ) -> Result<Verdict, AuditError>
     requires a_closed { ForOk a (λ journal. IsClosed journal.lines) }
     requires b_closed { ForOk b (λ journal. IsClosed journal.lines) }
-    ensures { IfOk result (IsVerdictOfReadings a b skew (reading_of certificate.now)) }
+    ensures { IfOk result (IsVerdictOfParsed a b skew (certificate_of certificate.now)) }
 {
     let primary = match a {
         Ok(journal) => journal,
@@ -66,22 +66,24 @@ pub fn audit_read(
 ) -> Result<Verdict, AuditError>
     requires a_closed { ForOk a (λ journal. IsClosed journal.lines) }
     requires b_closed { ForOk b (λ journal. IsClosed journal.lines) }
-    ensures verdict { IfOk result (IsVerdictOfReadings a b skew (reading_of certificate.now)) }
+    ensures verdict { IfOk result (IsVerdictOfParsed a b skew (certificate_of certificate.now)) }
     // What is accepted is true in every run of the pair that leaves these journals.
-    ensures headline { result ≡ Ok Verdict.Accepted → ReadingsAreTrueInEveryRun a b certificate.now skew }
+    ensures headline { result ≡ Ok Verdict.Accepted → ParsedIsTrueInEveryRun a b certificate.now skew }
 {
-    verdict_on_readings(alloc, a, b, certificate, skew)
+    certificates_are_spelled();
+    verdict_on_parsed(alloc, a, b, certificate, skew)
 }
 
-/// The journal of this side that a text spells, or its first fault.
-fn reading(
+/// The journal of this side that a text spells, which is closed, or its first fault.
+fn parsed_journal(
     alloc: Global,
     side: Role,
     text: &[u8],
 ) -> Result<Result<Journal, JournalFault>, AuditError>
-    ensures exact { IfOk result (λ read. read ≡ side_reading side text.now) }
-    ensures closed { IfOk result (λ read. ForOk read (λ journal. IsClosed journal.lines)) }
+    ensures exact { IfOk result (λ parsed. parsed ≡ journal_of_side side text.now) }
+    ensures closed { IfOk result (λ parsed. ForOk parsed (λ journal. IsClosed journal.lines)) }
 {
+    written_is_closed();
     match read_side(alloc, side, text) {
         Ok(journal) => Ok(Ok(journal)),
         Err(JournalError::Fault(fault)) => Ok(Err(fault)),
@@ -104,10 +106,11 @@ pub fn audit_bytes(
     // of true time.
     ensures headline { result ≡ Ok Verdict.Accepted → TextsAreTrueInEveryRun a.now b.now certificate.now skew }
 {
-    let primary = match reading(alloc, Role::Primary, a)? {
-        Ok(journal) => journal,
-        Err(fault) => return Ok(Verdict::Journal(Role::Primary, fault)),
-    };
-    let secondary = reading(alloc, Role::Secondary, b)?;
-    audit_read(alloc, Ok(primary), secondary, certificate, skew)
+    text_gives_what_it_spells();
+    let primary = parsed_journal(alloc, Role::Primary, a)?;
+    if let Err(fault) = &primary {
+        return Ok(Verdict::Journal(Role::Primary, *fault));
+    }
+    let secondary = parsed_journal(alloc, Role::Secondary, b)?;
+    audit_read(alloc, primary, secondary, certificate, skew)
 }

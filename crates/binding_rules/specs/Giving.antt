@@ -1,4 +1,4 @@
--- Which units a server may give (RFC 8156, section 4.2.1: FREE is the primary's to give, FREE-BACKUP the secondary's).
+-- Which units a server may give (RFC 8156, section 4.2.2: FREE is the primary's to give, FREE-BACKUP the secondary's).
 use Rattle.std.specs.Prelude.{ℕ, Bool, true, false, List}
 use Rattle.binding_rules.specs.declared.role.Role.{Role}
 use Rattle.binding_rules.specs.declared.role.Role.TheVariants.{Primary, Secondary}

@@ -1,4 +1,4 @@
--- What the partners may tell each other of a unit (RFC 8156, section 5: binding updates and replies).
+-- What the partners may tell each other (RFC 8156, section 5: binding updates and replies).
 use Rattle.std.specs.Prelude.{◌≡◌, ℕ, ◌^◌, ◌<◌, ◌≤◌, Bool, true, false, List, Option, Some, None}
 use Rattle.client_id.specs.Duid.{IsDuid}
 use Rattle.prefix_range.specs.Prefix.{IsPrefix}
@@ -6,6 +6,9 @@ use Rattle.binding_rules.specs.declared.update.Status.{Status}
 use Rattle.binding_rules.specs.declared.update.Status.TheVariants.{Active, Expired, Released, Backup, Free}
 use Rattle.binding_rules.specs.declared.update.Update.{Update}
 use Rattle.binding_rules.specs.declared.update.BindReply.{BindReply}
+use Rattle.binding_rules.specs.declared.message.Body.{Body}
+use Rattle.binding_rules.specs.declared.message.Body.TheVariants.{Update as UpdateBody, Reply, Contact}
+use Rattle.binding_rules.specs.declared.message.PartnerMessage.{PartnerMessage}
 
 -- a unit of this status is, or was, a client's
 abbrev pub has_client : Status → Bool
@@ -38,3 +41,14 @@ pub record IsReply (r : BindReply) : Type 0 where
   pub of : r.of ≤ 2 ^ 49
   pub mine : r.mine ≤ 2 ^ 49
   pub seen : r.seen ≤ 2 ^ 49
+
+-- what a numbered message may say
+abbrev pub IsBody : Body → Type 0
+IsBody (UpdateBody u) = IsUpdate u
+IsBody (Reply r) = IsReply r
+IsBody (Contact ask answer) = (ask ≤ 2 ^ 49) × (answer ≤ 2 ^ 49)
+
+pub record IsPartnerMessage (m : PartnerMessage) : Type 0 where
+  pub term : m.term < 2 ^ 32
+  pub serial : m.serial ≤ 2 ^ 49
+  pub body : IsBody m.body

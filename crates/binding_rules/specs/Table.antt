@@ -1,16 +1,20 @@
--- The binding table: which updates a server accepts, and what they make of its unit. The names are those of RFC 8156; the table is
--- this project's own.
-use Rattle.std.specs.Prelude.{ℕ, Bool, true, false, ◌+◌, ◌&&◌, ◌||◌, ◌==◌, nat_le, max, Option, Some, None, List, if◌then◌else◌}
+-- The binding table: which updates a server accepts, and what they make of its unit. The names are those of RFC 8156;
+-- the table is this project's own.
+use Rattle.std.specs.Prelude.{ℕ, Bool, true, false, ◌+◌, ◌&&◌, ◌||◌, ◌==◌, nat_le, max, Option, Some, None, List}
+use Rattle.std.specs.Prelude.{if◌then◌else◌}
 use Rattle.binding_rules.specs.declared.role.Role.{Role}
 use Rattle.binding_rules.specs.declared.role.Role.TheVariants.{Primary, Secondary}
 use Rattle.binding_rules.specs.declared.unit.UnitStatus.{UnitStatus}
 use Rattle.binding_rules.specs.declared.unit.UnitStatus.TheVariants.{Free, FreeBackup, Active, Expired, Released}
 use Rattle.binding_rules.specs.declared.unit.Unit.{Unit as UnitValue}
 use Rattle.binding_rules.specs.declared.update.Status.{Status}
-use Rattle.binding_rules.specs.declared.update.Status.TheVariants.{Active as ActiveDue, Expired as ExpiredDue, Released as ReleasedDue, Backup as BackupDue, Free as FreeDue}
+use Rattle.binding_rules.specs.declared.update.Status.TheVariants.{Active as ActiveDue, Expired as ExpiredDue}
+use Rattle.binding_rules.specs.declared.update.Status.TheVariants.{Released as ReleasedDue, Backup as BackupDue}
+use Rattle.binding_rules.specs.declared.update.Status.TheVariants.{Free as FreeDue}
 use Rattle.binding_rules.specs.declared.update.Update.{Update}
 use Rattle.binding_rules.specs.declared.update.Acknowledgement.{Acknowledgement}
-use Rattle.binding_rules.specs.declared.update.Acknowledgement.TheVariants.{Accept as AcceptReply, Reject as RejectReply}
+use Rattle.binding_rules.specs.declared.update.Acknowledgement.TheVariants.{Accept as AcceptReply}
+use Rattle.binding_rules.specs.declared.update.Acknowledgement.TheVariants.{Reject as RejectReply}
 use Rattle.binding_rules.specs.declared.taking.Outcome.{Outcome}
 use Rattle.binding_rules.specs.declared.taking.Outcome.TheVariants.{Accept, Reject, Drop}
 use Rattle.binding_rules.specs.Unit.{same_binding, freed}
@@ -44,7 +48,8 @@ abbrev pub at_secondary : Role → Bool
 at_secondary Primary = false
 at_secondary Secondary = true
 
--- Whether the receiver, in this role and at this reading, accepts what an update says of its unit. First what is said, then what the unit is.
+-- Whether the receiver, in this role and at this reading, accepts what an update says of its unit. First what is said,
+-- then what the unit is.
 abbrev pub accepts : Role → UnitValue → ℕ → Update → UnitStatus → UnitStatus → Bool
 accepts role u now m (Active k) Free = at_secondary role
 accepts role u now m (Active k) FreeBackup = at_primary role
@@ -89,7 +94,11 @@ becomes u m Free = freed u
 
 -- the unit with the reply to an update: of the update's count, with the unit's counters
 abbrev pub answered : UnitValue → Update → Acknowledgement → UnitValue
-answered u m how = record u { pending = Some (record { acknowledgement = how; prefix = m.prefix; of = m.mine; mine = u.mine; seen = u.seen }) }
+answered u m how =
+    record u {
+      pending = Some
+          (record { acknowledgement = how; prefix = m.prefix; of = m.mine; mine = u.mine; seen = u.seen });
+    }
 
 -- each accepted update counts as a change of the receiver's own, and is seen
 abbrev pub counted : UnitValue → Update → UnitValue
@@ -107,4 +116,5 @@ abbrev pub outcome_of : Role → UnitValue → ℕ → Update → Outcome
 outcome_of role u now m = if nat_le m.mine u.seen then Drop else (if is_accepted role u now m then Accept else Reject)
 
 abbrev pub after_update : Role → UnitValue → ℕ → Update → UnitValue
-after_update role u now m = if nat_le m.mine u.seen then u else (if is_accepted role u now m then accepted u m else answered u m RejectReply)
+after_update role u now m =
+    if nat_le m.mine u.seen then u else (if is_accepted role u now m then accepted u m else answered u m RejectReply)

@@ -6,7 +6,9 @@ use Rattle.binding_rules.specs.declared.unit.UnitStatus.{UnitStatus}
 use Rattle.binding_rules.specs.declared.unit.UnitStatus.TheVariants.{Free, FreeBackup, Active, Expired, Released}
 use Rattle.binding_rules.specs.declared.unit.Unit.{Unit as UnitValue}
 use Rattle.binding_rules.specs.declared.update.Status.{Status}
-use Rattle.binding_rules.specs.declared.update.Status.TheVariants.{Active as ActiveKind, Expired as ExpiredKind, Released as ReleasedKind, Backup as BackupKind, Free as FreeKind}
+use Rattle.binding_rules.specs.declared.update.Status.TheVariants.{Active as ActiveKind, Expired as ExpiredKind}
+use Rattle.binding_rules.specs.declared.update.Status.TheVariants.{Released as ReleasedKind, Backup as BackupKind}
+use Rattle.binding_rules.specs.declared.update.Status.TheVariants.{Free as FreeKind}
 
 -- the same client's same identity association
 abbrev pub same_binding : Binding → Binding → Bool
@@ -22,11 +24,33 @@ status_of (Released k) = ReleasedKind
 
 -- a unit as it is when the journal begins
 abbrev pub fresh : UnitValue
-fresh = record { status = Free; mine = 0; seen = 0; own_end = 0; out_end = 0; acked = 0; told = 0; due = None; pending = None }
+fresh =
+    record {
+      status = Free;
+      mine = 0;
+      seen = 0;
+      own_end = 0;
+      out_end = 0;
+      acked = 0;
+      told = 0;
+      due = None;
+      pending = None;
+    }
 
 -- a unit that is free again: its counters and its pending reply stay
 abbrev pub freed : UnitValue → UnitValue
-freed u = record { status = Free; mine = u.mine; seen = u.seen; own_end = 0; out_end = 0; acked = 0; told = 0; due = None; pending = u.pending }
+freed u =
+    record {
+      status = Free;
+      mine = u.mine;
+      seen = u.seen;
+      own_end = 0;
+      out_end = 0;
+      acked = 0;
+      told = 0;
+      due = None;
+      pending = u.pending;
+    }
 
 -- whether a unit is delegated under this binding
 abbrev pub is_active_of : UnitStatus → Binding → Bool

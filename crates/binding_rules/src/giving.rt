@@ -4,7 +4,7 @@ ghost use Rattle.std.specs.Prelude.{◌≡◌, ◌↔◌, IsTrue};
 ghost use Rattle.binding_rules.specs.Giving.{is_own, is_active_for};
 
 use crate::role::Role;
-use crate::unit::{Binding, Unit, UnitStatus, same_binding};
+use crate::unit::{Binding, Unit, UnitStatus};
 use client_id::{Duid, Iaid};
 
 /// Whether a server in this role may give the unit to any client: a free one at the primary, a free backup at the
@@ -19,7 +19,6 @@ pub fn grantable(role: Role, unit: &Unit) -> bool
 }
 
 /// Whether the unit is delegated to this client under this identity association, so that either server may renew it.
-#[tactic(auto, using(crate::proofs::Bindings::active_is, crate::proofs::Bindings::is_active))]
 pub fn renewable(unit: &Unit, client: &Duid, iaid: Iaid) -> bool
     ensures test { result ≡ is_active_for unit.now client.now iaid }
     ensures same { IsTrue result ↔ (unit.now.status ≡ UnitStatus.Active (record { client = client.now; iaid = iaid })) }
@@ -28,8 +27,5 @@ pub fn renewable(unit: &Unit, client: &Duid, iaid: Iaid) -> bool
         client: *client,
         iaid,
     };
-    match &unit.status {
-        UnitStatus::Active(held) => same_binding(held, &asking),
-        _ => false,
-    }
+    unit.status == UnitStatus::Active(asking)
 }

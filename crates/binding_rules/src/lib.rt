@@ -1,8 +1,19 @@
-//! The rules by which the two servers of a pair share their pools.
+//! The rules of one delegable unit, and what the two servers of a pair tell each other.
+//!
+//! A [`Unit`] is what a server knows of one prefix that it may delegate. `take_update` is the binding table: what a
+//! server makes of its partner's update. `take_reply` settles its own due change. `grantable` and `renewable` say who
+//! may give it. The messages ([`PartnerMessage`], [`Body`], [`Update`], [`BindReply`]) are values here; their octets
+//! and words belong to other crates. The table is specs/Table, replies specs/Reply, what may be said specs/Messages.
+//!
+//! ```text
+//! let (outcome, unit) = take_update(Role::Secondary, &unit, now, &update);
+//! let may_give = grantable(Role::Secondary, &unit);
+//! ```
 #![tactic(auto)]
 
 mod counter;
 mod giving;
+mod message;
 mod role;
 mod table;
 mod taking;
@@ -11,6 +22,7 @@ mod update;
 
 pub use counter::Counter;
 pub use giving::{grantable, renewable};
+pub use message::{Body, PartnerMessage, ServerState};
 pub use role::Role;
 pub use taking::{Outcome, take_reply, take_update};
 pub use unit::{Binding, Unit, UnitStatus};

@@ -4,7 +4,7 @@ ghost use Rattle.std.specs.Prelude.{◌≡◌};
 ghost use Rattle.binding_rules.specs.Table.{said, accepts, is_accepted};
 
 use crate::role::Role;
-use crate::unit::{Binding, Unit, UnitStatus, same_binding};
+use crate::unit::{Binding, Unit, UnitStatus};
 use crate::update::{Status, Update};
 use lead_time::Reading;
 
@@ -41,11 +41,10 @@ fn accepts(role: Role, unit: &Unit, now: Reading, update: &Update, said: &UnitSt
     let is_past = unit.own_end.milliseconds() <= now.milliseconds();
     let is_of_the_last_change = update.seen == unit.mine;
     match (said, &unit.status) {
-        (UnitStatus::Active(told), UnitStatus::Active(held)) => same_binding(held, told),
-        (UnitStatus::Expired(told), UnitStatus::Active(held)) => same_binding(held, told)
-            && is_past,
+        (UnitStatus::Active(told), UnitStatus::Active(held)) => held == told,
+        (UnitStatus::Expired(told), UnitStatus::Active(held)) => held == told && is_past,
         (UnitStatus::Released(told), UnitStatus::Active(held)) => {
-            same_binding(held, told) && (is_past || is_of_the_last_change)
+            held == told && (is_past || is_of_the_last_change)
         }
         (UnitStatus::Expired(_), UnitStatus::Expired(_)) => true,
         (UnitStatus::Expired(_), UnitStatus::Released(_)) => true,

@@ -93,7 +93,8 @@ pub fn take_update(role: Role, unit: &Unit, now: Reading, update: &Update) -> (O
     // What is dropped changes nothing, what is rejected the reply alone, and what is accepted counts and is seen.
     ensures dropped { result.0 ≡ Outcome.Drop → result.1 ≡ unit.now }
     ensures rejected { result.0 ≡ Outcome.Reject → record result.1 { pending = unit.now.pending } ≡ unit.now }
-    ensures counted { result.0 ≡ Outcome.Accept → (unit.now.seen < update.now.mine) × (result.1.seen ≡ update.now.mine) × (result.1.mine ≡ unit.now.mine + 1) }
+    ensures counted { result.0 ≡ Outcome.Accept → (unit.now.seen < update.now.mine) × (result.1.seen ≡ update.now.mine)
+        × (result.1.mine ≡ unit.now.mine + 1) }
 {
     if update.mine <= unit.seen {
         return (Outcome::Drop, *unit);
@@ -137,7 +138,9 @@ fn settled(unit: &Unit, due: Status) -> Unit
 pub fn take_reply(unit: &Unit, reply: &BindReply) -> Option<Unit>
     ensures unit { result ≡ after_reply unit.now reply.now }
     // What is taken is newer, settles the due change, and is no change of the unit's own.
-    ensures settled { IfSome result (λ u. (unit.now.seen < reply.now.mine) × (u.seen ≡ reply.now.mine) × (u.mine ≡ unit.now.mine) × (u.due ≡ None)) }
+    ensures settled { IfSome result
+        (λ u. (unit.now.seen < reply.now.mine) × (u.seen ≡ reply.now.mine) × (u.mine ≡ unit.now.mine)
+        × (u.due ≡ None)) }
 {
     let due = unit.due?;
     if !counts(unit, reply) {

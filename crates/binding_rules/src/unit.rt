@@ -1,7 +1,7 @@
 //! One delegable prefix of a pool, as one server sees it.
 
 ghost use Rattle.std.specs.Prelude.{◌≡◌};
-ghost use Rattle.binding_rules.specs.Unit.{same_binding, status_of, fresh, freed};
+ghost use Rattle.binding_rules.specs.Unit.{status_of, fresh, freed};
 
 use crate::counter::Counter;
 use crate::update::{BindReply, Status};
@@ -13,12 +13,6 @@ use lead_time::End;
 pub struct Binding {
     pub client: Duid,
     pub iaid: Iaid,
-}
-
-pub(crate) fn same_binding(one: &Binding, other: &Binding) -> bool
-    ensures { result ≡ same_binding one.now other.now }
-{
-    one.client.as_bytes() == other.client.as_bytes() && one.iaid == other.iaid
 }
 
 /// What a unit is, and whose (RFC 8156, section 7.2, whose names these are).

@@ -6,18 +6,18 @@ use Rattle.std.proofs.lemmas.Bool.{le-leb, leb-true}
 use Rattle.std.proofs.lemmas.Bool.Decides.{Decides-eqb, Decides-ltb, Decides-and, Decides-or, Decides-like}
 use Rattle.binding_rules.specs.declared.role.Role.{Role}
 use Rattle.binding_rules.specs.declared.role.Role.TheVariants.{Primary, Secondary}
-use Rattle.binding_rules.specs.Role.{partner_of}
+use Rattle.binding_rules.specs.Role.{partner_of, is_side}
 use Rattle.journal_lines.specs.declared.event.Event.{Event}
 use Rattle.journal_lines.specs.declared.event.Event.TheVariants.{Send, Take}
-use Rattle.journal_lines.specs.declared.event.Letter.{Letter}
+use Rattle.binding_rules.specs.declared.message.PartnerMessage.{PartnerMessage}
 use Rattle.journal_lines.specs.declared.line.Line.{Line}
-use Rattle.causal_order.specs.declared.reference.Ref.{Ref}
-use Rattle.causal_order.specs.declared.chain.Precedes.{Precedes}
-use Rattle.causal_order.specs.declared.chain.Precedes.TheVariants.{Chain, Clock}
+use Rattle.claims.specs.declared.reference.Ref.{Ref}
+use Rattle.claims.specs.declared.order.Precedes.{Precedes}
+use Rattle.claims.specs.declared.order.Precedes.TheVariants.{Chain, Clock}
 use Rattle.causal_order.specs.Journals.{Journals, journal_of, Names, line_of}
 use Rattle.causal_order.specs.Order.{IsLater, IsTakeOf, IsChain, EndsWith, Leads, WrittenBy, WrittenFrom, IsSurelyBefore}
-use Rattle.causal_order.specs.Tests.{some_and, is_side, same_ref, is_line, is_later, same_letter, sent_by, taken_by, sent_in, taken_in, same_letters, is_take_of, follows, is_chain, first_of_chain, last_of_chain, is_at, leads, reading_at, written_by, written_from, precedes}
-use Rattle.causal_order.proofs.Sameness.{decides_letter}
+use Rattle.causal_order.specs.Tests.{some_and, same_ref, is_line, is_later, same_message, sent_by, taken_by, sent_in, taken_in, same_messages, is_take_of, follows, is_chain, first_of_chain, last_of_chain, is_at, leads, reading_at, written_by, written_from, precedes}
+use Rattle.causal_order.proofs.Sameness.{decides_message}
 
 pub decides_le : (m n : ℕ) → Decides (nat_le m n) (m ≤ n)
 decides_le m n = (leb-true m n, le-leb m n)
@@ -76,19 +76,19 @@ pub decides_later : (r s : Ref) → Decides (is_later r s) (IsLater r s)
 decides_later r s = Decides-and _ _ (decides_side r.side s.side) (decides_lt r.number s.number)
 
 -- Sends and takes.
-sent_is : (e : Event) (m : Letter) → sent_by e ≡ Some m → e ≡ Send m
+sent_is : (e : Event) (m : PartnerMessage) → sent_by e ≡ Some m → e ≡ Send m
 sent_is (Send x) m h = cc
 sent_is _ m h = cc
 
-taken_is : (e : Event) (m : Letter) → taken_by e ≡ Some m → e ≡ Take m
+taken_is : (e : Event) (m : PartnerMessage) → taken_by e ≡ Some m → e ≡ Take m
 taken_is (Take x) m h = cc
 taken_is _ m h = cc
 
-sent_line : (o : Option Line) (m : Letter) → sent_in o ≡ Some m → (l : Line) × (o ≡ Some l) × (l.event ≡ Send m)
+sent_line : (o : Option Line) (m : PartnerMessage) → sent_in o ≡ Some m → (l : Line) × (o ≡ Some l) × (l.event ≡ Send m)
 sent_line None m h = absurd (cc)
 sent_line (Some l) m h = (l, refl, sent_is l.event m h)
 
-taken_line : (o : Option Line) (m : Letter) → taken_in o ≡ Some m → (l : Line) × (o ≡ Some l) × (l.event ≡ Take m)
+taken_line : (o : Option Line) (m : PartnerMessage) → taken_in o ≡ Some m → (l : Line) × (o ≡ Some l) × (l.event ≡ Take m)
 taken_line None m h = absurd (cc)
 taken_line (Some l) m h = (l, refl, taken_is l.event m h)
 
@@ -100,8 +100,8 @@ decides_take_of js r s = Decides-like (is_take_of js r s)
     (h.0, (h.1.0, a.0, b.0, line_names js r a.0 a.1, a.2, line_names js s b.0 b.1, b.2 ∙ ap (λ m. Take m) (sym h.1.2.2))))
     (λ h. (h.0, (h.1.0, ap sent_in (names_line js r h.1.1 h.1.3) ∙ ap sent_by h.1.4, (h.1.0, ap taken_in (names_line js s h.1.2 h.1.5) ∙ ap taken_by h.1.6, refl))))
     (Decides-and _ _ (decides_side (partner_of r.side) s.side)
-    (decides_some (sent_in (line_of js r)) _ (λ m. (n : Letter) × (taken_in (line_of js s) ≡ Some n) × (m ≡ n))
-    (λ m. decides_some (taken_in (line_of js s)) _ (λ n. m ≡ n) (λ n. decides_letter m n))))
+    (decides_some (sent_in (line_of js r)) _ (λ m. (n : PartnerMessage) × (taken_in (line_of js s) ≡ Some n) × (m ≡ n))
+    (λ m. decides_some (taken_in (line_of js s)) _ (λ n. m ≡ n) (λ n. decides_message m n))))
 
 pub decides_chain : (js : Journals) (chain : List Ref) → Decides (is_chain js chain) (IsChain js chain)
 decides_chain js [] = (λ h. cc, λ h. absurd h)
@@ -165,8 +165,8 @@ passes true t P h d = sym (d.1 (h.0 refl))
 passes false true P h d = h.1 (d.0 refl)
 passes false false P h d = refl
 
-pub both_pass : (o p : Option Letter) (m n : Letter) (b : Bool) → o ≡ Some m → p ≡ Some n → (IsTrue b ↔ (m ≡ n)) → b ≡ same_letters o p
-both_pass o p m n b e f h = passes b (same_letter m n) (m ≡ n) h (decides_letter m n) ∙ (sym (ap (λ x. same_letters x (Some n)) e) ∙ sym (ap (same_letters o) f))
+pub both_pass : (o p : Option PartnerMessage) (m n : PartnerMessage) (b : Bool) → o ≡ Some m → p ≡ Some n → (IsTrue b ↔ (m ≡ n)) → b ≡ same_messages o p
+both_pass o p m n b e f h = passes b (same_message m n) (m ≡ n) h (decides_message m n) ∙ (sym (ap (λ x. same_messages x (Some n)) e) ∙ sym (ap (same_messages o) f))
 
 pub take_decided : (js : Journals) (r s : Ref) (b : Bool) → b ≡ is_take_of js r s → IsTrue b ↔ IsTakeOf js r s
 take_decided js r s b e = let d = decides_take_of js r s in (λ h. d.0 (sym e ∙ h), λ h. e ∙ d.1 h)

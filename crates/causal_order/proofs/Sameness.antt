@@ -1,4 +1,4 @@
--- The tests of letters decide that letters are the same.
+-- The tests of messages decide that messages are the same.
 use Rattle.std.specs.Prelude.{◌≡◌, ℕ, true, ◌&&◌, ◌==◌, List, Option, Some, None}
 use Rattle.std.specs.Bool.{Decides}
 use Rattle.std.specs.Str.{bytes_eq}
@@ -12,10 +12,10 @@ use Rattle.binding_rules.specs.declared.update.Update.{Update}
 use Rattle.binding_rules.specs.declared.update.Acknowledgement.{Acknowledgement}
 use Rattle.binding_rules.specs.declared.update.Acknowledgement.TheVariants.{Accept, Reject}
 use Rattle.binding_rules.specs.declared.update.BindReply.{BindReply}
-use Rattle.failover_message.specs.declared.body.Body.{Body}
-use Rattle.failover_message.specs.declared.body.Body.TheVariants.{Update as Updates, Reply, Contact}
-use Rattle.journal_lines.specs.declared.event.Letter.{Letter}
-use Rattle.causal_order.specs.Tests.{same_status, same_prefix, same_client, same_update, same_acknowledgement, same_reply, same_body, same_letter}
+use Rattle.binding_rules.specs.declared.message.Body.{Body}
+use Rattle.binding_rules.specs.declared.message.Body.TheVariants.{Update as Updates, Reply, Contact}
+use Rattle.binding_rules.specs.declared.message.PartnerMessage.{PartnerMessage}
+use Rattle.causal_order.specs.Tests.{same_status, same_prefix, same_client, same_update, same_acknowledgement, same_reply, same_body, same_message}
 
 status_is : (s t : Status) → same_status s t ≡ true → s ≡ t
 status_is Active Active h = refl
@@ -105,17 +105,17 @@ decides_body (Reply u) (Contact x y) = (λ h. cc, λ h. cc)
 decides_body (Contact a b) (Updates v) = (λ h. cc, λ h. cc)
 decides_body (Contact a b) (Reply v) = (λ h. cc, λ h. cc)
 
-a_letter : ℕ → ℕ → Body → Letter
-a_letter a b c = record { term = a; serial = b; body = c }
+a_message : ℕ → ℕ → Body → PartnerMessage
+a_message a b c = record { term = a; serial = b; body = c }
 
-letter_parts : (x y : Letter) → x.term ≡ y.term → x.serial ≡ y.serial → x.body ≡ y.body → a_letter x.term x.serial x.body ≡ a_letter y.term y.serial y.body
-letter_parts x y a b c = cc
+message_parts : (x y : PartnerMessage) → x.term ≡ y.term → x.serial ≡ y.serial → x.body ≡ y.body → a_message x.term x.serial x.body ≡ a_message y.term y.serial y.body
+message_parts x y a b c = cc
 
-pub letter_is : (x y : Letter) → x.term ≡ y.term → x.serial ≡ y.serial → x.body ≡ y.body → x ≡ y
-unfolding a_letter
-letter_is x y a b c = letter_parts x y a b c
+pub message_is : (x y : PartnerMessage) → x.term ≡ y.term → x.serial ≡ y.serial → x.body ≡ y.body → x ≡ y
+unfolding a_message
+message_is x y a b c = message_parts x y a b c
 
-pub decides_letter : (x y : Letter) → Decides (same_letter x y) (x ≡ y)
-decides_letter x y = Decides-like (same_letter x y) (λ h. letter_is x y h.0 h.1.0 h.1.1)
-    (λ e. (ap (λ (z : Letter). z.term) e, (ap (λ (z : Letter). z.serial) e, ap (λ (z : Letter). z.body) e)))
+pub decides_message : (x y : PartnerMessage) → Decides (same_message x y) (x ≡ y)
+decides_message x y = Decides-like (same_message x y) (λ h. message_is x y h.0 h.1.0 h.1.1)
+    (λ e. (ap (λ (z : PartnerMessage). z.term) e, (ap (λ (z : PartnerMessage). z.serial) e, ap (λ (z : PartnerMessage). z.body) e)))
     (Decides-and _ _ (Decides-eqb x.term y.term) (Decides-and _ _ (Decides-eqb x.serial y.serial) (decides_body x.body y.body)))

@@ -1,13 +1,14 @@
--- What two journals say of the moments at which their lines were written. A message reaches a partner after it was sent, and
--- a journal's lines stand in the order in which they were written (RFC 8156, section 9: messages between the partners).
+-- What two journals say of the moments at which their lines were written. A message reaches a partner after it was
+-- sent, and a journal's lines stand in the order in which they were written (RFC 8156, section 9: messages between the
+-- partners).
 use Rattle.std.specs.Prelude.{◌≡◌, ℕ, ◌+◌, ◌<◌, ◌≤◌, ◌⊎◌, List, [], ◌∷◌, length}
 use Rattle.binding_rules.specs.Role.{partner_of}
 use Rattle.journal_lines.specs.declared.event.Event.TheVariants.{Send, Take}
-use Rattle.journal_lines.specs.declared.event.Letter.{Letter}
+use Rattle.binding_rules.specs.declared.message.PartnerMessage.{PartnerMessage}
 use Rattle.journal_lines.specs.declared.line.Line.{Line}
-use Rattle.causal_order.specs.declared.reference.Ref.{Ref}
-use Rattle.causal_order.specs.declared.chain.Precedes.{Precedes}
-use Rattle.causal_order.specs.declared.chain.Precedes.TheVariants.{Chain, Clock}
+use Rattle.claims.specs.declared.reference.Ref.{Ref}
+use Rattle.claims.specs.declared.order.Precedes.{Precedes}
+use Rattle.claims.specs.declared.order.Precedes.TheVariants.{Chain, Clock}
 use Rattle.causal_order.specs.Journals.{Journals, Names}
 
 -- the same journal, and later in it
@@ -16,7 +17,7 @@ IsLater r s = (s.side ≡ r.side) × (r.number < s.number)
 
 -- s takes on the other side what r sends: the same term, serial and body
 abbrev pub IsTakeOf : Journals → Ref → Ref → Type 0
-IsTakeOf js r s = (s.side ≡ partner_of r.side) × ((m : Letter) × (sent : Line) × (taken : Line)
+IsTakeOf js r s = (s.side ≡ partner_of r.side) × ((m : PartnerMessage) × (sent : Line) × (taken : Line)
     × Names js r sent × (sent.event ≡ Send m) × Names js s taken × (taken.event ≡ Take m))
 
 -- each next line is later in its journal, or takes what the line before it sends; never from a take back to its send
@@ -46,7 +47,8 @@ pub record WrittenBy (js : Journals) (chain : List Ref) (r : Ref) (reading : ℕ
   pub names : Names js end line
   pub read : line.reading ≡ reading
 
--- The chain ends with r, and its first line was read at this reading: r was written at the reading less the skew, or later.
+-- The chain ends with r, and its first line was read at this reading: r was written at the reading less the skew, or
+-- later.
 pub record WrittenFrom (js : Journals) (chain : List Ref) (r : Ref) (reading : ℕ) : Type 0 where
   pub begin : Ref
   pub line : Line
@@ -54,8 +56,8 @@ pub record WrittenFrom (js : Journals) (chain : List Ref) (r : Ref) (reading : �
   pub names : Names js begin line
   pub read : line.reading ≡ reading
 
--- The one line was surely written before the other: a chain of two lines or more leads from it to the other, or clocks show
--- readings that are further apart than both skews.
+-- The one line was surely written before the other: a chain of two lines or more leads from it to the other, or clocks
+-- show readings that are further apart than both skews.
 abbrev pub IsSurelyBefore : Journals → ℕ → Precedes → Ref → Ref → Type 0
 IsSurelyBefore js skew (Chain chain) r s = Leads js chain r s × (2 ≤ length chain)
 IsSurelyBefore js skew (Clock first second) r s =

@@ -1,8 +1,9 @@
--- Tests that decide chains and bounds.
-use Rattle.std.specs.Prelude.{ℕ, ◌+◌, Bool, true, false, ◌&&◌, ◌||◌, ◌==◌, nat_le, nat_lt, List, [], ◌∷◌, length, Option, Some, None}
+-- For bodies only: tests that decide chains and bounds.
+use Rattle.std.specs.Prelude.{ℕ, ◌+◌, Bool, true, false, ◌&&◌, ◌||◌, ◌==◌, nat_le, nat_lt, List, [], ◌∷◌, length}
+use Rattle.std.specs.Prelude.{Option, Some, None}
 use Rattle.std.specs.Str.{bytes_eq}
 use Rattle.prefix_range.specs.Prefix.{Prefix}
-use Rattle.binding_rules.specs.Role.{partner_of}
+use Rattle.binding_rules.specs.Role.{partner_of, is_side}
 use Rattle.binding_rules.specs.declared.role.Role.{Role}
 use Rattle.binding_rules.specs.declared.role.Role.TheVariants.{Primary, Secondary}
 use Rattle.binding_rules.specs.declared.update.Status.{Status}
@@ -11,26 +12,21 @@ use Rattle.binding_rules.specs.declared.update.Update.{Update}
 use Rattle.binding_rules.specs.declared.update.Acknowledgement.{Acknowledgement}
 use Rattle.binding_rules.specs.declared.update.Acknowledgement.TheVariants.{Accept, Reject}
 use Rattle.binding_rules.specs.declared.update.BindReply.{BindReply}
-use Rattle.failover_message.specs.declared.body.Body.{Body}
-use Rattle.failover_message.specs.declared.body.Body.TheVariants.{Update as Updates, Reply, Contact}
+use Rattle.binding_rules.specs.declared.message.Body.{Body}
+use Rattle.binding_rules.specs.declared.message.Body.TheVariants.{Update as Updates, Reply, Contact}
 use Rattle.journal_lines.specs.declared.event.Event.{Event}
 use Rattle.journal_lines.specs.declared.event.Event.TheVariants.{Send, Take}
-use Rattle.journal_lines.specs.declared.event.Letter.{Letter}
+use Rattle.binding_rules.specs.declared.message.PartnerMessage.{PartnerMessage}
 use Rattle.journal_lines.specs.declared.line.Line.{Line}
-use Rattle.causal_order.specs.declared.reference.Ref.{Ref}
-use Rattle.causal_order.specs.declared.chain.Precedes.{Precedes}
-use Rattle.causal_order.specs.declared.chain.Precedes.TheVariants.{Chain, Clock}
+use Rattle.claims.specs.declared.reference.Ref.{Ref}
+use Rattle.claims.specs.declared.order.Precedes.{Precedes}
+use Rattle.claims.specs.declared.order.Precedes.TheVariants.{Chain, Clock}
 use Rattle.causal_order.specs.Journals.{Journals, line_of}
 
 -- there is a value, and it passes the test
 abbrev pub some_and : {X : Type 0} → Option X → (X → Bool) → Bool
 some_and None test = false
 some_and (Some x) test = test x
-
-abbrev pub is_side : Role → Role → Bool
-is_side Primary Primary = true
-is_side Secondary Secondary = true
-is_side _ _ = false
 
 abbrev pub same_ref : Ref → Ref → Bool
 same_ref r s = is_side r.side s.side && (r.number == s.number)
@@ -41,7 +37,7 @@ is_line js r = some_and (line_of js r) (λ l. true)
 abbrev pub is_later : Ref → Ref → Bool
 is_later r s = is_side r.side s.side && nat_lt r.number s.number
 
--- Letters.
+-- Messages.
 abbrev pub same_status : Status → Status → Bool
 same_status Active Active = true
 same_status Expired Expired = true
@@ -60,7 +56,10 @@ same_client _ _ = false
 
 abbrev pub same_update : Update → Update → Bool
 same_update u v =
-    same_status u.status v.status && (same_prefix u.prefix v.prefix && ((u.mine == v.mine) && ((u.seen == v.seen) && ((u.end == v.end) && ((u.iaid == v.iaid) && same_client u.client v.client)))))
+    same_status u.status v.status
+    && (same_prefix u.prefix v.prefix
+    && ((u.mine == v.mine)
+    && ((u.seen == v.seen) && ((u.end == v.end) && ((u.iaid == v.iaid) && same_client u.client v.client)))))
 
 abbrev pub same_acknowledgement : Acknowledgement → Acknowledgement → Bool
 same_acknowledgement Accept Accept = true
@@ -68,7 +67,9 @@ same_acknowledgement Reject Reject = true
 same_acknowledgement _ _ = false
 
 abbrev pub same_reply : BindReply → BindReply → Bool
-same_reply u v = same_acknowledgement u.acknowledgement v.acknowledgement && (same_prefix u.prefix v.prefix && ((u.of == v.of) && ((u.mine == v.mine) && (u.seen == v.seen))))
+same_reply u v =
+    same_acknowledgement u.acknowledgement v.acknowledgement
+    && (same_prefix u.prefix v.prefix && ((u.of == v.of) && ((u.mine == v.mine) && (u.seen == v.seen))))
 
 abbrev pub same_body : Body → Body → Bool
 same_body (Updates u) (Updates v) = same_update u v
@@ -76,33 +77,37 @@ same_body (Reply u) (Reply v) = same_reply u v
 same_body (Contact a b) (Contact x y) = (a == x) && (b == y)
 same_body _ _ = false
 
-abbrev pub same_letter : Letter → Letter → Bool
-same_letter x y = (x.term == y.term) && ((x.serial == y.serial) && same_body x.body y.body)
+abbrev pub same_message : PartnerMessage → PartnerMessage → Bool
+same_message x y = (x.term == y.term) && ((x.serial == y.serial) && same_body x.body y.body)
 
-abbrev pub sent_by : Event → Option Letter
+abbrev pub sent_by : Event → Option PartnerMessage
 sent_by (Send m) = Some m
 sent_by _ = None
 
-abbrev pub taken_by : Event → Option Letter
+abbrev pub taken_by : Event → Option PartnerMessage
 taken_by (Take m) = Some m
 taken_by _ = None
 
--- the letter that the line sends, and the one that it takes
-abbrev pub sent_in : Option Line → Option Letter
-sent_in None = None
-sent_in (Some l) = sent_by l.event
+-- what the line's event gives, or nothing where there is no line
+abbrev pub in_line : {X : Type 0} → (Event → Option X) → Option Line → Option X
+in_line given None = None
+in_line given (Some l) = given l.event
 
-abbrev pub taken_in : Option Line → Option Letter
-taken_in None = None
-taken_in (Some l) = taken_by l.event
+-- the message that the line sends, and the one that it takes
+abbrev pub sent_in : Option Line → Option PartnerMessage
+sent_in o = in_line sent_by o
 
-abbrev pub same_letters : Option Letter → Option Letter → Bool
-same_letters a b = some_and a (λ m. some_and b (λ n. same_letter m n))
+abbrev pub taken_in : Option Line → Option PartnerMessage
+taken_in o = in_line taken_by o
+
+abbrev pub same_messages : Option PartnerMessage → Option PartnerMessage → Bool
+same_messages a b = some_and a (λ m. some_and b (λ n. same_message m n))
 
 abbrev pub is_take_of : Journals → Ref → Ref → Bool
-is_take_of js r s = is_side (partner_of r.side) s.side && same_letters (sent_in (line_of js r)) (taken_in (line_of js s))
+is_take_of js r s =
+    is_side (partner_of r.side) s.side && same_messages (sent_in (line_of js r)) (taken_in (line_of js s))
 
--- Chains. The one line stands before the other by its journal, or by a letter.
+-- Chains. The one line stands before the other by its journal, or by a message.
 abbrev pub follows : Journals → Ref → Ref → Bool
 follows js r s = is_later r s || is_take_of js r s
 
@@ -132,12 +137,15 @@ reading_at js o test = some_and o (λ r. some_and (line_of js r) (λ l. test l.r
 
 -- the chain is one from r, and its last line's reading passes the test
 abbrev pub written_by : Journals → List Ref → Ref → (ℕ → Bool) → Bool
-written_by js chain r test = is_chain js chain && (is_at (first_of_chain chain) r && reading_at js (last_of_chain chain) test)
+written_by js chain r test =
+    is_chain js chain && (is_at (first_of_chain chain) r && reading_at js (last_of_chain chain) test)
 
 -- the chain is one to r, and its first line's reading passes the test
 abbrev pub written_from : Journals → List Ref → Ref → (ℕ → Bool) → Bool
-written_from js chain r test = is_chain js chain && (is_at (last_of_chain chain) r && reading_at js (first_of_chain chain) test)
+written_from js chain r test =
+    is_chain js chain && (is_at (last_of_chain chain) r && reading_at js (first_of_chain chain) test)
 
 abbrev pub precedes : Journals → ℕ → Precedes → Ref → Ref → Bool
 precedes js skew (Chain chain) r s = leads js chain r s && nat_le 2 (length chain)
-precedes js skew (Clock first second) r s = written_by js first r (λ x. written_from js second s (λ y. nat_lt (x + skew + skew) y))
+precedes js skew (Clock first second) r s =
+    written_by js first r (λ x. written_from js second s (λ y. nat_lt (x + skew + skew) y))

@@ -5,9 +5,9 @@ ghost use Rattle.causal_order.specs.Order.{IsLater, IsChain};
 ghost use Rattle.causal_order.specs.Tests.{is_line, is_later, follows, is_chain, first_of_chain, last_of_chain};
 ghost use Rattle.causal_order.specs.Bounds.{reading_of, IsLatest, IsEarliest};
 
-use crate::letters::is_take_of;
 use crate::lines::Lines;
-use crate::reference::Ref;
+use crate::messages::is_take_of;
+use claims::Ref;
 use lead_time::{Reading, Skew, earliest, latest};
 
 /// Whether the reference names a line.
@@ -25,7 +25,7 @@ fn is_later(earlier: Ref, later: Ref) -> bool
     earlier.side == later.side && earlier.number < later.number
 }
 
-/// Whether the one line was written before the other by their journal, or by a letter.
+/// Whether the one line was written before the other by their journal, or by a message.
 fn follows<L: Lines>(lines: &L, earlier: Ref, later: Ref) -> bool
     ensures { result ≡ follows (L.journals lines.now) earlier later }
 {

@@ -1,15 +1,14 @@
 //! Lines that were surely written before others.
 
 ghost use Rattle.std.specs.Prelude.{◌≡◌, ◌↔◌, ◌≤◌, IsTrue, length};
-ghost use Rattle.causal_order.specs.declared.chain.Precedes.TheVariants.{Clock};
+ghost use Rattle.claims.specs.declared.order.Precedes.TheVariants.{Clock};
 ghost use Rattle.causal_order.specs.Order.{Leads, IsSurelyBefore};
 ghost use Rattle.causal_order.specs.Tests.{is_at, leads};
 ghost use Rattle.causal_order.specs.Bounds.{IsEarlier};
 
 use crate::bounds::{earliest_of, first_of_chain, is_chain, last_of_chain, latest_of};
-use crate::chain::Precedes;
 use crate::lines::Lines;
-use crate::reference::Ref;
+use claims::{Precedes, Ref};
 use lead_time::Skew;
 
 /// Whether a chain begins or ends with this reference.
@@ -72,7 +71,7 @@ fn is_apart<L: Lines>(
 }
 
 /// Whether the first line was surely written before the second, as `order` has it.
-pub fn precedes<L: Lines>(lines: &L, order: &Precedes, first: Ref, second: Ref, skew: Skew) -> bool
+pub fn precedes<L: Lines>(lines: &L, first: Ref, second: Ref, order: &Precedes, skew: Skew) -> bool
     ensures { IsTrue result ↔ IsSurelyBefore (L.journals lines.now) skew order.now first second }
 {
     match order {

@@ -8,7 +8,7 @@ use Rattle.std.proofs.lemmas.Slice.Eq.{bytes_eq-Decides}
 use Rattle.std.proofs.lemmas.List.{map-append}
 use Rattle.std.proofs.lemmas.Grind.{flat_map-append}
 use Rattle.std.proofs.lemmas.List.Concat.{flat_map-cons}
-use Rattle.text_fields.specs.Reading.{◌>>=◌}
+use Rattle.text_fields.specs.Parsing.{◌>>=◌}
 use Rattle.text_fields.proofs.Steps.{bind_some, map_some, chosen}
 use Rattle.claims.specs.declared.certificate.Certificate.{Certificate}
 use Rattle.claims.specs.declared.certificate.Clear.{Clear}

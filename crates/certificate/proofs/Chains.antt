@@ -3,7 +3,7 @@ use Rattle.std.proofs.Common.{◌≡◌, ◌≢◌, ℕ, ◌+◌, ◌<◌, ◌�
 use Rattle.std.specs.Prelude.{option_map}
 use Rattle.std.proofs.lemmas.Bool.{le-leb, leb-true}
 use Rattle.std.proofs.lemmas.List.{length-append}
-use Rattle.causal_order.specs.declared.reference.Ref.{Ref}
+use Rattle.claims.specs.declared.reference.Ref.{Ref}
 use Rattle.certificate.specs.Lines.{ref_of, refs_of, chain_in}
 
 -- references behind those that were read
@@ -69,3 +69,6 @@ without all none = by (leb (length all) 1024)
 
 pub is_none : (all : List (List ℕ)) (refs : List Ref) (word : List ℕ) (left : List (List ℕ)) → IsRead all refs (word ∷ left) → ref_of word ≡ None → chain_in all ≡ None
 is_none all refs word left h e = without all (sym h.value ∙ ap (behind_refs refs) (read_none word left e))
+
+-- what the next word makes of the references so far
+pub ruleset next_word = (ends, begins, goes_on, is_full, is_none)

@@ -1,7 +1,8 @@
 -- Steps that may meet a fault.
 use Rattle.std.proofs.Common.{◌≡◌, ℕ, Option, Some, None, Result, Ok, Err, refl}
 use Rattle.claims.specs.declared.fault.CertificateFault.{CertificateFault}
-use Rattle.certificate.specs.Faults.{◌>>=◌, or_form}
+use Rattle.text_fields.specs.Parsing.{◌>>!◌}
+use Rattle.certificate.specs.Faults.{or_form}
 
 abbrev pub done : {A : Type 0} → A → Result A CertificateFault
 done x = Ok x
@@ -10,7 +11,7 @@ pub ok_is : {A : Type 0} (x y : A) → done x ≡ Ok y → x ≡ y
 ok_is x y e = cc
 
 -- the value of a step that gave one
-pub bind_ok : {A B : Type 0} (r : Result A CertificateFault) (f : A → Result B CertificateFault) (y : B) → (r >>= f) ≡ Ok y → (x : A) × (r ≡ Ok x) × (f x ≡ Ok y)
+pub bind_ok : {A B : Type 0} (r : Result A CertificateFault) (f : A → Result B CertificateFault) (y : B) → (r >>! f) ≡ Ok y → (x : A) × (r ≡ Ok x) × (f x ≡ Ok y)
 bind_ok (Ok x) f y e = (x, refl, e)
 bind_ok (Err fault) f y e = absurd cc
 

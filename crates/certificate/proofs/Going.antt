@@ -1,27 +1,28 @@
 -- One line after another.
 use Rattle.std.proofs.Common.{◌≡◌, ◌≢◌, ℕ, suc, ◌<◌, true, false, cond, List, [], ◌∷◌, length, Some, None, Result, Ok, Err, refl, ap, ◌∙◌, arith}
 use Rattle.std.specs.Str.{bytes_eq}
-use Rattle.text_fields.specs.Pieces.{split}
+use Rattle.text_fields.specs.Cuts.{split}
 use Rattle.claims.specs.declared.certificate.Certificate.{Certificate}
 use Rattle.claims.specs.declared.fault.CertificateFault.{CertificateFault}
 use Rattle.claims.specs.declared.fault.CertificateFault.TheVariants.{Form, End}
 use Rattle.certificate.specs.Spelling.{end_text}
 use Rattle.certificate.specs.Lines.{with_line}
-use Rattle.certificate.specs.Faults.{◌>>=◌, or_form, line_before, line_at, ended_by, claim_on}
+use Rattle.text_fields.specs.Parsing.{◌>>!◌}
+use Rattle.certificate.specs.Faults.{or_form, line_before, line_at, ended_by, claim_on}
 use Rattle.certificate.proofs.FaultSteps.{ok_is}
 
 -- what a line of its own makes of the certificate so far
 abbrev by_line : ℕ → Certificate → List ℕ → List (List ℕ) → Result Certificate CertificateFault
-by_line number c line left = cond (bytes_eq line end_text) (ended_by c left) (or_form number (with_line c (split 32 line)) >>= λ more. claim_on (suc number) more left)
+by_line number c line left = cond (bytes_eq line end_text) (ended_by c left) (or_form number (with_line c (split 32 line)) >>! λ more. claim_on (suc number) more left)
 
 abbrev with_left : Result (List ℕ) CertificateFault → List (List ℕ) → Result (List ℕ × List (List ℕ)) CertificateFault
-with_left r left = r >>= λ w. Ok (w, left)
+with_left r left = r >>! λ w. Ok (w, left)
 
-regroup : (r : Result (List ℕ) CertificateFault) (left : List (List ℕ)) (f : List ℕ → List (List ℕ) → Result Certificate CertificateFault) → (r >>= λ w. f w left) ≡ (with_left r left >>= λ x. f x.0 x.1)
+regroup : (r : Result (List ℕ) CertificateFault) (left : List (List ℕ)) (f : List ℕ → List (List ℕ) → Result Certificate CertificateFault) → (r >>! λ w. f w left) ≡ (with_left r left >>! λ x. f x.0 x.1)
 regroup (Ok w) left f = refl
 regroup (Err fault) left f = refl
 
-one_line : (number : ℕ) (c : Certificate) (lines : List (List ℕ)) → claim_on number c lines ≡ (line_at number lines >>= λ x. by_line number c x.0 x.1)
+one_line : (number : ℕ) (c : Certificate) (lines : List (List ℕ)) → claim_on number c lines ≡ (line_at number lines >>! λ x. by_line number c x.0 x.1)
 unfolding claim_on
 one_line number c [] = refl
 one_line number c (line ∷ left) = regroup (line_before number line left) left (by_line number c)
@@ -54,3 +55,6 @@ left_of (Err fault) rest line left e = absurd cc
 pub line_shorter : (number : ℕ) (lines : List (List ℕ)) (line : List ℕ) (left : List (List ℕ)) → line_at number lines ≡ Ok (line, left) → length left < length lines
 line_shorter number [] line left e = absurd cc
 line_shorter number (first ∷ rest) line left e = omega (arith, ap length (left_of (line_before number first rest) rest line left e))
+
+-- what the next line makes of the certificate so far
+pub ruleset next_line = (line_missing, end_found, end_passed, line_wrong, line_added, line_shorter)

@@ -5,14 +5,14 @@ use Rattle.std.specs.Fmt.{decimal}
 use Rattle.std.specs.List.{AllByRecursion}
 use Rattle.std.proofs.lemmas.Fmt.{length-decimal-le}
 use Rattle.std.proofs.lemmas.List.{length-append}
-use Rattle.text_fields.specs.Pieces.{joined}
+use Rattle.text_fields.specs.Cuts.{joined}
 use Rattle.text_fields.proofs.OctetLaws.{length-hex}
 use Rattle.client_id.specs.Duid.{IsDuid}
 use Rattle.prefix_range.specs.Prefix.{Prefix, IsPrefix}
 use Rattle.prefix_range.specs.Text.{groups_of, group_text, address_text, prefix_text}
-use Rattle.causal_order.specs.declared.reference.Ref.{Ref}
-use Rattle.causal_order.specs.declared.chain.Precedes.{Precedes}
-use Rattle.causal_order.specs.declared.chain.Precedes.TheVariants.{Chain, Clock}
+use Rattle.claims.specs.declared.reference.Ref.{Ref}
+use Rattle.claims.specs.declared.order.Precedes.{Precedes}
+use Rattle.claims.specs.declared.order.Precedes.TheVariants.{Chain, Clock}
 use Rattle.claims.specs.declared.certificate.Clear.{Clear}
 use Rattle.claims.specs.declared.certificate.Why.{Why}
 use Rattle.claims.specs.declared.certificate.Why.TheVariants.{Before, After}

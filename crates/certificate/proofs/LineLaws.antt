@@ -3,7 +3,7 @@ use Rattle.std.proofs.Common.{◌≡◌, ℕ, ◌≤◌, ◌^◌, List, [], ◌�
 use Rattle.std.specs.Prelude.{codes}
 use Rattle.std.specs.Fmt.{decimal}
 use Rattle.text_fields.specs.Octets.{hex}
-use Rattle.text_fields.specs.Reading.{◌>>=◌}
+use Rattle.text_fields.specs.Parsing.{alone, ◌>>=◌}
 use Rattle.text_fields.proofs.Steps.{bind_some}
 use Rattle.client_id.specs.Duid.{IsDuid}
 use Rattle.prefix_range.specs.Prefix.{Prefix, IsPrefix}
@@ -14,7 +14,7 @@ use Rattle.claims.specs.declared.certificate.Clear.{Clear}
 use Rattle.claims.specs.declared.certificate.Piece.{Piece}
 use Rattle.claims.specs.declared.certificate.Foreign.{Foreign}
 use Rattle.certificate.specs.Spelling.{ref_text, chain_text, why_words, clear_words, reason_words, holder_words, prefix_words, interval_words, piece_words, foreign_words, IsClear, IsPiece, IsForeign}
-use Rattle.certificate.specs.Lines.{keyword_at, ref_at, chain_at, why_at, reason_at, alone, holder_in, prefix_in, interval_in, piece_in, clear_in, foreign_in}
+use Rattle.certificate.specs.Lines.{keyword_at, ref_at, chain_at, why_at, reason_at, holder_in, prefix_in, interval_in, piece_in, clear_in, foreign_in}
 use Rattle.certificate.proofs.WordLaws.{alone_takes, keyword_takes, keyword_again, ref_at_takes, ref_at_again, chain_at_takes, chain_at_again}
 use Rattle.certificate.proofs.ReasonLaws.{why_takes, why_again, reason_takes, reason_again}
 

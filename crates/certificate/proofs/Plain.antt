@@ -5,18 +5,18 @@ use Rattle.std.specs.Fmt.{decimal}
 use Rattle.std.specs.List.{AllByRecursion, list_all}
 use Rattle.std.proofs.lemmas.Bool.{eq-eqb}
 use Rattle.text_fields.specs.Octets.{hex}
-use Rattle.text_fields.specs.Pieces.{joined, split, Lacks, AllLack}
+use Rattle.text_fields.specs.Cuts.{joined, split, Lacks, AllLack}
 use Rattle.text_fields.proofs.Steps.{both}
-use Rattle.text_fields.proofs.PieceLaws.{split-joined}
+use Rattle.text_fields.proofs.CutLaws.{split-joined}
 use Rattle.text_fields.proofs.NumberLaws.{decimal_lacks}
 use Rattle.text_fields.proofs.OctetLaws.{hex_lacks}
 use Rattle.client_id.specs.Duid.{IsDuid}
 use Rattle.prefix_range.specs.Prefix.{Prefix, IsPrefix}
 use Rattle.prefix_range.specs.Text.{prefix_text}
 use Rattle.prefix_range.proofs.TextLaws.{prefix_lacks}
-use Rattle.causal_order.specs.declared.reference.Ref.{Ref}
-use Rattle.causal_order.specs.declared.chain.Precedes.{Precedes}
-use Rattle.causal_order.specs.declared.chain.Precedes.TheVariants.{Chain, Clock}
+use Rattle.claims.specs.declared.reference.Ref.{Ref}
+use Rattle.claims.specs.declared.order.Precedes.{Precedes}
+use Rattle.claims.specs.declared.order.Precedes.TheVariants.{Chain, Clock}
 use Rattle.claims.specs.declared.certificate.Clear.{Clear}
 use Rattle.claims.specs.declared.certificate.Why.{Why}
 use Rattle.claims.specs.declared.certificate.Why.TheVariants.{Before, After}

@@ -3,11 +3,11 @@ use Rattle.std.proofs.Common.{◌≡◌, ℕ, Bool, true, false, cond, List, [],
 use Rattle.std.specs.Prelude.{option_map, codes}
 use Rattle.std.specs.Str.{bytes_eq}
 use Rattle.std.proofs.lemmas.Slice.Eq.{bytes_eq-Decides}
-use Rattle.text_fields.specs.Reading.{◌>>=◌}
+use Rattle.text_fields.specs.Parsing.{◌>>=◌}
 use Rattle.text_fields.proofs.Steps.{bind_some, map_some, some_is}
-use Rattle.causal_order.specs.declared.reference.Ref.{Ref}
-use Rattle.causal_order.specs.declared.chain.Precedes.{Precedes}
-use Rattle.causal_order.specs.declared.chain.Precedes.TheVariants.{Chain, Clock}
+use Rattle.claims.specs.declared.reference.Ref.{Ref}
+use Rattle.claims.specs.declared.order.Precedes.{Precedes}
+use Rattle.claims.specs.declared.order.Precedes.TheVariants.{Chain, Clock}
 use Rattle.claims.specs.declared.certificate.Why.{Why}
 use Rattle.claims.specs.declared.certificate.Why.TheVariants.{Before, After}
 use Rattle.claims.specs.declared.certificate.Reason.{Reason}

@@ -7,13 +7,13 @@ use Rattle.std.specs.Str.{all_ascii_digits}
 use Rattle.std.specs.List.{AllByRecursion}
 use Rattle.std.proofs.lemmas.Bool.{leb-true}
 use Rattle.std.proofs.lemmas.Fmt.{digits_decimal}
-use Rattle.text_fields.specs.Pieces.{Lacks, AllLack}
+use Rattle.text_fields.specs.Cuts.{Lacks, AllLack}
 use Rattle.text_fields.proofs.NumberLaws.{own, decimal_lacks}
-use Rattle.text_fields.proofs.PieceLaws.{Lacks-joined}
+use Rattle.text_fields.proofs.CutLaws.{Lacks-joined}
 use Rattle.text_fields.proofs.Steps.{both}
 use Rattle.binding_rules.specs.declared.role.Role.{Role}
 use Rattle.binding_rules.specs.declared.role.Role.TheVariants.{Primary, Secondary}
-use Rattle.causal_order.specs.declared.reference.Ref.{Ref}
+use Rattle.claims.specs.declared.reference.Ref.{Ref}
 use Rattle.certificate.specs.Spelling.{letter_of, ref_text, chain_text, IsReference}
 
 -- no digit is a mark of a chain

@@ -7,9 +7,8 @@ use Rattle.std.proofs.lemmas.Bool.{leb-true, le-leb}
 use Rattle.std.proofs.lemmas.Slice.Eq.{bytes_eq-Decides}
 use Rattle.std.proofs.lemmas.List.{length-append, length-map}
 use Rattle.std.proofs.lemmas.List.Concat.{flat_map-cons}
-use Rattle.text_fields.specs.Pieces.{joined, split, Lacks, AllLack}
-use Rattle.text_fields.proofs.PieceLaws.{joined-split, joined-ended, split-ended}
-use Rattle.prefix_range.specs.Prefix.{Prefix}
+use Rattle.text_fields.specs.Cuts.{joined, split, Lacks, AllLack}
+use Rattle.text_fields.proofs.CutLaws.{joined-split, joined-ended, split-ended}
 use Rattle.claims.specs.declared.certificate.Certificate.{Certificate}
 use Rattle.claims.specs.declared.certificate.Piece.{Piece}
 use Rattle.claims.specs.declared.certificate.Foreign.{Foreign}
@@ -18,7 +17,8 @@ use Rattle.claims.specs.declared.fault.CertificateFault.TheVariants.{Head, Form}
 use Rattle.certificate.specs.declared.error.CertificateError.{CertificateError}
 use Rattle.certificate.specs.Spelling.{head_text, end_text, holder_words, prefix_words, interval_words, piece_words, clear_words, foreign_words, line_text, opening_lines, piece_lines, lines_of, certificate_lines, certificate_text, IsClear, IsPiece, IsForeign, IsClaim, IsWritten}
 use Rattle.certificate.specs.Lines.{holder_in, prefix_in, interval_in, with_line}
-use Rattle.certificate.specs.Faults.{◌>>=◌, or_form, line_before, head_at, value_at, ended_by, claim_on, opening_at, certificate_in, reading_of, Gives}
+use Rattle.text_fields.specs.Parsing.{◌>>!◌, Gives}
+use Rattle.certificate.specs.Faults.{or_form, line_before, head_at, value_at, ended_by, claim_on, opening_at, certificate_in, certificate_of, fault_of, opened}
 use Rattle.certificate.proofs.FaultSteps.{done, ok_is, bind_ok, form_ok}
 use Rattle.certificate.proofs.LineLaws.{holder_takes, holder_again, prefix_takes, prefix_again, interval_takes, interval_again}
 use Rattle.certificate.proofs.Plain.{all_append, lacks_test, IsPlainLine, line_lacks, line_words, holder_plain, prefix_plain_line, interval_plain, piece_plain, clear_plain, foreign_plain}
@@ -52,7 +52,7 @@ words_line line words e = sym (joined-split 32 line) ∙ ap (joined 32) e
 value_takes : {A : Type 0} (read : List (List ℕ) → Option A) (number : ℕ) (lines : List (List ℕ)) (x : A) (left : List (List ℕ)) → value_at read number lines ≡ Ok (x, left) → (line : List ℕ) × (lines ≡ line ∷ left) × (read (split 32 line) ≡ Some x)
 value_takes read number [] x left e = absurd cc
 value_takes {A = A} read number (line ∷ rest) x left e =
-    let l = bind_ok (line_before number line rest >>= λ w. Ok (w, rest)) (λ l. or_form number (read (split 32 l.0)) >>= λ y. Ok (y, l.1)) (x, left) e in
+    let l = bind_ok (line_before number line rest >>! λ w. Ok (w, rest)) (λ l. or_form number (read (split 32 l.0)) >>! λ y. Ok (y, l.1)) (x, left) e in
     let w = bind_ok (line_before number line rest) (λ w. Ok (w, rest)) l.0 l.1 in
     let v = bind_ok (or_form number (read (split 32 l.0.0))) (λ y. Ok (y, l.0.1)) (x, left) l.2 in
     let same : line ≡ l.0.0 = (before_takes number line rest w.0 w.1).0 ∙ ap (λ (p : List ℕ × List (List ℕ)). p.0) (ok_is (w.0, rest) l.0 w.2) in
@@ -72,11 +72,11 @@ ended_takes c d ([] ∷ next ∷ left) e = absurd cc
 ended_takes c d ((b ∷ line) ∷ left) e = absurd cc
 
 -- what reading the lines from here on makes known: all lines together are those of the certificate, and an empty piece
-abbrev Reads : List (List ℕ) → Type 0
-Reads left = (number : ℕ) (c d : Certificate) (all : List (List ℕ)) → number ≡ suc (length (lines_of c)) → IsClaim c → all ≡ lines_of c ++ left → claim_on number c left ≡ Ok d → IsWritten d × (all ≡ certificate_lines d ++ [] ∷ [])
+abbrev Completes : List (List ℕ) → Type 0
+Completes left = (number : ℕ) (c d : Certificate) (all : List (List ℕ)) → number ≡ suc (length (lines_of c)) → IsClaim c → all ≡ lines_of c ++ left → claim_on number c left ≡ Ok d → IsWritten d × (all ≡ certificate_lines d ++ [] ∷ [])
 
-claim_step : (line : List ℕ) (left : List (List ℕ)) (number : ℕ) (c d : Certificate) (all : List (List ℕ)) (end : Bool) → Reads left → number ≡ suc (length (lines_of c)) → number ≤ 65536 → IsClaim c → all ≡ lines_of c ++ line ∷ left → bytes_eq line end_text ≡ end
-    → cond end (ended_by c left) (or_form number (with_line c (split 32 line)) >>= λ more. claim_on (suc number) more left) ≡ Ok d → IsWritten d × (all ≡ certificate_lines d ++ [] ∷ [])
+claim_step : (line : List ℕ) (left : List (List ℕ)) (number : ℕ) (c d : Certificate) (all : List (List ℕ)) (end : Bool) → Completes left → number ≡ suc (length (lines_of c)) → number ≤ 65536 → IsClaim c → all ≡ lines_of c ++ line ∷ left → bytes_eq line end_text ≡ end
+    → cond end (ended_by c left) (or_form number (with_line c (split 32 line)) >>! λ more. claim_on (suc number) more left) ≡ Ok d → IsWritten d × (all ≡ certificate_lines d ++ [] ∷ [])
 claim_step line left number c d all true later n few h whole p e =
     let t = ended_takes c d left e in
     let is : line ≡ end_text = (bytes_eq-Decides line end_text).0 p in
@@ -92,14 +92,14 @@ claim_step line left number c d all false later n few h whole p e =
     let on : all ≡ lines_of f.0 ++ left = whole ∙ (sym (append_assoc (lines_of c) (line ∷ []) left) ∙ ap (λ (ls : List (List ℕ)). ls ++ left) (sym lines)) in
     later (suc number) f.0 d all count a.claim on f.2
 
-claim_takes : (left : List (List ℕ)) → Reads left
+claim_takes : (left : List (List ℕ)) → Completes left
 unfolding claim_on
 claim_takes [] number c d all n h whole e = absurd cc
 claim_takes (line ∷ left) number c d all n h whole e =
-    let w = bind_ok (line_before number line left) (λ w. cond (bytes_eq w end_text) (ended_by c left) (or_form number (with_line c (split 32 w)) >>= λ more. claim_on (suc number) more left)) d e in
+    let w = bind_ok (line_before number line left) (λ w. cond (bytes_eq w end_text) (ended_by c left) (or_form number (with_line c (split 32 w)) >>! λ more. claim_on (suc number) more left)) d e in
     let b = before_takes number line left w.0 w.1 in
     let f = sym b.0 in
-    let on = subst (λ (l : List ℕ). cond (bytes_eq l end_text) (ended_by c left) (or_form number (with_line c (split 32 l)) >>= λ more. claim_on (suc number) more left) ≡ Ok d) f w.2 in
+    let on = subst (λ (l : List ℕ). cond (bytes_eq l end_text) (ended_by c left) (or_form number (with_line c (split 32 l)) >>! λ more. claim_on (suc number) more left) ≡ Ok d) f w.2 in
     claim_step line left number c d all (bytes_eq line end_text) (claim_takes left) n b.1 h whole refl on
 
 -- ---- the whole text
@@ -112,10 +112,6 @@ head_takes (line ∷ next ∷ rest) left e = by (bytes_eq line head_text) refl e
     by : (b : Bool) → bytes_eq line head_text ≡ b → cond b (Ok (next ∷ rest)) (Err Head) ≡ Ok left → line ∷ next ∷ rest ≡ head_text ∷ left
     by true p e = ap (λ (l : List ℕ). l ∷ next ∷ rest) ((bytes_eq-Decides line head_text).0 p) ∙ ap (λ (ls : List (List ℕ)). head_text ∷ ls) (ok_is (next ∷ rest) left e)
     by false p e = absurd cc
-
--- a certificate before its pieces and other clients' grants
-abbrev begun : List ℕ → Prefix → ℕ × ℕ → Certificate
-begun holder prefix interval = record { holder = holder; prefix = prefix; from = interval.0; to = interval.1; pieces = []; foreign = [] }
 
 behind : (line : List ℕ) (a b : List (List ℕ)) → a ≡ b → line ∷ a ≡ line ∷ b
 behind line a b e = ap (λ (ls : List (List ℕ)). line ∷ ls) e
@@ -132,23 +128,23 @@ record Opens (lines : List (List ℕ)) (c : Certificate) (left : List (List ℕ)
 opening_takes : (lines : List (List ℕ)) (c : Certificate) (left : List (List ℕ)) → opening_at lines ≡ Ok (c, left) → Opens lines c left
 unfolding opening_at
 opening_takes lines c left e =
-    let a = bind_ok (head_at lines) (λ left. value_at holder_in 2 left >>= λ h. value_at prefix_in 3 h.1 >>= λ p. value_at interval_in 4 p.1 >>= λ i. done (begun h.0 p.0 i.0, i.1)) (c, left) e in
-    let h = bind_ok (value_at holder_in 2 a.0) (λ h. value_at prefix_in 3 h.1 >>= λ p. value_at interval_in 4 p.1 >>= λ i. done (begun h.0 p.0 i.0, i.1)) (c, left) a.2 in
-    let p = bind_ok (value_at prefix_in 3 h.0.1) (λ p. value_at interval_in 4 p.1 >>= λ i. done (begun h.0.0 p.0 i.0, i.1)) (c, left) h.2 in
-    let i = bind_ok (value_at interval_in 4 p.0.1) (λ i. done (begun h.0.0 p.0.0 i.0, i.1)) (c, left) p.2 in
+    let a = bind_ok (head_at lines) (λ left. value_at holder_in 2 left >>! λ h. value_at prefix_in 3 h.1 >>! λ p. value_at interval_in 4 p.1 >>! λ i. done (opened h.0 p.0 i.0, i.1)) (c, left) e in
+    let h = bind_ok (value_at holder_in 2 a.0) (λ h. value_at prefix_in 3 h.1 >>! λ p. value_at interval_in 4 p.1 >>! λ i. done (opened h.0 p.0 i.0, i.1)) (c, left) a.2 in
+    let p = bind_ok (value_at prefix_in 3 h.0.1) (λ p. value_at interval_in 4 p.1 >>! λ i. done (opened h.0.0 p.0 i.0, i.1)) (c, left) h.2 in
+    let i = bind_ok (value_at interval_in 4 p.0.1) (λ i. done (opened h.0.0 p.0.0 i.0, i.1)) (c, left) p.2 in
     let hl = value_takes holder_in 2 a.0 h.0.0 h.0.1 h.1 in
     let pl = value_takes prefix_in 3 h.0.1 p.0.0 p.0.1 p.1 in
     let il = value_takes interval_in 4 p.0.1 i.0.0 i.0.1 i.1 in
     let holder = holder_takes (split 32 hl.0) h.0.0 hl.2 in
     let prefix = prefix_takes (split 32 pl.0) p.0.0 pl.2 in
     let interval = interval_takes (split 32 il.0) i.0.0 il.2 in
-    let opened : Opens lines (begun h.0.0 p.0.0 i.0.0) i.0.1 = record {
+    let opening : Opens lines (opened h.0.0 p.0.0 i.0.0) i.0.1 = record {
       claim = record { holder = holder.1; prefix = prefix.1; from = interval.1; to = interval.2; pieces = tt; foreign = tt };
       count = refl;
       whole = head_takes lines a.0 a.1 ∙ behind head_text _ _ (hl.1 ∙ first _ _ _ _ (words_line hl.0 _ holder.0)
           (pl.1 ∙ first _ _ _ _ (words_line pl.0 _ prefix.0) (il.1 ∙ first _ _ _ _ (words_line il.0 _ interval.0) refl)));
     } in
-    subst (λ (x : Certificate × List (List ℕ)). Opens lines x.0 x.1) (ok_is (begun h.0.0 p.0.0 i.0.0, i.0.1) (c, left) i.2) opened
+    subst (λ (x : Certificate × List (List ℕ)). Opens lines x.0 x.1) (ok_is (opened h.0.0 p.0.0 i.0.0, i.0.1) (c, left) i.2) opening
 
 certificate_takes : (lines : List (List ℕ)) (c : Certificate) → certificate_in lines ≡ Ok c → IsWritten c × (lines ≡ certificate_lines c ++ [] ∷ [])
 certificate_takes lines c e =
@@ -156,8 +152,8 @@ certificate_takes lines c e =
     let t = opening_takes lines o.0.0 o.0.1 o.1 in
     claim_takes o.0.1 5 o.0.0 c lines (omega (arith, t.count)) t.claim t.whole o.2
 
-pub reading_takes : (text : List ℕ) (c : Certificate) → reading_of text ≡ Ok c → IsWritten c × (text ≡ certificate_text c)
-reading_takes text c e =
+pub text_takes : (text : List ℕ) (c : Certificate) → certificate_of text ≡ Ok c → IsWritten c × (text ≡ certificate_text c)
+text_takes text c e =
     let t = certificate_takes (split 10 text) c e in
     (t.0, sym (joined-split 10 text) ∙ (ap (joined 10) t.1 ∙ joined-ended 10 (certificate_lines c)))
 
@@ -248,7 +244,7 @@ lines_lack c h =
     all_append (Lacks 10) (flat_map piece_lines c.pieces) (map foreign_line c.foreign) (pieces_lack c.pieces h.pieces) (foreign_lack c.foreign h.foreign) in
     all_append (Lacks 10) (lines_of c) (end_text ∷ []) (all_append (Lacks 10) (opening_lines c) (flat_map piece_lines c.pieces ++ map foreign_line c.foreign) opening others) (lacks_test 10 end_text refl, tt)
 
-opening_again : (c : Certificate) (left : List (List ℕ)) → IsClaim c → 0 < length left → opening_at (opening_lines c ++ left) ≡ Ok (begun c.holder c.prefix (c.from, c.to), left)
+opening_again : (c : Certificate) (left : List (List ℕ)) → IsClaim c → 0 < length left → opening_at (opening_lines c ++ left) ≡ Ok (opened c.holder c.prefix (c.from, c.to), left)
 unfolding opening_at
 opening_again c left h some =
     let holder = value_again holder_in 2 (holder_words c.holder) (line_text (prefix_words c.prefix) ∷ line_text (interval_words c.from c.to) ∷ left) c.holder (omega arith) (holder_plain c.holder h.holder) (holder_again c.holder h.holder) (omega arith) in
@@ -265,7 +261,7 @@ certificate_again c h =
     let some : 0 < length left = omega (arith, length-append ((pieces ++ foreign) ++ end_text ∷ []) ([] ∷ [])) in
     let count : 5 + length pieces + length c.foreign ≤ 65536 =
     omega (arith, h.lines, length-append (lines_of c) (end_text ∷ []), length-append pieces foreign, length-map c.foreign foreign_line) in
-    let start : Certificate = begun c.holder c.prefix (c.from, c.to) in
+    let start : Certificate = opened c.holder c.prefix (c.from, c.to) in
     let next : ℕ = 5 + length pieces in
     let read_pieces : claim_on 5 start (pieces ++ (foreign ++ end_text ∷ [] ∷ [])) ≡ claim_on next (record start { pieces = c.pieces }) (foreign ++ end_text ∷ [] ∷ []) =
     pieces_again c.pieces 5 next start (foreign ++ end_text ∷ [] ∷ []) refl h.claim.pieces refl (omega (arith, count)) (some_left foreign) in
@@ -273,13 +269,13 @@ certificate_again c h =
     foreign_again c.foreign next (record start { pieces = c.pieces }) h.claim.foreign (omega (arith, count)) in
     rw (opening_again c left h.claim some) (ap (λ (ls : List (List ℕ)). claim_on 5 start ls) regrouped ∙ (read_pieces ∙ read_foreign))
 
-pub reading_again : (c : Certificate) → IsWritten c → reading_of (certificate_text c) ≡ Ok c
-reading_again c h = ap certificate_in (split-ended 10 (certificate_lines c) (lines_lack c h.claim)) ∙ certificate_again c h
+pub text_again : (c : Certificate) → IsWritten c → certificate_of (certificate_text c) ≡ Ok c
+text_again c h = ap certificate_in (split-ended 10 (certificate_lines c) (lines_lack c h.claim)) ∙ certificate_again c h
 
 -- what the reader promises follows from what its answer is
-pub is_found : (text : List ℕ) (r : Result Certificate CertificateError) → Gives r (reading_of text) → IfOk r (λ c. IsWritten c × (text ≡ certificate_text c))
-is_found text (Ok c) given = reading_takes text c given
+pub is_found : (text : List ℕ) (r : Result Certificate CertificateError) → Gives fault_of (λ c. c) r (certificate_of text) → IfOk r (λ c. IsWritten c × (text ≡ certificate_text c))
+is_found text (Ok c) given = text_takes text c given
 is_found text (Err e) given = tt
 
-pub is_only : (text : List ℕ) (r : Result Certificate CertificateError) → Gives r (reading_of text) → (c : Certificate) → IsWritten c → text ≡ certificate_text c → Gives r (Ok c)
-is_only text r given c h e = subst (λ (x : Result Certificate CertificateFault). Gives r x) (ap reading_of e ∙ reading_again c h) given
+pub is_only : (text : List ℕ) (r : Result Certificate CertificateError) → Gives fault_of (λ c. c) r (certificate_of text) → (c : Certificate) → IsWritten c → text ≡ certificate_text c → Gives fault_of (λ c. c) r (Ok c)
+is_only text r given c h e = subst (λ (x : Result Certificate CertificateFault). Gives fault_of (λ c. c) r x) (ap certificate_of e ∙ text_again c h) given

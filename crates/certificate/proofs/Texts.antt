@@ -3,10 +3,10 @@ use Rattle.std.proofs.Common.{◌≡◌, ℕ, List, ◌∷◌, ◌++◌, ap, ◌
 use Rattle.std.specs.Prelude.{map, codes}
 use Rattle.std.proofs.lemmas.List.Concat.{flat_map-cons}
 use Rattle.std.proofs.lemmas.Grind.{flat_map-append}
-use Rattle.text_fields.specs.Pieces.{behind}
-use Rattle.text_fields.proofs.PieceLaws.{joined-behind}
-use Rattle.causal_order.specs.declared.reference.Ref.{Ref}
-use Rattle.causal_order.specs.declared.chain.Precedes.{Precedes}
+use Rattle.text_fields.specs.Cuts.{behind}
+use Rattle.text_fields.proofs.CutLaws.{joined-behind}
+use Rattle.claims.specs.declared.reference.Ref.{Ref}
+use Rattle.claims.specs.declared.order.Precedes.{Precedes}
 use Rattle.claims.specs.declared.certificate.Clear.{Clear}
 use Rattle.claims.specs.declared.certificate.Foreign.{Foreign}
 use Rattle.claims.specs.declared.certificate.Reason.TheVariants.{Released}

@@ -3,23 +3,22 @@ use Rattle.std.proofs.Common.{◌≡◌, ◌≢◌, ℕ, ◌<◌, ◌≤◌, ◌
 use Rattle.std.specs.Prelude.{option_map, map}
 use Rattle.std.specs.List.{AllByRecursion}
 use Rattle.std.proofs.lemmas.List.{length-map}
-use Rattle.text_fields.specs.Pieces.{joined, split}
+use Rattle.text_fields.specs.Cuts.{joined, split}
 use Rattle.text_fields.proofs.Cutting.{split_some}
-use Rattle.text_fields.proofs.PieceLaws.{joined-split, split-joined}
+use Rattle.text_fields.proofs.CutLaws.{joined-split, split-joined}
 use Rattle.std.specs.Str.{bytes_eq}
-use Rattle.std.specs.Fmt.{decimal}
 use Rattle.std.proofs.lemmas.Bool.{eqb-true, leb-true, le-leb}
 use Rattle.std.proofs.lemmas.Slice.Eq.{bytes_eq-Decides}
-use Rattle.text_fields.specs.Reading.{◌>>=◌}
+use Rattle.text_fields.specs.Parsing.{alone, ◌>>=◌}
 use Rattle.text_fields.proofs.Steps.{bind_some, map_some, chosen, some_is}
 use Rattle.text_fields.proofs.WordLaws.{word_takes, word_again}
 use Rattle.line_words.specs.Words.{number_within}
-use Rattle.line_words.proofs.WordLaws.{number_at_takes, number_at_again}
+use Rattle.line_words.proofs.WordLaws.{first_takes, within_takes, within_again}
 use Rattle.binding_rules.specs.declared.role.Role.{Role}
 use Rattle.binding_rules.specs.declared.role.Role.TheVariants.{Primary, Secondary}
-use Rattle.causal_order.specs.declared.reference.Ref.{Ref}
+use Rattle.claims.specs.declared.reference.Ref.{Ref}
 use Rattle.certificate.specs.Spelling.{letter_of, ref_text, chain_text, IsReference, IsChain}
-use Rattle.certificate.specs.Lines.{keyword, keyword_at, side_of, ref_of, refs_of, chain_in, chain_of, ref_at, chain_at, alone}
+use Rattle.certificate.specs.Lines.{keyword, keyword_at, side_of, ref_of, refs_of, chain_in, chain_of, ref_at, chain_at}
 use Rattle.certificate.proofs.RefPlain.{links_lack}
 
 -- ---- words that stand alone
@@ -42,17 +41,6 @@ unfolding keyword
 keyword_again text rest = word_again (keyword text) text rest text (rw ((bytes_eq-Decides text text).1 refl) refl)
 
 -- ---- references
-
-within_takes : (limit : ℕ) (word : List ℕ) (n : ℕ) → number_within limit word ≡ Some n → (word ≡ decimal n) × (n ≤ limit)
-within_takes limit word n e =
-    let t = number_at_takes limit (word ∷ []) n [] (word_again (number_within limit) word [] n e) in
-    (cc, t.1)
-
-within_again : (limit n : ℕ) → n ≤ limit → n < 2 ^ 64 → number_within limit (decimal n) ≡ Some n
-within_again limit n le lt =
-    let w = word_takes (number_within limit) (decimal n ∷ []) n [] (number_at_again limit n [] le lt) in
-    let same : decimal n ≡ w.0 = cc in
-    ap (number_within limit) same ∙ w.2
 
 side_takes : (letter : ℕ) (side : Role) → side_of letter ≡ Some side → letter ≡ letter_of side
 unfolding side_of
@@ -87,10 +75,7 @@ unfolding ref_of
 ref_again r h = rw (side_again r.side, within_again (2 ^ 20) r.number h.most (omega (arith, h.most)), le-leb 1 r.number h.least) refl
 
 pub ref_at_takes : (words : List (List ℕ)) (r : Ref) (rest : List (List ℕ)) → ref_at words ≡ Some (r, rest) → (words ≡ ref_text r ∷ rest) × IsReference r
-ref_at_takes words r rest e =
-    let w = word_takes ref_of words r rest e in
-    let t = ref_takes w.0 r w.2 in
-    (w.1 ∙ ap (λ (word : List ℕ). word ∷ rest) t.0, t.1)
+ref_at_takes words r rest e = first_takes IsReference ref_of ref_text ref_takes words r rest e
 
 pub ref_at_again : (r : Ref) (rest : List (List ℕ)) → IsReference r → ref_at (ref_text r ∷ rest) ≡ Some (r, rest)
 ref_at_again r rest h = word_again ref_of (ref_text r) rest r (ref_again r h)
@@ -136,10 +121,7 @@ chain_again (r ∷ chain) h =
     ∙ (few_again (map ref_text (r ∷ chain)) (omega (arith, h.few, length-map (r ∷ chain) ref_text)) ∙ refs_again (r ∷ chain) h.references)
 
 pub chain_at_takes : (words : List (List ℕ)) (chain : List Ref) (rest : List (List ℕ)) → chain_at words ≡ Some (chain, rest) → (words ≡ chain_text chain ∷ rest) × IsChain chain
-chain_at_takes words chain rest e =
-    let w = word_takes chain_of words chain rest e in
-    let t = chain_takes w.0 chain w.2 in
-    (w.1 ∙ ap (λ (word : List ℕ). word ∷ rest) t.0, t.1)
+chain_at_takes words chain rest e = first_takes IsChain chain_of chain_text chain_takes words chain rest e
 
 pub chain_at_again : (chain : List Ref) (rest : List (List ℕ)) → IsChain chain → chain_at (chain_text chain ∷ rest) ≡ Some (chain, rest)
 chain_at_again chain rest h = word_again chain_of (chain_text chain) rest chain (chain_again chain h)

@@ -1,15 +1,16 @@
--- The lines of a certificate, read by their words.
-use Rattle.std.specs.Prelude.{◌≡◌, ℕ, ◌^◌, List, [], ◌∷◌, ◌++◌, length, Option, Some, None, option_map, Result, Ok, Err, nat_le, ◌==◌, if◌then◌else◌, codes}
+-- What the lines of a certificate say, by their words.
+use Rattle.std.specs.Prelude.{ℕ, List, [], ◌∷◌, ◌++◌, length, Option, Some, None, option_map, nat_le, ◌==◌}
+use Rattle.std.specs.Prelude.{if◌then◌else◌, codes}
 use Rattle.std.specs.Str.{bytes_eq}
-use Rattle.text_fields.specs.Pieces.{split}
-use Rattle.text_fields.specs.Reading.{◌>>=◌, first_word}
+use Rattle.text_fields.specs.Cuts.{split}
+use Rattle.text_fields.specs.Parsing.{◌>>=◌, alone, first_word}
 use Rattle.line_words.specs.Words.{number_within, reading_at, duid_at, prefix_at}
 use Rattle.prefix_range.specs.Prefix.{Prefix}
 use Rattle.binding_rules.specs.declared.role.Role.{Role}
 use Rattle.binding_rules.specs.declared.role.Role.TheVariants.{Primary, Secondary}
-use Rattle.causal_order.specs.declared.reference.Ref.{Ref}
-use Rattle.causal_order.specs.declared.chain.Precedes.{Precedes}
-use Rattle.causal_order.specs.declared.chain.Precedes.TheVariants.{Chain, Clock}
+use Rattle.claims.specs.declared.reference.Ref.{Ref}
+use Rattle.claims.specs.declared.order.Precedes.{Precedes}
+use Rattle.claims.specs.declared.order.Precedes.TheVariants.{Chain, Clock}
 use Rattle.claims.specs.declared.certificate.Certificate.{Certificate}
 use Rattle.claims.specs.declared.certificate.Piece.{Piece}
 use Rattle.claims.specs.declared.certificate.Foreign.{Foreign}
@@ -18,8 +19,8 @@ use Rattle.claims.specs.declared.certificate.Reason.TheVariants.{Early, Late, Re
 use Rattle.claims.specs.declared.certificate.Clear.{Clear}
 use Rattle.claims.specs.declared.certificate.Why.{Why}
 use Rattle.claims.specs.declared.certificate.Why.TheVariants.{Before, After}
-use Rattle.certificate.specs.declared.fields.LineError.{LineError}
-use Rattle.certificate.specs.declared.fields.LineError.TheVariants.{Form, Memory}
+use Rattle.certificate.specs.declared.fields.TheConstants.{MAX_LINE_NUMBER, MAX_CHAIN_LEN}
+use Rattle.certificate.specs.declared.stops.TheConstants.{LINK}
 
 -- ---- words
 
@@ -27,11 +28,11 @@ use Rattle.certificate.specs.declared.fields.LineError.TheVariants.{Form, Memory
 unfoldable pub keyword : List ℕ → List ℕ → Option (List ℕ)
 keyword text word = if bytes_eq word text then Some text else None
 
--- The first word read as a keyword, a reference or a chain, and the words behind it.
+-- the first word as this keyword, and the words behind it
 abbrev pub keyword_at : List ℕ → List (List ℕ) → Option (List ℕ × List (List ℕ))
 keyword_at text words = first_word (keyword text) words
 
--- the side with this letter
+-- the side with this letter, A or B
 unfoldable pub side_of : ℕ → Option Role
 side_of letter = if letter == 65 then Some Primary else if letter == 66 then Some Secondary else None
 
@@ -40,7 +41,7 @@ unfoldable pub ref_of : List ℕ → Option Ref
 ref_of [] = None
 ref_of (letter ∷ digits) = do
   side ← side_of letter
-  number ← number_within (2 ^ 20) digits
+  number ← number_within MAX_LINE_NUMBER digits
   if nat_le 1 number then Some (record { side = side; number = number }) else None
 
 abbrev pub ref_at : List (List ℕ) → Option (Ref × List (List ℕ))
@@ -53,21 +54,16 @@ refs_of (word ∷ words) = do
   r ← ref_of word
   option_map (λ refs. r ∷ refs) (refs_of words)
 
--- at most 1,024 references
+-- the references that so many words spell, where they are no more than a chain may have
 unfoldable pub chain_in : List (List ℕ) → Option (List Ref)
-chain_in words = if nat_le (length words) 1024 then refs_of words else None
+chain_in words = if nat_le (length words) MAX_CHAIN_LEN then refs_of words else None
 
 -- the chain that a word spells: references with a > between each two
 abbrev pub chain_of : List ℕ → Option (List Ref)
-chain_of word = chain_in (split 62 word)
+chain_of word = chain_in (split LINK word)
 
 abbrev pub chain_at : List (List ℕ) → Option (List Ref × List (List ℕ))
 chain_at words = first_word chain_of words
-
--- a value, where no word stands behind it
-abbrev pub alone : {A : Type 0} → A → List (List ℕ) → Option A
-alone x [] = Some x
-alone x (word ∷ words) = None
 
 -- ---- lines
 
@@ -101,7 +97,14 @@ piece_in words = do
   latest ← chain_at j.1
   k ← keyword_at (codes "earliest") latest.1
   earliest ← chain_at k.1
-  alone (record { grant = grant.0; from = from.0; to = to.0; latest = latest.0; earliest = earliest.0; clear = [] }) earliest.1
+  alone (record {
+    grant = grant.0;
+    from = from.0;
+    to = to.0;
+    latest = latest.0;
+    earliest = earliest.0;
+    clear = [];
+  }) earliest.1
 
 -- two chains, from the first line and to the second
 unfoldable pub clock_at : List (List ℕ) → Option (Precedes × List (List ℕ))
@@ -171,7 +174,8 @@ foreign_in words = do
 
 -- the certificate with one more piece, before all other clients' grants
 unfoldable pub with_piece : Certificate → List (List ℕ) → Option Certificate
-with_piece c words = if length c.foreign == 0 then option_map (λ p. record c { pieces = c.pieces ++ p ∷ [] }) (piece_in words) else None
+with_piece c words =
+    if length c.foreign == 0 then option_map (λ p. record c { pieces = c.pieces ++ p ∷ [] }) (piece_in words) else None
 
 -- pieces with one more release that does not cut the last of them short
 unfoldable pub with_cleared : List Piece → Clear → Option (List Piece)
@@ -181,7 +185,10 @@ with_cleared (p ∷ q ∷ ps) clear = option_map (λ more. p ∷ more) (with_cle
 
 -- the certificate with such a release, before all other clients' grants
 unfoldable pub with_clear : Certificate → List (List ℕ) → Option Certificate
-with_clear c words = if length c.foreign == 0 then (clear_in words >>= λ clear. option_map (λ ps. record c { pieces = ps }) (with_cleared c.pieces clear)) else None
+with_clear c words =
+    if length c.foreign == 0
+    then (clear_in words >>= λ clear. option_map (λ ps. record c { pieces = ps }) (with_cleared c.pieces clear))
+    else None
 
 -- the certificate with one more of other clients' grants
 unfoldable pub with_foreign : Certificate → List (List ℕ) → Option Certificate
@@ -199,17 +206,3 @@ with_words c word words =
 abbrev pub with_line : Certificate → List (List ℕ) → Option Certificate
 with_line c [] = None
 with_line c (word ∷ words) = with_words c word words
-
--- ---- what readers find
-
--- what a function that makes growths found, seen by view, is what reading gives, unless a growth was refused
-abbrev pub Fills : {X Y : Type 0} → (X → Y) → Result X LineError → Option Y → Type 0
-Fills view (Ok x) read = read ≡ Some (view x)
-Fills view (Err Form) read = read ≡ None
-Fills view (Err Memory) read = Unit {0}
-
--- the same of a value and the words behind it
-abbrev pub Takes : {X Y : Type 0} → (X → Y) → Result X LineError → List (List ℕ) → Option (Y × List (List ℕ)) → Type 0
-Takes view (Ok x) rest read = read ≡ Some (view x, rest)
-Takes view (Err Form) rest read = read ≡ None
-Takes view (Err Memory) rest read = Unit {0}

@@ -2,16 +2,18 @@
 use Rattle.std.specs.Prelude.{ℕ, ◌^◌, ◌≤◌, List, [], ◌∷◌, ◌++◌, length, map, codes}
 use Rattle.std.specs.Fmt.{decimal}
 use Rattle.std.specs.List.{flat_map, AllByRecursion}
-use Rattle.text_fields.specs.Pieces.{joined, ended}
+use Rattle.text_fields.specs.Cuts.{joined, ended}
 use Rattle.text_fields.specs.Octets.{hex}
 use Rattle.client_id.specs.Duid.{IsDuid}
 use Rattle.prefix_range.specs.Prefix.{Prefix, IsPrefix}
 use Rattle.prefix_range.specs.Text.{prefix_text}
 use Rattle.binding_rules.specs.declared.role.Role.{Role}
 use Rattle.binding_rules.specs.declared.role.Role.TheVariants.{Primary, Secondary}
-use Rattle.causal_order.specs.declared.reference.Ref.{Ref}
-use Rattle.causal_order.specs.declared.chain.Precedes.{Precedes}
-use Rattle.causal_order.specs.declared.chain.Precedes.TheVariants.{Chain, Clock}
+use Rattle.claims.specs.declared.reference.Ref.{Ref}
+use Rattle.certificate.specs.declared.fields.TheConstants.{MAX_LINE_NUMBER, MAX_CHAIN_LEN}
+use Rattle.certificate.specs.declared.text_lines.TheConstants.{MAX_LINES}
+use Rattle.claims.specs.declared.order.Precedes.{Precedes}
+use Rattle.claims.specs.declared.order.Precedes.TheVariants.{Chain, Clock}
 use Rattle.claims.specs.declared.certificate.Certificate.{Certificate}
 use Rattle.claims.specs.declared.certificate.Piece.{Piece}
 use Rattle.claims.specs.declared.certificate.Clear.{Clear}
@@ -20,10 +22,12 @@ use Rattle.claims.specs.declared.certificate.Why.TheVariants.{Before, After}
 use Rattle.claims.specs.declared.certificate.Foreign.{Foreign}
 use Rattle.claims.specs.declared.certificate.Reason.{Reason}
 use Rattle.claims.specs.declared.certificate.Reason.TheVariants.{Early, Late, Released}
+use Rattle.line_words.specs.declared.words.TheConstants.{SPACE}
+use Rattle.certificate.specs.declared.stops.TheConstants.{LINE_FEED, LINK}
 
 -- ---- words
 
--- the letter of a side
+-- the letter of a side, A or B
 abbrev pub letter_of : Role → ℕ
 letter_of Primary = 65
 letter_of Secondary = 66
@@ -34,7 +38,7 @@ ref_text r = letter_of r.side ∷ decimal r.number
 
 -- references with a > between each two
 abbrev pub chain_text : List Ref → List ℕ
-chain_text chain = joined 62 (map ref_text chain)
+chain_text chain = joined LINK (map ref_text chain)
 
 -- ---- lines
 
@@ -56,7 +60,9 @@ interval_words from to = codes "interval" ∷ decimal from ∷ decimal to ∷ []
 
 -- a grant that carries a part of the interval, with a chain from it and a chain to it
 abbrev pub piece_words : Piece → List (List ℕ)
-piece_words p = codes "piece" ∷ ref_text p.grant ∷ decimal p.from ∷ decimal p.to ∷ codes "latest" ∷ chain_text p.latest ∷ codes "earliest" ∷ chain_text p.earliest ∷ []
+piece_words p =
+    codes "piece" ∷ ref_text p.grant ∷ decimal p.from ∷ decimal p.to
+    ∷ codes "latest" ∷ chain_text p.latest ∷ codes "earliest" ∷ chain_text p.earliest ∷ []
 
 -- why one line stands before another
 abbrev pub order_words : Precedes → List (List ℕ)
@@ -80,7 +86,8 @@ latest_words chain = codes "latest" ∷ chain_text chain ∷ []
 abbrev pub reason_words : Reason → List (List ℕ)
 reason_words (Early chain) = codes "early" ∷ chain_text chain ∷ []
 reason_words (Late chain) = codes "late" ∷ chain_text chain ∷ []
-reason_words (Released release order latest) = codes "released" ∷ ref_text release ∷ (order_words order ++ latest_words latest)
+reason_words (Released release order latest) =
+    codes "released" ∷ ref_text release ∷ (order_words order ++ latest_words latest)
 
 -- another client's grant
 abbrev pub foreign_words : Foreign → List (List ℕ)
@@ -90,11 +97,13 @@ foreign_words f = codes "foreign" ∷ ref_text f.grant ∷ reason_words f.reason
 
 -- words with a space between each two
 abbrev pub line_text : List (List ℕ) → List ℕ
-line_text words = joined 32 words
+line_text words = joined SPACE words
 
 -- the lines that stand in each certificate
 abbrev pub opening_lines : Certificate → List (List ℕ)
-opening_lines c = head_text ∷ line_text (holder_words c.holder) ∷ line_text (prefix_words c.prefix) ∷ line_text (interval_words c.from c.to) ∷ []
+opening_lines c =
+    head_text ∷ line_text (holder_words c.holder) ∷ line_text (prefix_words c.prefix)
+    ∷ line_text (interval_words c.from c.to) ∷ []
 
 -- a piece, and the releases that do not cut it short
 abbrev pub piece_lines : Piece → List (List ℕ)
@@ -114,19 +123,19 @@ certificate_lines c = lines_of c ++ end_text ∷ []
 
 -- and the whole text
 abbrev pub certificate_text : Certificate → List ℕ
-certificate_text c = ended 10 (certificate_lines c)
+certificate_text c = ended LINE_FEED (certificate_lines c)
 
 -- ---- what is spelled
 
 -- a number that a journal's line may have
 pub record IsReference (r : Ref) : Type 0 where
   pub least : 1 ≤ r.number
-  pub most : r.number ≤ 2 ^ 20
+  pub most : r.number ≤ MAX_LINE_NUMBER
 
 -- a chain of 1 to 1,024 lines
 pub record IsChain (chain : List Ref) : Type 0 where
   pub some : 1 ≤ length chain
-  pub few : length chain ≤ 1024
+  pub few : length chain ≤ MAX_CHAIN_LEN
   pub references : AllByRecursion IsReference chain
 
 -- an order by such chains
@@ -172,7 +181,7 @@ pub record IsClaim (c : Certificate) : Type 0 where
   pub pieces : AllByRecursion IsPiece c.pieces
   pub foreign : AllByRecursion IsForeign c.foreign
 
--- the certificates that are read: those within the limits, with at most 65,536 lines; no line of such parts is too long
+-- the certificates that have a text: those whose lines are not too many; no line of such parts is too long
 pub record IsWritten (c : Certificate) : Type 0 where
   pub claim : IsClaim c
-  pub lines : length (certificate_lines c) ≤ 65536
+  pub lines : length (certificate_lines c) ≤ MAX_LINES

@@ -1,7 +1,9 @@
-//! A certificate that is being read.
+//! A certificate of which a part is known.
 
 ghost use Rattle.std.specs.Prelude.{◌≡◌, ◌∷◌, ◌++◌, ◌==◌, [], length, ◌↔◌, IsTrue, OnOk, option_map};
-ghost use Rattle.certificate.specs.Lines.{Fills, with_cleared};
+ghost use Rattle.certificate.specs.Faults.{opened};
+ghost use Rattle.certificate.specs.Lines.{with_cleared};
+ghost use Rattle.certificate.specs.Parsing.{Fills};
 
 use crate::fields::LineError;
 use claims::{Certificate, Clear, Foreign, ForeignList, Piece, PieceList};
@@ -11,8 +13,8 @@ use prefix_range::Prefix;
 use std::alloc::{AllocError, Global};
 use std::marker::Model;
 
-/// A certificate whose pieces and other clients' grants are still being read. Contracts see the certificate
-/// with those that were read.
+/// A certificate whose pieces and other clients' grants are still being added. Contracts see the certificate
+/// with those that were added.
 #[derive(Drop)]
 pub struct Draft {
     holder: Duid,
@@ -28,13 +30,20 @@ impl Model for Draft {
 
     ghost Value = { CertificateValue };
 
-    ghost view = { λ d. record { holder = d.holder; prefix = d.prefix; from = d.from; to = d.to; pieces = d.pieces.items; foreign = d.foreign.items } };
+    ghost view = { λ d. record {
+      holder = d.holder;
+      prefix = d.prefix;
+      from = d.from;
+      to = d.to;
+      pieces = d.pieces.items;
+      foreign = d.foreign.items;
+    } };
 }
 
 impl Draft {
     /// The certificate of this holder, prefix and interval, with no piece and no other client's grant yet.
     pub fn new(alloc: Global, holder: Duid, prefix: Prefix, from: Reading, to: Reading) -> Draft
-        ensures { result ≡ record { holder = holder; prefix = prefix; from = from; to = to; pieces = []; foreign = [] } }
+        ensures { result ≡ opened holder prefix (from, to) }
     {
         Draft {
             holder,
@@ -46,7 +55,7 @@ impl Draft {
         }
     }
 
-    /// Whether a piece or a release behind its piece may be the next that is read: no other client's grant was.
+    /// Whether a piece, or a release behind its piece, may be added: no other client's grant was.
     pub fn takes_pieces(&self) -> bool
         ensures { IsTrue result ↔ (self.now.foreign ≡ []) }
     {
@@ -64,7 +73,8 @@ impl Draft {
     /// Appends a release to those that do not cut the last piece short: `Form` where there is no piece.
     #[tactic(auto, using(crate::proofs::Clearing::cleared_last), unfolding(crate::specs::Lines::with_cleared))]
     pub fn push_clear(&mut self, clear: Clear) -> Result<(), LineError>
-        ensures { Fills (λ _. self.new) result (option_map (λ ps. record self.old { pieces = ps }) (with_cleared self.old.pieces clear)) }
+        ensures { Fills (λ _. self.new) result
+            (option_map (λ ps. record self.old { pieces = ps }) (with_cleared self.old.pieces clear)) }
     {
         let mut piece = self.pieces.pop().ok_or(LineError::Form)?;
         piece.clear.push(clear)?;
@@ -80,7 +90,7 @@ impl Draft {
         Ok(())
     }
 
-    /// The certificate, as far as it was read.
+    /// The certificate, as far as it is known.
     pub fn finish(self) -> Certificate
         ensures { result ≡ self }
     {

@@ -1,18 +1,18 @@
-//! The words of a line, read as a certificate's fields.
+//! The fields of a certificate, by the words of its lines.
 
 ghost use Rattle.std.specs.Prelude.{◌≡◌};
-ghost use Rattle.text_fields.specs.Reading.{Finds, Moves};
-ghost use Rattle.certificate.specs.Lines.{Fills, Takes, keyword_at, side_of, ref_of, ref_at, chain_of, chain_at};
-ghost use Rattle.certificate.specs.Faults.{error_at};
+ghost use Rattle.text_fields.specs.Parsing.{Finds, Moves};
+ghost use Rattle.certificate.specs.Lines.{keyword_at, side_of, ref_of, ref_at, chain_of, chain_at};
+ghost use Rattle.certificate.specs.Parsing.{Fills, Takes, error_at};
 ghost use Rattle.certificate.specs.declared.fields.LineError.TheVariants.{Memory};
 
 use crate::error::CertificateError;
+use crate::stops::LINK;
 use binding_rules::Role;
-use causal_order::{Chain, Ref};
-use claims::CertificateFault;
+use claims::{CertificateFault, Chain, Ref};
 use line_words::Words;
 use std::alloc::{AllocError, AllocFailed, Global};
-use text_fields::{Pieces, number_of};
+use text_fields::{Cuts, number_of};
 
 /// Why a line gives nothing.
 #[derive(Clone, Copy, Debug, PartialEq, Eq)]
@@ -58,7 +58,7 @@ const MAX_LINE_NUMBER: u64 = 1_048_576;
 const MAX_CHAIN_LEN: usize = 1_024;
 
 /// Goes past the word `text`, or answers `None` where another stands there.
-#[tactic(auto, unfolding(crate::specs::Lines::keyword, text_fields::specs::Reading::first_word))]
+#[tactic(auto, unfolding(crate::specs::Lines::keyword, text_fields::specs::Parsing::first_word))]
 pub fn keyword(words: &mut Words<'_>, text: &[u8]) -> Option<()>
     ensures { Moves (λ _. text.now) result words.new (keyword_at text.now words.old) }
 {
@@ -69,6 +69,7 @@ pub fn keyword(words: &mut Words<'_>, text: &[u8]) -> Option<()>
     }
 }
 
+/// The side with this letter.
 #[tactic(auto, unfolding(crate::specs::Lines::side_of))]
 fn side_of(letter: u8) -> Option<Role>
     ensures { Finds (λ r. r) result (side_of letter) }
@@ -80,6 +81,7 @@ fn side_of(letter: u8) -> Option<Role>
     }
 }
 
+/// The reference that a word spells.
 #[tactic(auto, unfolding(crate::specs::Lines::ref_of, line_words::specs::Words::number_within))]
 fn ref_of(word: &[u8]) -> Option<Ref>
     ensures { Finds (λ r. r) result (ref_of word.now) }
@@ -97,7 +99,7 @@ fn ref_of(word: &[u8]) -> Option<Ref>
 }
 
 /// The next word as a reference to a journal's line.
-#[tactic(auto, unfolding(text_fields::specs::Reading::first_word))]
+#[tactic(auto, unfolding(text_fields::specs::Parsing::first_word))]
 pub fn reference(words: &mut Words<'_>) -> Option<Ref>
     ensures { Moves (λ r. r) result words.new (ref_at words.old) }
 {
@@ -105,13 +107,13 @@ pub fn reference(words: &mut Words<'_>) -> Option<Ref>
 }
 
 /// The references that a word spells, in order.
-#[tactic(auto, using(crate::proofs::Chains::ends, crate::proofs::Chains::begins, crate::proofs::Chains::goes_on, crate::proofs::Chains::is_full, crate::proofs::Chains::is_none))]
+#[tactic(auto, using(crate::proofs::Chains::next_word))]
 fn chain_of(alloc: Global, word: &[u8]) -> Result<Chain, LineError>
     ensures { Fills (λ c. c) result (chain_of word.now) }
 {
-    let mut words = Pieces::new(word, b'>');
+    let mut words = Cuts::new(word, LINK);
     let mut refs = Vec::new(alloc);
-    while let Some(word) = words.next_piece() {
+    while let Some(word) = words.next_cut() {
         if refs.len() == MAX_CHAIN_LEN {
             return Err(LineError::Form);
         }
@@ -121,7 +123,7 @@ fn chain_of(alloc: Global, word: &[u8]) -> Result<Chain, LineError>
 }
 
 /// The next word as a chain.
-#[tactic(auto, unfolding(text_fields::specs::Reading::first_word))]
+#[tactic(auto, unfolding(text_fields::specs::Parsing::first_word))]
 pub fn chain(alloc: Global, words: &mut Words<'_>) -> Result<Chain, LineError>
     ensures { Takes (λ c. c) result words.new (chain_at words.old) }
 {

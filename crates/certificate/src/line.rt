@@ -1,9 +1,12 @@
 //! The lines of a certificate.
 
 ghost use Rattle.std.specs.Prelude.{◌≡◌, [], OnOk};
-ghost use Rattle.text_fields.specs.Reading.{Finds};
-ghost use Rattle.text_fields.specs.Pieces.{split};
-ghost use Rattle.certificate.specs.Lines.{Fills, holder_in, prefix_in, interval_in, piece_in, clear_in, foreign_in, with_piece, with_clear, with_foreign, with_line};
+ghost use Rattle.text_fields.specs.Parsing.{Finds};
+ghost use Rattle.text_fields.specs.Cuts.{split};
+ghost use Rattle.certificate.specs.Lines.{holder_in, prefix_in, interval_in, piece_in, clear_in, foreign_in};
+ghost use Rattle.certificate.specs.Lines.{with_piece, with_clear, with_foreign, with_line};
+ghost use Rattle.certificate.specs.Parsing.{Fills};
+ghost use Rattle.line_words.specs.declared.words.TheConstants.{SPACE};
 
 use crate::draft::Draft;
 use crate::fields::{LineError, chain, keyword, reference};
@@ -18,7 +21,7 @@ use std::alloc::Global;
 /// The client that the line `holder DUID` names.
 #[tactic(auto, unfolding(crate::specs::Lines::holder_in))]
 pub fn holder(line: &[u8]) -> Option<Duid>
-    ensures { Finds (λ d. d) result (holder_in (split 32 line.now)) }
+    ensures { Finds (λ d. d) result (holder_in (split SPACE line.now)) }
 {
     let mut words = Words::new(line);
     keyword(&mut words, b"holder")?;
@@ -29,7 +32,7 @@ pub fn holder(line: &[u8]) -> Option<Duid>
 /// The prefix that the line `prefix PREFIX` names.
 #[tactic(auto, unfolding(crate::specs::Lines::prefix_in))]
 pub fn prefix(line: &[u8]) -> Option<Prefix>
-    ensures { Finds (λ p. p) result (prefix_in (split 32 line.now)) }
+    ensures { Finds (λ p. p) result (prefix_in (split SPACE line.now)) }
 {
     let mut words = Words::new(line);
     keyword(&mut words, b"prefix")?;
@@ -40,7 +43,7 @@ pub fn prefix(line: &[u8]) -> Option<Prefix>
 /// The moments of the line `interval FROM TO`.
 #[tactic(auto, unfolding(crate::specs::Lines::interval_in))]
 pub fn interval(line: &[u8]) -> Option<(Reading, Reading)>
-    ensures { Finds (λ x. x) result (interval_in (split 32 line.now)) }
+    ensures { Finds (λ x. x) result (interval_in (split SPACE line.now)) }
 {
     let mut words = Words::new(line);
     keyword(&mut words, b"interval")?;
@@ -136,7 +139,7 @@ fn add_foreign(alloc: Global, draft: &mut Draft, words: Words<'_>) -> Result<(),
 /// Adds what a line says to a certificate: a piece, a release behind its piece, or another client's grant.
 #[tactic(auto, unfolding(crate::specs::Lines::with_words))]
 pub fn add_line(alloc: Global, draft: &mut Draft, line: &[u8]) -> Result<(), LineError>
-    ensures { Fills (λ _. draft.new) result (with_line draft.old (split 32 line.now)) }
+    ensures { Fills (λ _. draft.new) result (with_line draft.old (split SPACE line.now)) }
 {
     let mut words = Words::new(line);
     match words.next_word().ok_or(LineError::Form)? {

@@ -1,11 +1,11 @@
 //! Why a line stands before another, and why a release or a grant may be passed over.
 
 ghost use Rattle.std.specs.Prelude.{◌≡◌};
-ghost use Rattle.certificate.specs.Lines.{Takes, clock_at, order_at, why_at, released_at, reason_at};
+ghost use Rattle.certificate.specs.Lines.{clock_at, order_at, why_at, released_at, reason_at};
+ghost use Rattle.certificate.specs.Parsing.{Takes};
 
 use crate::fields::{LineError, chain, keyword, reference};
-use causal_order::Precedes;
-use claims::{Reason, Why};
+use claims::{Precedes, Reason, Why};
 use line_words::Words;
 use std::alloc::Global;
 

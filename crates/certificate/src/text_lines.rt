@@ -1,11 +1,14 @@
 //! The lines of a certificate's text.
 
 ghost use Rattle.std.specs.Prelude.{◌≡◌, ◌≤◌, ◌+◌, ◌↔◌, [], ◌∷◌, suc, length, IsTrue, OnOk, MatchResult, Ok, Err};
-ghost use Rattle.text_fields.specs.Pieces.{split};
-ghost use Rattle.certificate.specs.Faults.{Reads, line_at, head_at};
+ghost use Rattle.text_fields.specs.Parsing.{MovesOr};
+ghost use Rattle.text_fields.specs.Cuts.{split};
+ghost use Rattle.certificate.specs.Faults.{line_at, head_at};
+ghost use Rattle.certificate.specs.declared.stops.TheConstants.{LINE_FEED};
 
+use crate::stops::LINE_FEED;
 use claims::CertificateFault;
-use text_fields::Pieces;
+use text_fields::Cuts;
 
 /// The most lines of a certificate, its head and its end line with them.
 const MAX_LINES: u32 = 65_536;
@@ -19,26 +22,26 @@ const HEAD: &[u8] = b"pd-certificate 1";
 /// The lines of a text from the front, each counted from 1.
 #[derive(Drop)]
 pub struct TextLines<'a> {
-    /// The pieces between line feeds that are left: the last stands behind the last line feed.
-    left: Pieces<'a>,
-    /// How many lines were read.
+    /// The cuts between line feeds that are left: the last stands behind the last line feed.
+    left: Cuts<'a>,
+    /// How many lines were taken.
     count: u32,
     ghost few: { count ≤ 65536 },
 }
 
 impl<'a> TextLines<'a> {
-    /// The lines of `text`, before the first is read.
+    /// The lines of `text`, before the first is taken.
     pub fn new(text: &'a [u8]) -> TextLines<'a>
-        ensures left { result.left ≡ split 10 text.now }
+        ensures left { result.left ≡ split LINE_FEED text.now }
         ensures count { result.count ≡ 0 }
     {
         TextLines {
-            left: Pieces::new(text, b'\n'),
+            left: Cuts::new(text, LINE_FEED),
             count: 0,
         }
     }
 
-    /// How many lines were read: the number of the last.
+    /// How many lines were taken: the number of the last.
     pub fn count(&self) -> u32
         ensures { result ≡ self.now.count }
     {
@@ -47,10 +50,11 @@ impl<'a> TextLines<'a> {
 
     /// Goes past the head: `Head` where the first line is another, or has no line feed.
     pub fn head(&mut self) -> Result<(), CertificateFault>
-        ensures head { MatchResult result (λ _. head_at self.old.left ≡ Ok self.new.left) (λ e. head_at self.old.left ≡ Err e) }
+        ensures head { MatchResult result
+            (λ _. head_at self.old.left ≡ Ok self.new.left) (λ e. head_at self.old.left ≡ Err e) }
         ensures count { OnOk result (self.new.count ≡ 1) }
     {
-        let line = self.left.next_piece().ok_or(CertificateFault::Head)?;
+        let line = self.left.next_cut().ok_or(CertificateFault::Head)?;
         if line != HEAD || self.left.is_done() {
             return Err(CertificateFault::Head);
         }
@@ -61,10 +65,10 @@ impl<'a> TextLines<'a> {
     /// The next line without its line feed: `End` where the text stops, `Form` where the line has no line feed,
     /// is too long or is one too many.
     pub fn next_line(&mut self) -> Result<&'a [u8], CertificateFault>
-        ensures line { Reads (λ line. line.now) result self.new.left (line_at (suc self.old.count) self.old.left) }
+        ensures line { MovesOr (λ line. line.now) result self.new.left (line_at (suc self.old.count) self.old.left) }
         ensures count { OnOk result (self.new.count ≡ suc self.old.count) }
     {
-        let line = self.left.next_piece().ok_or(CertificateFault::End)?;
+        let line = self.left.next_cut().ok_or(CertificateFault::End)?;
         let number = self.count + 1;
         let form = CertificateFault::Form { line: number };
         if self.left.is_done() {
@@ -81,11 +85,11 @@ impl<'a> TextLines<'a> {
         Ok(line)
     }
 
-    /// Whether nothing stands behind the last line that was read.
+    /// Whether nothing stands behind the last line that was taken.
     pub fn is_at_end(mut self) -> bool
         ensures { IsTrue result ↔ (self.entry.left ≡ [] ∷ []) }
     {
-        match self.left.next_piece() {
+        match self.left.next_cut() {
             Some([]) => self.left.is_done(),
             _ => false,
         }

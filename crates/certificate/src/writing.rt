@@ -1,19 +1,23 @@
-//! Writing a certificate's text.
+//! A certificate's text, as it is written: `push_` calls append a field, `add_` calls words behind the first, or lines.
 
 ghost use Rattle.std.specs.Prelude.{◌≡◌, ◌++◌, ◌∷◌, [], map, OnOk, IfOk, IfErr, codes};
-ghost use Rattle.std.specs.Fmt.{decimal};
-ghost use Rattle.text_fields.specs.Pieces.{behind, ended};
-ghost use Rattle.certificate.specs.Spelling.{ref_text, chain_text, order_words, why_words, clear_words, latest_words, reason_words, holder_words, prefix_words, interval_words, piece_words, foreign_words, line_text, opening_lines, piece_lines, certificate_text};
+ghost use Rattle.text_fields.specs.Cuts.{behind, ended};
+ghost use Rattle.certificate.specs.Spelling.{ref_text, chain_text, order_words, why_words, clear_words, latest_words};
+ghost use Rattle.certificate.specs.Spelling.{reason_words, holder_words, prefix_words, interval_words, piece_words};
+ghost use Rattle.certificate.specs.Spelling.{foreign_words, line_text, opening_lines, piece_lines, certificate_text};
+ghost use Rattle.line_words.specs.declared.words.TheConstants.{SPACE};
+ghost use Rattle.certificate.specs.declared.stops.TheConstants.{LINE_FEED, LINK};
 
 use crate::error::CertificateError;
+use crate::stops::{LINE_FEED, LINK};
 use binding_rules::Role;
-use causal_order::{Chain, Precedes, Ref};
-use claims::{Certificate, Clear, Foreign, Piece, Reason, Why};
+use claims::{Certificate, Chain, Clear, Foreign, Piece, Precedes, Reason, Ref, Why};
 use client_id::Duid;
 use lead_time::Reading;
-use prefix_range::{Prefix, push_prefix};
+use line_words::{SPACE, add_duid, add_number, add_prefix, add_word};
+use prefix_range::Prefix;
 use std::alloc::{AllocError, Global};
-use text_fields::{push_number, push_octets};
+use text_fields::push_number;
 
 /// Appends a reference.
 fn push_ref(out: &mut Vec<u8>, reference: Ref) -> Result<(), AllocError>
@@ -29,10 +33,10 @@ fn push_ref(out: &mut Vec<u8>, reference: Ref) -> Result<(), AllocError>
 
 /// Appends references, each behind a `>`.
 fn push_links(out: &mut Vec<u8>, links: &[Ref]) -> Result<(), AllocError>
-    ensures { OnOk result (out.new.items ≡ out.old.items ++ behind 62 (map ref_text links.now)) }
+    ensures { OnOk result (out.new.items ≡ out.old.items ++ behind LINK (map ref_text links.now)) }
 {
     for link in links {
-        out.push(b'>')?;
+        out.push(LINK)?;
         push_ref(out, *link)?;
     }
     Ok(())
@@ -53,36 +57,22 @@ fn push_chain(out: &mut Vec<u8>, chain: &Chain) -> Result<(), AllocError>
 
 // Words behind the first, each behind a space.
 
-fn add_word(out: &mut Vec<u8>, word: &[u8]) -> Result<(), AllocError>
-    ensures { OnOk result (out.new.items ≡ out.old.items ++ 32 ∷ word.now) }
-{
-    out.push(b' ')?;
-    out.extend_from_slice(word)
-}
-
-fn add_number(out: &mut Vec<u8>, number: u64) -> Result<(), AllocError>
-    ensures { OnOk result (out.new.items ≡ out.old.items ++ 32 ∷ decimal number) }
-{
-    out.push(b' ')?;
-    push_number(out, number)
-}
-
 fn add_ref(out: &mut Vec<u8>, reference: Ref) -> Result<(), AllocError>
-    ensures { OnOk result (out.new.items ≡ out.old.items ++ 32 ∷ ref_text reference) }
+    ensures { OnOk result (out.new.items ≡ out.old.items ++ SPACE ∷ ref_text reference) }
 {
-    out.push(b' ')?;
+    out.push(SPACE)?;
     push_ref(out, reference)
 }
 
 fn add_chain(out: &mut Vec<u8>, chain: &Chain) -> Result<(), AllocError>
-    ensures { OnOk result (out.new.items ≡ out.old.items ++ 32 ∷ chain_text chain.now) }
+    ensures { OnOk result (out.new.items ≡ out.old.items ++ SPACE ∷ chain_text chain.now) }
 {
-    out.push(b' ')?;
+    out.push(SPACE)?;
     push_chain(out, chain)
 }
 
 fn add_order(out: &mut Vec<u8>, order: &Precedes) -> Result<(), AllocError>
-    ensures { OnOk result (out.new.items ≡ out.old.items ++ behind 32 (order_words order.now)) }
+    ensures { OnOk result (out.new.items ≡ out.old.items ++ behind SPACE (order_words order.now)) }
 {
     match order {
         Precedes::Chain(chain) => {
@@ -98,7 +88,7 @@ fn add_order(out: &mut Vec<u8>, order: &Precedes) -> Result<(), AllocError>
 }
 
 fn add_why(out: &mut Vec<u8>, why: &Why) -> Result<(), AllocError>
-    ensures { OnOk result (out.new.items ≡ out.old.items ++ behind 32 (why_words why.now)) }
+    ensures { OnOk result (out.new.items ≡ out.old.items ++ behind SPACE (why_words why.now)) }
 {
     match why {
         Why::Before(order) => {
@@ -114,7 +104,7 @@ fn add_why(out: &mut Vec<u8>, why: &Why) -> Result<(), AllocError>
 
 /// The words at the end of a released grant's line.
 fn add_latest(out: &mut Vec<u8>, latest: &Chain) -> Result<(), AllocError>
-    ensures { OnOk result (out.new.items ≡ out.old.items ++ behind 32 (latest_words latest.now)) }
+    ensures { OnOk result (out.new.items ≡ out.old.items ++ behind SPACE (latest_words latest.now)) }
 {
     add_word(out, b"latest")?;
     add_chain(out, latest)
@@ -122,7 +112,8 @@ fn add_latest(out: &mut Vec<u8>, latest: &Chain) -> Result<(), AllocError>
 
 /// The words of a release before the chain from it.
 fn add_release(out: &mut Vec<u8>, release: Ref, order: &Precedes) -> Result<(), AllocError>
-    ensures { OnOk result (out.new.items ≡ out.old.items ++ behind 32 (codes "released" ∷ ref_text release ∷ order_words order.now)) }
+    ensures { OnOk result (out.new.items
+        ≡ out.old.items ++ behind SPACE (codes "released" ∷ ref_text release ∷ order_words order.now)) }
 {
     add_word(out, b"released")?;
     add_ref(out, release)?;
@@ -135,14 +126,15 @@ fn add_released(
     order: &Precedes,
     latest: &Chain,
 ) -> Result<(), AllocError>
-    ensures { OnOk result (out.new.items ≡ out.old.items ++ behind 32 (reason_words (Reason.Released release order.now latest.now))) }
+    ensures { OnOk result (out.new.items
+        ≡ out.old.items ++ behind SPACE (reason_words (Reason.Released release order.now latest.now))) }
 {
     add_release(out, release, order)?;
     add_latest(out, latest)
 }
 
 fn add_reason(out: &mut Vec<u8>, reason: &Reason) -> Result<(), AllocError>
-    ensures { OnOk result (out.new.items ≡ out.old.items ++ behind 32 (reason_words reason.now)) }
+    ensures { OnOk result (out.new.items ≡ out.old.items ++ behind SPACE (reason_words reason.now)) }
 {
     match reason {
         Reason::Early(chain) => {
@@ -165,18 +157,19 @@ fn add_reason(out: &mut Vec<u8>, reason: &Reason) -> Result<(), AllocError>
 
 #[tactic(auto, using(crate::proofs::Texts::clear_spelled))]
 fn add_clear(out: &mut Vec<u8>, clear: &Clear) -> Result<(), AllocError>
-    ensures { OnOk result (out.new.items ≡ out.old.items ++ (line_text (clear_words clear.now) ++ 10 ∷ [])) }
+    ensures { OnOk result (out.new.items ≡ out.old.items ++ (line_text (clear_words clear.now) ++ LINE_FEED ∷ [])) }
 {
     out.extend_from_slice(b"clear")?;
     add_ref(out, clear.release)?;
     add_why(out, &clear.why)?;
-    out.push(b'\n')?;
+    out.push(LINE_FEED)?;
     Ok(())
 }
 
 /// The words at the end of a piece's line.
 fn add_chains(out: &mut Vec<u8>, latest: &Chain, earliest: &Chain) -> Result<(), AllocError>
-    ensures { OnOk result (out.new.items ≡ out.old.items ++ behind 32 (codes "latest" ∷ chain_text latest.now ∷ codes "earliest" ∷ chain_text earliest.now ∷ [])) }
+    ensures { OnOk result (out.new.items ≡ out.old.items
+        ++ behind SPACE (latest_words latest.now ++ codes "earliest" ∷ chain_text earliest.now ∷ [])) }
 {
     add_latest(out, latest)?;
     add_word(out, b"earliest")?;
@@ -184,20 +177,20 @@ fn add_chains(out: &mut Vec<u8>, latest: &Chain, earliest: &Chain) -> Result<(),
 }
 
 fn add_piece_line(out: &mut Vec<u8>, piece: &Piece) -> Result<(), AllocError>
-    ensures { OnOk result (out.new.items ≡ out.old.items ++ (line_text (piece_words piece.now) ++ 10 ∷ [])) }
+    ensures { OnOk result (out.new.items ≡ out.old.items ++ (line_text (piece_words piece.now) ++ LINE_FEED ∷ [])) }
 {
     out.extend_from_slice(b"piece")?;
     add_ref(out, piece.grant)?;
     add_number(out, piece.from.milliseconds())?;
     add_number(out, piece.to.milliseconds())?;
     add_chains(out, &piece.latest, &piece.earliest)?;
-    out.push(b'\n')?;
+    out.push(LINE_FEED)?;
     Ok(())
 }
 
 /// A piece's line and the releases' behind it.
 fn add_piece(out: &mut Vec<u8>, piece: &Piece) -> Result<(), AllocError>
-    ensures { OnOk result (out.new.items ≡ out.old.items ++ ended 10 (piece_lines piece.now)) }
+    ensures { OnOk result (out.new.items ≡ out.old.items ++ ended LINE_FEED (piece_lines piece.now)) }
 {
     add_piece_line(out, piece)?;
     for clear in piece.clear.as_slice() {
@@ -208,50 +201,50 @@ fn add_piece(out: &mut Vec<u8>, piece: &Piece) -> Result<(), AllocError>
 
 #[tactic(auto, using(crate::proofs::Texts::foreign_spelled))]
 fn add_foreign(out: &mut Vec<u8>, foreign: &Foreign) -> Result<(), AllocError>
-    ensures { OnOk result (out.new.items ≡ out.old.items ++ (line_text (foreign_words foreign.now) ++ 10 ∷ [])) }
+    ensures { OnOk result (out.new.items ≡ out.old.items ++ (line_text (foreign_words foreign.now) ++ LINE_FEED ∷ [])) }
 {
     out.extend_from_slice(b"foreign")?;
     add_ref(out, foreign.grant)?;
     add_reason(out, &foreign.reason)?;
-    out.push(b'\n')?;
+    out.push(LINE_FEED)?;
     Ok(())
 }
 
 fn add_holder(out: &mut Vec<u8>, holder: &Duid) -> Result<(), AllocError>
-    ensures { OnOk result (out.new.items ≡ out.old.items ++ (line_text (holder_words holder.now) ++ 10 ∷ [])) }
+    ensures { OnOk result (out.new.items ≡ out.old.items ++ (line_text (holder_words holder.now) ++ LINE_FEED ∷ [])) }
 {
-    out.extend_from_slice(b"holder ")?;
-    push_octets(out, holder.as_bytes())?;
-    out.push(b'\n')?;
+    out.extend_from_slice(b"holder")?;
+    add_duid(out, holder)?;
+    out.push(LINE_FEED)?;
     Ok(())
 }
 
-fn add_prefix(out: &mut Vec<u8>, prefix: &Prefix) -> Result<(), AllocError>
-    ensures { OnOk result (out.new.items ≡ out.old.items ++ (line_text (prefix_words prefix.now) ++ 10 ∷ [])) }
+fn add_prefix_line(out: &mut Vec<u8>, prefix: &Prefix) -> Result<(), AllocError>
+    ensures { OnOk result (out.new.items ≡ out.old.items ++ (line_text (prefix_words prefix.now) ++ LINE_FEED ∷ [])) }
 {
-    out.extend_from_slice(b"prefix ")?;
-    push_prefix(out, prefix)?;
-    out.push(b'\n')?;
+    out.extend_from_slice(b"prefix")?;
+    add_prefix(out, prefix)?;
+    out.push(LINE_FEED)?;
     Ok(())
 }
 
 fn add_interval(out: &mut Vec<u8>, from: Reading, to: Reading) -> Result<(), AllocError>
-    ensures { OnOk result (out.new.items ≡ out.old.items ++ (line_text (interval_words from to) ++ 10 ∷ [])) }
+    ensures { OnOk result (out.new.items ≡ out.old.items ++ (line_text (interval_words from to) ++ LINE_FEED ∷ [])) }
 {
     out.extend_from_slice(b"interval")?;
     add_number(out, from.milliseconds())?;
     add_number(out, to.milliseconds())?;
-    out.push(b'\n')?;
+    out.push(LINE_FEED)?;
     Ok(())
 }
 
 /// The lines before the first piece.
 fn add_opening(out: &mut Vec<u8>, certificate: &Certificate) -> Result<(), AllocError>
-    ensures { OnOk result (out.new.items ≡ out.old.items ++ ended 10 (opening_lines certificate.now)) }
+    ensures { OnOk result (out.new.items ≡ out.old.items ++ ended LINE_FEED (opening_lines certificate.now)) }
 {
     out.extend_from_slice(b"pd-certificate 1\n")?;
     add_holder(out, &certificate.holder)?;
-    add_prefix(out, &certificate.prefix)?;
+    add_prefix_line(out, &certificate.prefix)?;
     add_interval(out, certificate.from, certificate.to)
 }
 

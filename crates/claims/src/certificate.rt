@@ -1,7 +1,8 @@
 //! What a certificate says.
 
-use crate::lists::{ClearList, ForeignList, PieceList};
-use causal_order::{Chain, Precedes, Ref};
+use crate::entries::{Chain, ClearList, ForeignList, PieceList};
+use crate::order::Precedes;
+use crate::reference::Ref;
 use client_id::Duid;
 use lead_time::Reading;
 use prefix_range::Prefix;

@@ -1,10 +1,24 @@
 //! Certificates as values: who is said to have held which prefix when, and the evidence for it.
+//!
+//! A [`Certificate`] names a client, a prefix and an interval, the [`Piece`]s that carry the interval, and each
+//! [`Foreign`] grant with the [`Reason`] why it doesn't touch it. Evidence are references to journal lines ([`Ref`]),
+//! chains of them ([`Chain`]) and why one line stands before another ([`Precedes`]). Nothing here is believed: an
+//! auditor judges it.
+//!
+//! ```text
+//! let third = Ref { side: Role::Primary, number: 3 };
+//! let early = Reason::Early(Chain::new(vec![in alloc; third]?));
+//! ```
 #![tactic(auto)]
 
 mod certificate;
+mod entries;
 mod fault;
-mod lists;
+mod order;
+mod reference;
 
 pub use certificate::{Certificate, Clear, Foreign, Piece, Reason, Why};
+pub use entries::{Chain, ClearList, ForeignList, PieceList};
 pub use fault::CertificateFault;
-pub use lists::{ClearList, ForeignList, PieceList};
+pub use order::Precedes;
+pub use reference::Ref;

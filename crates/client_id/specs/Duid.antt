@@ -1,5 +1,7 @@
--- DUIDs (RFC 8415, section 11.1: a type of two octets and 1 to 128 octets more) and IAIDs (section 12), in octets and in text.
-use Rattle.std.specs.Prelude.{◌≡◌, ℕ, ◌≤◌, ◌==◌, List, length, Option, Some, None, option_map, Result, Ok, Err, nat_lt, if◌then◌else◌}
+-- DUIDs (RFC 8415, section 11.1: a type of two octets and 1 to 128 octets more) and IAIDs (section 12), in octets and
+-- in text.
+use Rattle.std.specs.Prelude.{◌≡◌, ℕ, ◌≤◌, ◌==◌, List, length, Option, Some, None, option_map, Result, Ok, Err, nat_lt}
+use Rattle.std.specs.Prelude.{if◌then◌else◌}
 use Rattle.std.specs.Int.{w32, to_be_bytes, from_be_bytes}
 use Rattle.text_fields.specs.Octets.{AreOctets, hex, octets_of}
 use Rattle.client_id.specs.declared.error.ClientIdError.{ClientIdError}
@@ -20,7 +22,8 @@ iaid_text iaid = hex (to_be_bytes w32 iaid)
 
 -- what octets are as a DUID
 abbrev pub duid_in : List ℕ → Result (List ℕ) ClientIdError
-duid_in octets = if nat_lt (length octets) 3 then Err TooShort else if nat_lt 130 (length octets) then Err TooLong else Ok octets
+duid_in octets =
+    if nat_lt (length octets) 3 then Err TooShort else if nat_lt 130 (length octets) then Err TooLong else Ok octets
 
 -- what a text is as a DUID: first a fault of its digits, then one of its length
 abbrev pub duid_by : Option (List ℕ) → Result (List ℕ) ClientIdError

@@ -1,4 +1,4 @@
--- A client identifier as the list of its octets, and how it is kept in an array.
+-- For bodies only: A client identifier as the list of its octets, and how it is kept in an array.
 use Rattle.std.specs.Prelude.{◌≡◌, ℕ, ◌-◌, ◌≤◌, List, ◌++◌, length, take, drop, replicate}
 use Rattle.text_fields.specs.Octets.{AreOctets}
 

@@ -1,4 +1,4 @@
--- The octets of an array that zeros fill give the array back.
+-- For bodies only: The octets of an array that zeros fill give the array back.
 use Rattle.std.specs.Prelude.{◌≡◌, ℕ, ◌-◌, List, ◌++◌, length, take, replicate}
 use Rattle.std.proofs.Common.{sym, ◌∙◌, ap, arith}
 use Rattle.std.proofs.lemmas.List.{take-append-drop, length-take}

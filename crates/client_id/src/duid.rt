@@ -1,18 +1,23 @@
 //! DHCP unique identifiers.
 
 ghost use Rattle.std.specs.Prelude.{◌≡◌, ◌≤◌, ◌↔◌, ℕ, List, length, Ok, IfOk, IfErr, IsErrOf, string_bytes};
+ghost use Rattle.std.specs.Str.{bytes_eq};
+ghost use Rattle.std.specs.Hash as fed;
+ghost use Rattle.std.specs.Cmp.Rules.{comparing, hashing};
+ghost use Rattle.std.proofs.Common.{rules};
 ghost use Rattle.text_fields.specs.Octets.{hex};
 ghost use Rattle.client_id.specs.Octets.{padded};
 ghost use Rattle.client_id.specs.Duid.{IsDuid, IsHex, duid_in, duid_of};
 
 use crate::error::ClientIdError;
 use std::alloc::Global;
+use std::hash::{Hash, Hasher};
 use std::marker::Model;
 use text_fields::{is_hex, octets_of};
 
 /// A DHCP unique identifier (RFC 8415, section 11): 3 to 130 octets, the two of its type included.
-/// Contracts see the list of its octets.
-#[derive(Clone, Copy, Debug, PartialEq, Eq, Hash)]
+/// Contracts see the list of its octets; `==` is their equality.
+#[derive(Clone, Copy, Debug)]
 pub struct Duid {
     bytes: [u8; 130],
     len: u8,
@@ -32,7 +37,34 @@ impl Model for Duid {
 
     ghost use Rattle.client_id.specs.PaddedLaws.{padded-take, length-take_len};
 
-    ghost inverse_ok = { λ d h i. record { bytes = padded-take d.bytes d.len h i; len = length-take_len d.bytes d.len h i } };
+    ghost inverse_ok = { λ d h i. record {
+      bytes = padded-take d.bytes d.len h i;
+      len = length-take_len d.bytes d.len h i;
+    } };
+}
+
+impl PartialEq for Duid {
+    ghost eq = { λ one other. bytes_eq one other };
+
+    ghost laws = { Prim.search (comparing, rules) };
+
+    fn eq(&self, other: &Duid) -> bool {
+        self.as_bytes() == other.as_bytes()
+    }
+}
+
+impl Eq for Duid {
+    ghost laws = { Prim.search (comparing, rules) };
+}
+
+impl Hash for Duid {
+    ghost hash_input = { λ d. fed.slice fed.u8 d };
+
+    ghost respects_eq = { Prim.search (hashing, rules) };
+
+    fn hash<H: Hasher>(&self, state: &mut H) {
+        self.as_bytes().hash(state);
+    }
 }
 
 #[tactic(auto, using(crate::proofs::Filling::filled_zeros))]
@@ -108,7 +140,9 @@ impl Duid {
         ensures text { IfOk result (λ text. string_bytes text ≡ hex self.now) }
         ensures memory { IfErr result (λ e. e ≡ ClientIdError.Memory) }
     {
-        let text = hex::encode(alloc, self.as_bytes())?;
-        Ok(text)
+        match hex::encode(alloc, self.as_bytes()) {
+            Ok(text) => Ok(text),
+            Err(_) => Err(ClientIdError::Memory),
+        }
     }
 }

@@ -1,9 +1,5 @@
 //! Why octets or digits are no identifier.
 
-ghost use Rattle.std.specs.Prelude.{◌≡◌};
-ghost use Rattle.client_id.specs.declared.error.ClientIdError.TheVariants.{Memory};
-
-use std::alloc::AllocError;
 use thiserror::Error;
 
 #[derive(Clone, Copy, Debug, PartialEq, Eq, Error)]
@@ -20,12 +16,4 @@ pub enum ClientIdError {
     /// A growth was refused.
     #[error("out of memory")]
     Memory,
-}
-
-impl From<AllocError> for ClientIdError {
-    ghost from_gives = { λ _ e. e ≡ Memory };
-
-    fn from(_e: AllocError) -> ClientIdError {
-        ClientIdError::Memory
-    }
 }

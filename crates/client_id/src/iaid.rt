@@ -1,7 +1,7 @@
 //! Identity association identifiers.
 
 ghost use Rattle.std.specs.Prelude.{◌≡◌, ◌^◌, ◌<◌, ℕ, Ok, IfOk, IfErr};
-ghost use Rattle.text_fields.specs.Reading.{Finds, Answers};
+ghost use Rattle.text_fields.specs.Parsing.{Finds, Answers};
 ghost use Rattle.client_id.specs.Duid.{iaid_text, iaid_word};
 
 use crate::error::ClientIdError;

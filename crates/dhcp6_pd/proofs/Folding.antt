@@ -1,11 +1,14 @@
 -- A loop over the options of a row.
 use Rattle.std.proofs.Common.{◌≡◌, ℕ, zero, suc, ◌<◌, Option, Some, None, Result, Ok, Err, sym, ap, subst, ◌∙◌, arith}
+use Rattle.text_fields.specs.Parsing.{◌>>!◌, FindsOr}
 use Rattle.dhcp6_pd.specs.declared.error.PdFault.{PdFault}
 use Rattle.dhcp6_pd.specs.declared.error.PdError.{PdError}
 use Rattle.dhcp6_pd.specs.declared.error.PdError.TheVariants.{Fault, TooLong, Memory}
-use Rattle.dhcp6_pd.specs.Options.{DhcpOption, Row, Done, Broken, Next}
 use Rattle.dhcp6_pd.specs.declared.options.RawOption.{RawOption}
-use Rattle.dhcp6_pd.specs.Reading.{◌>>=◌, folded, plain, Steps, Finds, Gives}
+use Rattle.dhcp6_pd.specs.Options.{DhcpOption}
+use Rattle.dhcp6_pd.specs.Rows.{Row, Done, Broken, Next, folded}
+use Rattle.dhcp6_pd.specs.Parsing.{plain, Steps}
+use Rattle.dhcp6_pd.specs.Answers.{Gives}
 
 -- what is known so far and the options that are left make all
 pub record IsFolded {S : Type 0} (step : S → DhcpOption → Result S PdFault) (s : S) (row : Row) (total : Result S PdFault) : Type 0 where
@@ -15,12 +18,12 @@ pub goes_on : {S : Type 0} (step : S → DhcpOption → Result S PdFault) (s mor
     → row ≡ Next o left → step s o ≡ Ok more → IsFolded step more left total
 unfolding folded
 goes_on step s more row left o total h e found =
-    record { so_far = sym (ap (folded step s) e ∙ ap (λ (r : _). r >>= λ m. folded step m left) found) ∙ h.so_far }
+    record { so_far = sym (ap (folded step s) e ∙ ap (λ (r : _). r >>! λ m. folded step m left) found) ∙ h.so_far }
 
 pub fails : {S : Type 0} (step : S → DhcpOption → Result S PdFault) (s : S) (row left : Row) (o : DhcpOption) (total : Result S PdFault) (fault : PdFault) → IsFolded step s row total
     → row ≡ Next o left → step s o ≡ Err fault → total ≡ Err fault
 unfolding folded
-fails step s row left o total fault h e found = sym h.so_far ∙ (ap (folded step s) e ∙ ap (λ (r : _). r >>= λ m. folded step m left) found)
+fails step s row left o total fault h e found = sym h.so_far ∙ (ap (folded step s) e ∙ ap (λ (r : _). r >>! λ m. folded step m left) found)
 
 pub breaks : {S : Type 0} (step : S → DhcpOption → Result S PdFault) (s : S) (row : Row) (total : Result S PdFault) (fault : PdFault) → IsFolded step s row total → row ≡ Broken fault → total ≡ Err fault
 unfolding folded
@@ -51,15 +54,15 @@ pub ended : (r : Result (Option RawOption) PdFault) (left row : Row) → Steps r
 ended r left row h e = subst (λ (x : Result (Option RawOption) PdFault). Steps x left row) e h
 
 -- what a step found
-pub kept : {S : Type 0} (new : S) (r : Result (Unit {0}) PdFault) (x : Unit {0}) (read : Result S PdFault) → Finds (λ _. new) r read → r ≡ Ok x → read ≡ Ok new
-kept {S = S} new r x read h e = subst (λ (y : Result (Unit {0}) PdFault). Finds {X = Unit {0}} {Y = S} (λ _. new) y read) e h
+pub kept : {S : Type 0} (new : S) (r : Result (Unit {0}) PdFault) (x : Unit {0}) (parsed : Result S PdFault) → FindsOr (λ _. new) r parsed → r ≡ Ok x → parsed ≡ Ok new
+kept {S = S} new r x parsed h e = subst (λ (y : Result (Unit {0}) PdFault). FindsOr {X = Unit {0}} {Y = S} (λ _. new) y parsed) e h
 
-pub refused : {S : Type 0} (new : S) (r : Result (Unit {0}) PdFault) (fault : PdFault) (read : Result S PdFault) → Finds (λ _. new) r read → r ≡ Err fault → read ≡ Err fault
-refused {S = S} new r fault read h e = subst (λ (y : Result (Unit {0}) PdFault). Finds {X = Unit {0}} {Y = S} (λ _. new) y read) e h
+pub refused : {S : Type 0} (new : S) (r : Result (Unit {0}) PdFault) (fault : PdFault) (parsed : Result S PdFault) → FindsOr (λ _. new) r parsed → r ≡ Err fault → parsed ≡ Err fault
+refused {S = S} new r fault parsed h e = subst (λ (y : Result (Unit {0}) PdFault). FindsOr {X = Unit {0}} {Y = S} (λ _. new) y parsed) e h
 
 -- the same where a growth may be refused
-pub given : {S : Type 0} (new : S) (r : Result (Unit {0}) PdError) (x : Unit {0}) (read : Result S PdFault) → Gives (λ _. new) r read → r ≡ Ok x → read ≡ Ok new
-given {S = S} new r x read h e = subst (λ (y : Result (Unit {0}) PdError). Gives {X = Unit {0}} {Y = S} (λ _. new) y read) e h
+pub given : {S : Type 0} (new : S) (r : Result (Unit {0}) PdError) (x : Unit {0}) (parsed : Result S PdFault) → Gives (λ _. new) r parsed → r ≡ Ok x → parsed ≡ Ok new
+given {S = S} new r x parsed h e = subst (λ (y : Result (Unit {0}) PdError). Gives {X = Unit {0}} {Y = S} (λ _. new) y parsed) e h
 
 -- an error of a step is the error of all
 pub fails_with : {S X : Type 0} (view : X → S) (step : S → DhcpOption → Result S PdFault) (s new : S) (row left : Row) (o : DhcpOption) (total : Result S PdFault) (e : PdError) → IsFolded step s row total

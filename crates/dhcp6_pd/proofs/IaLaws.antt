@@ -4,9 +4,11 @@ use Rattle.std.specs.Prelude.{◌==◌, slice_index, if◌then◌else◌}
 use Rattle.std.proofs.lemmas.Bool.{ltb-false}
 use Rattle.text_fields.specs.Octets.{AreOctets}
 use Rattle.prefix_range.specs.Prefix.{Prefix}
+use Rattle.text_fields.specs.Parsing.{◌>>!◌}
+use Rattle.dhcp6_pd.specs.declared.numbers.TheConstants.{IA_PREFIX}
 use Rattle.dhcp6_pd.specs.declared.message.IaPd.{IaPd}
-use Rattle.dhcp6_pd.specs.Options.{DhcpOption, row_of, data_of}
-use Rattle.dhcp6_pd.specs.Reading.{◌>>=◌, folded}
+use Rattle.dhcp6_pd.specs.Options.{DhcpOption, data_of}
+use Rattle.dhcp6_pd.specs.Rows.{row_of, folded}
 use Rattle.dhcp6_pd.specs.Grammar.{cleared, address_of, SpellsPrefix, SpellsHint, SpellsIa}
 use Rattle.dhcp6_pd.specs.Faults.{prefix_in, with_hint, ia_in}
 use Rattle.dhcp6_pd.proofs.Binds.{bind_ok, passed, ok_is}
@@ -43,32 +45,32 @@ hint_kept [] p = refl
 hint_kept (o ∷ options) p = hint_kept options p
 
 -- what the first option makes of no hint
-hint_step : (o : DhcpOption) (options : List DhcpOption) → folded with_hint None (whole (o ∷ options)) ≡ (if o.code == 26 then (prefix_in o.octets >>= λ p. Ok (Some p)) else Ok None) >>= λ hint. folded with_hint hint (whole options)
+hint_step : (o : DhcpOption) (options : List DhcpOption) → folded with_hint None (whole (o ∷ options)) ≡ (if o.code == 26 then (prefix_in o.octets >>! λ p. Ok (Some p)) else Ok None) >>! λ hint. folded with_hint hint (whole options)
 unfolding folded with_hint
 hint_step o options = refl
 
-pub hint_takes : (options : List DhcpOption) (hint : Option Prefix) → folded with_hint None (whole options) ≡ Ok hint → SpellsHint (data_of 26 options) hint
+pub hint_takes : (options : List DhcpOption) (hint : Option Prefix) → folded with_hint None (whole options) ≡ Ok hint → SpellsHint (data_of IA_PREFIX options) hint
 unfolding folded
 hint_takes [] hint e = sym (ok_is _ _ e)
-hint_takes (o ∷ options) hint e = by (o.code == 26) (sym (hint_step o options) ∙ e) (hint_takes options hint)
+hint_takes (o ∷ options) hint e = by (o.code == IA_PREFIX) (sym (hint_step o options) ∙ e) (hint_takes options hint)
   where
-    by : (t : Bool) → ((if t then (prefix_in o.octets >>= λ p. Ok (Some p)) else Ok None) >>= λ hint. folded with_hint hint (whole options)) ≡ Ok hint
-        → (folded with_hint None (whole options) ≡ Ok hint → SpellsHint (data_of 26 options) hint) → SpellsHint (if t then o.octets ∷ data_of 26 options else data_of 26 options) hint
+    by : (t : Bool) → ((if t then (prefix_in o.octets >>! λ p. Ok (Some p)) else Ok None) >>! λ hint. folded with_hint hint (whole options)) ≡ Ok hint
+        → (folded with_hint None (whole options) ≡ Ok hint → SpellsHint (data_of IA_PREFIX options) hint) → SpellsHint (if t then o.octets ∷ data_of IA_PREFIX options else data_of IA_PREFIX options) hint
     by true e later =
-        let b = bind_ok (prefix_in o.octets >>= λ p. Ok (Some p)) _ hint e in
+        let b = bind_ok (prefix_in o.octets >>! λ p. Ok (Some p)) _ hint e in
         let c = bind_ok (prefix_in o.octets) _ b.0 b.1 in
         let some : b.0 ≡ Some c.0 = sym (ok_is _ _ c.2) in
         let rest : folded with_hint (Some c.0) (whole options) ≡ Ok hint = ap (λ (h : Option Prefix). folded with_hint h (whole options)) (sym some) ∙ b.2 in
         (c.0, prefix_takes o.octets c.0 c.1, ok_is _ _ (sym rest ∙ hint_kept options c.0))
     by false e later = later e
 
-pub hint_again : (options : List DhcpOption) (hint : Option Prefix) → SpellsHint (data_of 26 options) hint → folded with_hint None (whole options) ≡ Ok hint
+pub hint_again : (options : List DhcpOption) (hint : Option Prefix) → SpellsHint (data_of IA_PREFIX options) hint → folded with_hint None (whole options) ≡ Ok hint
 unfolding folded
 hint_again [] hint h = ap (λ (x : Option Prefix). Ok x) (sym h)
-hint_again (o ∷ options) hint h = hint_step o options ∙ by (o.code == 26) h (hint_again options hint)
+hint_again (o ∷ options) hint h = hint_step o options ∙ by (o.code == IA_PREFIX) h (hint_again options hint)
   where
-    by : (t : Bool) → SpellsHint (if t then o.octets ∷ data_of 26 options else data_of 26 options) hint → (SpellsHint (data_of 26 options) hint → folded with_hint None (whole options) ≡ Ok hint)
-        → ((if t then (prefix_in o.octets >>= λ p. Ok (Some p)) else Ok None) >>= λ hint. folded with_hint hint (whole options)) ≡ Ok hint
+    by : (t : Bool) → SpellsHint (if t then o.octets ∷ data_of IA_PREFIX options else data_of IA_PREFIX options) hint → (SpellsHint (data_of IA_PREFIX options) hint → folded with_hint None (whole options) ≡ Ok hint)
+        → ((if t then (prefix_in o.octets >>! λ p. Ok (Some p)) else Ok None) >>! λ hint. folded with_hint hint (whole options)) ≡ Ok hint
     by true h later = rw (prefix_again o.octets h.0 h.1) (hint_kept options h.0 ∙ ap (λ (x : Option Prefix). Ok x) (sym h.2))
     by false h later = later h
 

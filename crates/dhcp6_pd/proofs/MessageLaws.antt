@@ -4,43 +4,33 @@ use Rattle.std.specs.Prelude.{◌==◌, slice_index, if◌then◌else◌}
 use Rattle.std.proofs.lemmas.Bool.{ltb-false, eqb-true, eq-eqb}
 use Rattle.std.specs.List.{AllByRecursion}
 use Rattle.text_fields.specs.Octets.{AreOctets}
+use Rattle.dhcp6_pd.specs.declared.numbers.TheConstants.{CLIENT_ID, SERVER_ID, RELAY_MESSAGE, INTERFACE_ID, IA_PD, SOLICIT, REQUEST, RENEW, REBIND, RELEASE, RELAY_FORWARD, MAX_IAS}
 use Rattle.dhcp6_pd.specs.declared.error.PdFault.{PdFault}
 use Rattle.dhcp6_pd.specs.declared.error.PdFault.TheVariants.{TooDeep}
 use Rattle.dhcp6_pd.specs.declared.message.ClientKind.{ClientKind}
 use Rattle.dhcp6_pd.specs.declared.message.ClientKind.TheVariants.{Solicit, Request, Renew, Rebind, Release}
+use Rattle.client_id.specs.Duid.{IsDuid}
+use Rattle.dhcp6_pd.specs.declared.message.IaPd.{IaPd}
 use Rattle.dhcp6_pd.specs.declared.message.Relay.{Relay}
-use Rattle.dhcp6_pd.specs.declared.said.Said.{Said}
-use Rattle.dhcp6_pd.specs.declared.level.Level.{Level}
-use Rattle.dhcp6_pd.specs.declared.heard.Heard.{Heard}
-use Rattle.dhcp6_pd.specs.Options.{DhcpOption, IsOption, AreOptions, Row, row_of, data_of}
-use Rattle.dhcp6_pd.specs.Reading.{folded}
-use Rattle.dhcp6_pd.specs.Grammar.{type_of, listed, SpellsRelay}
-use Rattle.dhcp6_pd.specs.Faults.{with_option, nothing_said, kind_of, client_in, level_option, nothing_met, to_message, or_short, relay_of, by_relay, relay_in, or_ignored, by_type, message_in}
+use Rattle.dhcp6_pd.specs.declared.client_options.ClientOptions.{ClientOptions}
+use Rattle.dhcp6_pd.specs.declared.relay_options.RelayOptions.{RelayOptions}
+use Rattle.dhcp6_pd.specs.declared.untested.UntestedMessage.{UntestedMessage}
+use Rattle.dhcp6_pd.specs.Options.{DhcpOption, IsOption, data_of}
+use Rattle.dhcp6_pd.specs.Rows.{Row, row_of, folded}
+use Rattle.dhcp6_pd.specs.Grammar.{type_of, listed, SpellIas, SpellsClient, SpellsRelay, SpellsFrom}
+use Rattle.dhcp6_pd.specs.Faults.{client_option, no_client_options, kind_of, client_message, client_in, relay_option, no_relay_options, to_message, or_short, relay_of, by_relay, relay_in, or_ignored, by_type, message_in}
 use Rattle.dhcp6_pd.proofs.Binds.{bind_ok, passed, ok_is}
 use Rattle.dhcp6_pd.proofs.Wholes.{folded_whole, are_options, row_is, octets_drop}
-use Rattle.dhcp6_pd.proofs.SaidLaws.{Marks, Adds}
-use Rattle.dhcp6_pd.proofs.SaidSteps.{said_takes, said_again}
-use Rattle.dhcp6_pd.proofs.LevelLaws.{Stands, AddsLevel}
+use Rattle.dhcp6_pd.proofs.OnceLaws.{Once, Marks, AddsIas}
+use Rattle.dhcp6_pd.proofs.ClientOptionLaws.{AddsToClient, client_options_takes, client_options_again}
+use Rattle.dhcp6_pd.proofs.RelayOptionLaws.{Stands, AddsToRelay}
 use Rattle.dhcp6_pd.proofs.HeldLaws.{held_takes, held_again}
-
--- a client's message, whatever its identifiers are
-pub record HearsClient (octets : List ℕ) (kind : ClientKind) (xid : List ℕ) (said : Said) : Type 0 where
-  pub whole : 4 ≤ length octets
-  pub type : slice_index octets 0 ≡ type_of kind
-  pub number : xid ≡ take 3 (drop 1 octets)
-  pub options : List DhcpOption
-  pub spelled : AreOptions (drop 4 octets) options
-  pub adds : Adds nothing_said options said
-
-abbrev pub HearsFrom : List ℕ → List Relay → ClientKind → List ℕ → Said → Type 0
-HearsFrom octets [] kind xid said = HearsClient octets kind xid said
-HearsFrom octets (r ∷ relays) kind xid said = (inside : List ℕ) × SpellsRelay octets r inside × HearsFrom inside relays kind xid said
 
 -- ---- the type
 
-kind_takes : (x : ℕ) (kind : ClientKind) → kind_of x ≡ Some kind → x ≡ type_of kind
+pub kind_takes : (x : ℕ) (kind : ClientKind) → kind_of x ≡ Some kind → x ≡ type_of kind
 unfolding kind_of
-kind_takes x kind e = by (x == 1) (x == 3) (x == 5) (x == 6) (x == 8) refl refl refl refl refl e
+kind_takes x kind e = by (x == SOLICIT) (x == REQUEST) (x == RENEW) (x == REBIND) (x == RELEASE) refl refl refl refl refl e
   where
     some_is : (a b : ClientKind) → Some a ≡ Some b → a ≡ b
     some_is a b e = cc
@@ -48,16 +38,16 @@ kind_takes x kind e = by (x == 1) (x == 3) (x == 5) (x == 6) (x == 8) refl refl 
     is : (n : ℕ) (a : ClientKind) → (x == n) ≡ true → n ≡ type_of a → Some a ≡ Some kind → x ≡ type_of kind
     is n a t same e = eqb-true x n t ∙ (same ∙ ap type_of (some_is a kind e))
 
-    by : (a b c d f : Bool) → (x == 1) ≡ a → (x == 3) ≡ b → (x == 5) ≡ c → (x == 6) ≡ d → (x == 8) ≡ f
+    by : (a b c d f : Bool) → (x == SOLICIT) ≡ a → (x == REQUEST) ≡ b → (x == RENEW) ≡ c → (x == REBIND) ≡ d → (x == RELEASE) ≡ f
         → (if a then Some Solicit else if b then Some Request else if c then Some Renew else if d then Some Rebind else if f then Some Release else None) ≡ Some kind → x ≡ type_of kind
-    by true b c d f ta tb tc td tf e = is 1 Solicit ta refl e
-    by false true c d f ta tb tc td tf e = is 3 Request tb refl e
-    by false false true d f ta tb tc td tf e = is 5 Renew tc refl e
-    by false false false true f ta tb tc td tf e = is 6 Rebind td refl e
-    by false false false false true ta tb tc td tf e = is 8 Release tf refl e
+    by true b c d f ta tb tc td tf e = is SOLICIT Solicit ta refl e
+    by false true c d f ta tb tc td tf e = is REQUEST Request tb refl e
+    by false false true d f ta tb tc td tf e = is RENEW Renew tc refl e
+    by false false false true f ta tb tc td tf e = is REBIND Rebind td refl e
+    by false false false false true ta tb tc td tf e = is RELEASE Release tf refl e
     by false false false false false ta tb tc td tf e = absurd cc
 
-kind_again : (kind : ClientKind) → ((type_of kind == 12) ≡ false) × (kind_of (type_of kind) ≡ Some kind)
+pub kind_again : (kind : ClientKind) → ((type_of kind == RELAY_FORWARD) ≡ false) × (kind_of (type_of kind) ≡ Some kind)
 unfolding kind_of
 kind_again Solicit = (refl, refl)
 kind_again Request = (refl, refl)
@@ -65,28 +55,88 @@ kind_again Renew = (refl, refl)
 kind_again Rebind = (refl, refl)
 kind_again Release = (refl, refl)
 
+-- ---- an option that stands once or not at all
+
+pub marks_once : (before after : Bool) (all : List (List ℕ)) → Marks before all after → length all ≤ 1
+marks_once before after [] h = omega arith
+marks_once before after (octets ∷ all) h = let none = h.1 in omega (arith, ap length none)
+
+-- whether an option stands there
+abbrev pub stood : List (List ℕ) → Bool
+stood [] = false
+stood (octets ∷ all) = true
+
+pub marks_of : (all : List (List ℕ)) → length all ≤ 1 → Marks false all (stood all)
+marks_of [] few = refl
+marks_of (octets ∷ []) few = (refl, refl, refl)
+marks_of (octets ∷ more ∷ all) few = absurd (omega arith)
+
 -- ---- a client's message
 
-none_yet : length nothing_said.ias ≤ 16
+none_yet : length no_client_options.ias ≤ MAX_IAS
 none_yet = omega arith
 
-client_takes : (kind : ClientKind) (octets : List ℕ) (h : Heard) → AreOctets octets → slice_index octets 0 ≡ type_of kind → client_in kind octets ≡ Ok h → (h.relays ≡ []) × HearsClient octets h.kind h.xid h.said
-unfolding client_in
-client_takes kind octets h fits type e =
-    let long = passed _ _ _ h e in
-    let b = bind_ok (folded with_option nothing_said (row_of (drop 4 octets))) _ h long.1 in
-    let all = folded_whole with_option nothing_said b.0 (row_of (drop 4 octets)) b.1 in
-    let options = are_options all.0 (drop 4 octets) (octets_drop 4 octets fits) all.1 in
-    let adds = said_takes all.0 nothing_said b.0 none_yet options.each (ap (folded with_option nothing_said) (sym all.1) ∙ b.1) in
-    let heard : Heard = record { relays = []; kind = kind; xid = take 3 (drop 1 octets); said = b.0 } in
-    subst (λ (x : Heard). (x.relays ≡ []) × HearsClient octets x.kind x.xid x.said) (ok_is heard h b.2)
-    (refl, record { whole = ltb-false (length octets) 4 long.0; type = type; number = refl; options = all.0; spelled = options; adds = adds })
+-- an identifier that stands once or not at all
+once_listed : (slot : Option (List ℕ)) (all : List (List ℕ)) → Once None all slot → (all ≡ listed slot) × AllByRecursion IsDuid (listed slot)
+once_listed slot [] h = rw h (refl, tt)
+once_listed slot (duid ∷ all) h = rw (h.3, h.2) (refl, (h.1, tt))
 
-client_again : (octets : List ℕ) (kind : ClientKind) (xid : List ℕ) (said : Said) → HearsClient octets kind xid said → client_in kind octets ≡ Ok (record { relays = []; kind = kind; xid = xid; said = said })
+once_again : (slot : Option (List ℕ)) (all : List (List ℕ)) → all ≡ listed slot → AllByRecursion IsDuid (listed slot) → Once None all slot
+once_again None all is h = rw is refl
+once_again (Some duid) all is h = rw is (refl, h.0, refl, refl)
+
+ias_of : (all : List (List ℕ)) (ias : List IaPd) → AddsIas [] all ias → SpellIas all ias
+ias_of all ias h = subst (SpellIas all) (sym h.joined) h.spelled
+
+client_takes : (kind : ClientKind) (octets : List ℕ) (u : UntestedMessage) → AreOctets octets → slice_index octets 0 ≡ type_of kind → client_in kind octets ≡ Ok u → (u.relays ≡ []) × SpellsClient octets u
 unfolding client_in
-client_again octets kind xid said h =
-    let all : folded with_option nothing_said (row_of (drop 4 octets)) ≡ Ok said = ap (folded with_option nothing_said) (row_is (drop 4 octets) h.options h.spelled) ∙ said_again h.options nothing_said said h.adds in
-    rw (le-ltb (length octets) 4 h.whole, all) (ap (λ (x : List ℕ). Ok (record { relays = []; kind = kind; xid = x; said = said })) (sym h.number))
+client_takes kind octets u fits type e =
+    let long = passed _ _ _ u e in
+    let b = bind_ok (folded client_option no_client_options (row_of (drop 4 octets))) _ u long.1 in
+    let kept = b.0 in
+    let all = folded_whole client_option no_client_options kept (row_of (drop 4 octets)) b.1 in
+    let options = are_options all.0 (drop 4 octets) (octets_drop 4 octets fits) all.1 in
+    let adds = client_options_takes all.0 no_client_options kept options.each (ap (folded client_option no_client_options) (sym all.1) ∙ b.1) in
+    let client = once_listed kept.client (data_of CLIENT_ID all.0) adds.client in
+    let server = once_listed kept.server (data_of SERVER_ID all.0) adds.server in
+    subst (λ (x : UntestedMessage). (x.relays ≡ []) × SpellsClient octets x) (ok_is (client_message kind octets kept) u b.2) (
+      refl,
+      record {
+        whole = ltb-false (length octets) 4 long.0;
+        kind = type;
+        xid = refl;
+        options = all.0;
+        spelled = options;
+        client = client.0;
+        client_duid = client.1;
+        server = server.0;
+        server_duid = server.1;
+        relayed = marks_once false kept.relayed (data_of RELAY_MESSAGE all.0) adds.relayed;
+        interface = marks_once false kept.interface (data_of INTERFACE_ID all.0) adds.interface;
+        ias = ias_of (data_of IA_PD all.0) kept.ias adds.ias;
+        few = adds.ias.few none_yet;
+      },
+    )
+
+client_again : (octets : List ℕ) (u : UntestedMessage) → SpellsClient octets u → client_in u.kind octets ≡ Ok (record u { relays = [] })
+unfolding client_in
+client_again octets u h =
+    let kept : ClientOptions = record {
+      client = u.client;
+      server = u.server;
+      relayed = stood (data_of RELAY_MESSAGE h.options);
+      interface = stood (data_of INTERFACE_ID h.options);
+      ias = u.ias;
+    } in
+    let adds : AddsToClient no_client_options h.options kept = record {
+      client = once_again u.client (data_of CLIENT_ID h.options) h.client h.client_duid;
+      server = once_again u.server (data_of SERVER_ID h.options) h.server h.server_duid;
+      relayed = marks_of (data_of RELAY_MESSAGE h.options) h.relayed;
+      interface = marks_of (data_of INTERFACE_ID h.options) h.interface;
+      ias = record { new = u.ias; spelled = h.ias; joined = refl; few = λ _. h.few };
+    } in
+    let all : folded client_option no_client_options (row_of (drop 4 octets)) ≡ Ok kept = ap (folded client_option no_client_options) (row_is (drop 4 octets) h.options h.spelled) ∙ client_options_again h.options no_client_options kept h.few adds in
+    rw (le-ltb (length octets) 4 h.whole, all) (ap (λ (x : List ℕ). Ok (record u { relays = []; xid = x })) (sym h.xid))
 
 -- ---- a relay's message
 
@@ -99,30 +149,26 @@ data_fits code (o ∷ options) octets more each e = by (o.code == code) (data_fi
     by true later e = let same : o.octets ≡ octets = cc in subst AreOctets same each.0.octets
     by false later e = later e
 
-pub marks_once : (before after : Bool) (all : List (List ℕ)) → Marks before all after → length all ≤ 1
-marks_once before after [] h = omega arith
-marks_once before after (octets ∷ all) h = let none = h.1 in omega (arith, ap length none)
-
 stands_listed : (after : Option (List ℕ)) (all : List (List ℕ)) → Stands None all after → all ≡ listed after
 stands_listed after [] h = ap listed (sym h)
 stands_listed after (octets ∷ all) h = ap (λ (xs : List (List ℕ)). octets ∷ xs) h.1 ∙ ap listed (sym h.2)
 
-relay_takes : (read : List ℕ → Result Heard PdFault) (octets : List ℕ) (h : Heard) → AreOctets octets → slice_index octets 0 ≡ 12 → relay_in read octets ≡ Ok h
-    → (heard : Heard) × (r : Relay) × (inside : List ℕ) × AreOctets inside × (read inside ≡ Ok heard) × SpellsRelay octets r inside × (by_relay r heard ≡ h)
+relay_takes : (parse : List ℕ → Result UntestedMessage PdFault) (octets : List ℕ) (h : UntestedMessage) → AreOctets octets → slice_index octets 0 ≡ RELAY_FORWARD → relay_in parse octets ≡ Ok h
+    → (u : UntestedMessage) × (r : Relay) × (inside : List ℕ) × AreOctets inside × (parse inside ≡ Ok u) × SpellsRelay octets r inside × (by_relay r u ≡ h)
 unfolding relay_in relay_of
-relay_takes read octets h fits type e =
+relay_takes parse octets h fits type e =
     let long = passed _ _ _ h e in
-    let up = bind_ok (to_message nothing_met (row_of (drop 34 octets))) _ h long.1 in
+    let up = bind_ok (to_message no_relay_options (row_of (drop 34 octets))) _ h long.1 in
     let some = bind_ok (or_short up.0.1) _ h up.2 in
-    let inner = bind_ok (read some.0.0) _ h some.2 in
-    let last = bind_ok (folded level_option up.0.0 some.0.1) _ h inner.2 in
-    let found : to_message nothing_met (row_of (drop 34 octets)) ≡ Ok (up.0.0, Some (some.0.0, some.0.1)) = up.1 ∙ ap (λ (x : Option (List ℕ × Row)). Ok (up.0.0, x)) (short_some up.0.1 some.0 some.1) in
-    let holds = held_takes (row_of (drop 34 octets)) some.0.1 nothing_met up.0.0 last.0 some.0.0 found last.1 in
+    let inner = bind_ok (parse some.0.0) _ h some.2 in
+    let last = bind_ok (folded relay_option up.0.0 some.0.1) _ h inner.2 in
+    let found : to_message no_relay_options (row_of (drop 34 octets)) ≡ Ok (up.0.0, Some (some.0.0, some.0.1)) = up.1 ∙ ap (λ (x : Option (List ℕ × Row)). Ok (up.0.0, x)) (short_some up.0.1 some.0 some.1) in
+    let holds = held_takes (row_of (drop 34 octets)) some.0.1 no_relay_options up.0.0 last.0 some.0.0 found last.1 in
     let options = are_options holds.options (drop 34 octets) (octets_drop 34 octets fits) holds.is in (
       inner.0,
       relay_of octets last.0,
       some.0.0,
-      data_fits 9 holds.options some.0.0 [] options.each holds.only,
+      data_fits RELAY_MESSAGE holds.options some.0.0 [] options.each holds.only,
       inner.1,
       record {
         whole = ltb-false (length octets) 34 long.0;
@@ -133,9 +179,9 @@ relay_takes read octets h fits type e =
         options = holds.options;
         spelled = options;
         held = holds.only;
-        interface = stands_listed last.0.interface (data_of 18 holds.options) holds.adds.interface;
-        client = marks_once false last.0.client (data_of 1 holds.options) holds.adds.client;
-        server = marks_once false last.0.server (data_of 2 holds.options) holds.adds.server;
+        interface = stands_listed last.0.interface (data_of INTERFACE_ID holds.options) holds.adds.interface;
+        client = marks_once false last.0.client (data_of CLIENT_ID holds.options) holds.adds.client;
+        server = marks_once false last.0.server (data_of SERVER_ID holds.options) holds.adds.server;
       },
       ok_is _ _ last.2,
     )
@@ -144,94 +190,106 @@ relay_takes read octets h fits type e =
     short_some None x e = absurd cc
     short_some (Some y) x e = ap (λ (z : List ℕ × Row). Some z) (ok_is y x e)
 
--- whether an option stands there
-abbrev pub stood : List (List ℕ) → Bool
-stood [] = false
-stood (octets ∷ all) = true
-
-pub marks_of : (all : List (List ℕ)) → length all ≤ 1 → Marks false all (stood all)
-marks_of [] few = refl
-marks_of (octets ∷ []) few = (refl, refl, refl)
-marks_of (octets ∷ more ∷ all) few = absurd (omega arith)
-
-stands_of : (interface : Option (List ℕ)) → Stands None (listed interface) interface
+pub stands_of : (interface : Option (List ℕ)) → Stands None (listed interface) interface
 stands_of None = refl
 stands_of (Some octets) = (refl, refl, refl)
 
-relay_again : (read : List ℕ → Result Heard PdFault) (octets : List ℕ) (r : Relay) (inside : List ℕ) (heard : Heard) → SpellsRelay octets r inside → read inside ≡ Ok heard → relay_in read octets ≡ Ok (by_relay r heard)
+relay_again : (parse : List ℕ → Result UntestedMessage PdFault) (octets : List ℕ) (r : Relay) (inside : List ℕ) (u : UntestedMessage) → SpellsRelay octets r inside → parse inside ≡ Ok u → relay_in parse octets ≡ Ok (by_relay r u)
 unfolding relay_in relay_of
-relay_again read octets r inside heard h e =
-    let last : Level = record { client = stood (data_of 1 h.options); server = stood (data_of 2 h.options); relayed = true; interface = r.interface } in
+relay_again parse octets r inside u h e =
+    let last : RelayOptions = record { client = stood (data_of CLIENT_ID h.options); server = stood (data_of SERVER_ID h.options); relayed = true; interface = r.interface } in
     let held : Marks false (inside ∷ []) true = (refl, refl, refl) in
-    let adds : AddsLevel nothing_met h.options last = record {
-      client = marks_of (data_of 1 h.options) h.client;
-      server = marks_of (data_of 2 h.options) h.server;
+    let adds : AddsToRelay no_relay_options h.options last = record {
+      client = marks_of (data_of CLIENT_ID h.options) h.client;
+      server = marks_of (data_of SERVER_ID h.options) h.server;
       relayed = subst (λ (xs : List (List ℕ)). Marks false xs true) (sym h.held) held;
       interface = subst (λ (xs : List (List ℕ)). Stands None xs r.interface) (sym h.interface) (stands_of r.interface);
     } in
-    let at = held_again h.options nothing_met last inside adds h.held in
-    let found : to_message nothing_met (row_of (drop 34 octets)) ≡ Ok (at.up, Some (inside, at.left)) = ap (to_message nothing_met) (row_is (drop 34 octets) h.options h.spelled) ∙ at.found in
+    let at = held_again h.options no_relay_options last inside adds h.held in
+    let found : to_message no_relay_options (row_of (drop 34 octets)) ≡ Ok (at.up, Some (inside, at.left)) = ap (to_message no_relay_options) (row_is (drop 34 octets) h.options h.spelled) ∙ at.found in
     let same : relay_of octets last ≡ r =
     ap (λ (x : ℕ). record { hops = x; link = take 16 (drop 2 octets); peer = take 16 (drop 18 octets); interface = r.interface }) (sym h.hops)
     ∙ (ap (λ (x : List ℕ). record { hops = r.hops; link = x; peer = take 16 (drop 18 octets); interface = r.interface }) (sym h.link)
     ∙ ap (λ (x : List ℕ). record { hops = r.hops; link = r.link; peer = x; interface = r.interface }) (sym h.peer)) in
-    rw (le-ltb (length octets) 34 h.whole, found, e, at.rest) (ap (λ (x : Relay). Ok (by_relay x heard)) same)
+    rw (le-ltb (length octets) 34 h.whole, found, e, at.rest) (ap (λ (x : Relay). Ok (by_relay x u)) same)
 
 -- ---- the message and its relays
 
 -- a message of a type that no relay's has
-other_takes : (x : ℕ) (octets : List ℕ) (h : Heard) → AreOctets (x ∷ octets) → or_ignored (kind_of x) (x ∷ octets) ≡ Ok h → (h.relays ≡ []) × HearsClient (x ∷ octets) h.kind h.xid h.said
-other_takes x octets h fits e = by (kind_of x) refl e
+other_takes : (x : ℕ) (octets : List ℕ) (u : UntestedMessage) → AreOctets (x ∷ octets) → or_ignored (kind_of x) (x ∷ octets) ≡ Ok u → (u.relays ≡ []) × SpellsClient (x ∷ octets) u
+other_takes x octets u fits e = by (kind_of x) refl e
   where
-    by : (o : Option ClientKind) → kind_of x ≡ o → or_ignored o (x ∷ octets) ≡ Ok h → (h.relays ≡ []) × HearsClient (x ∷ octets) h.kind h.xid h.said
+    by : (o : Option ClientKind) → kind_of x ≡ o → or_ignored o (x ∷ octets) ≡ Ok u → (u.relays ≡ []) × SpellsClient (x ∷ octets) u
     by None is e = absurd cc
-    by (Some kind) is e = client_takes kind (x ∷ octets) h fits (kind_takes x kind is) e
+    by (Some kind) is e = client_takes kind (x ∷ octets) u fits (kind_takes x kind is) e
 
-alone : (left : ℕ) (octets : List ℕ) (h : Heard) → (h.relays ≡ []) × HearsClient octets h.kind h.xid h.said → HearsFrom octets h.relays h.kind h.xid h.said × (length h.relays ≤ left)
-alone left octets h both =
-    let none : length h.relays ≡ 0 = ap length both.0 in
-    (subst (λ (rs : List Relay). HearsFrom octets rs h.kind h.xid h.said) (sym both.0) both.1, omega (arith, none))
+-- what octets spell in at most so many relays
+abbrev SpellsIn : ℕ → List ℕ → UntestedMessage → Type 0
+SpellsIn left octets u = SpellsFrom octets u.relays u × (length u.relays ≤ left)
 
-pub message_takes : (left : ℕ) (octets : List ℕ) (h : Heard) → AreOctets octets → message_in left octets ≡ Ok h → HearsFrom octets h.relays h.kind h.xid h.said × (length h.relays ≤ left)
+no_relay : (left : ℕ) (octets : List ℕ) (u : UntestedMessage) → (u.relays ≡ []) × SpellsClient octets u → SpellsIn left octets u
+no_relay left octets u both =
+    let none : length u.relays ≡ 0 = ap length both.0 in
+    (subst (λ (rs : List Relay). SpellsFrom octets rs u) (sym both.0) both.1, omega (arith, none))
+
+-- which relays are written down does not matter inside them
+spells_by : (by : List Relay) (relays : List Relay) (octets : List ℕ) (u : UntestedMessage) → SpellsFrom octets relays u → SpellsFrom octets relays (record u { relays = by })
+spells_by by [] octets u h = record {
+  whole = h.whole;
+  kind = h.kind;
+  xid = h.xid;
+  options = h.options;
+  spelled = h.spelled;
+  client = h.client;
+  client_duid = h.client_duid;
+  server = h.server;
+  server_duid = h.server_duid;
+  relayed = h.relayed;
+  interface = h.interface;
+  ias = h.ias;
+  few = h.few;
+}
+spells_by by (r ∷ relays) octets u h = (h.0, h.1, spells_by by relays h.0 u h.2)
+
+pub message_takes : (left : ℕ) (octets : List ℕ) (u : UntestedMessage) → AreOctets octets → message_in left octets ≡ Ok u → SpellsIn left octets u
 unfolding message_in
-message_takes zero [] h fits e = absurd cc
-message_takes (suc left) [] h fits e = absurd cc
-message_takes zero (x ∷ octets) h fits e = by (x == 12) e
+message_takes zero [] u fits e = absurd cc
+message_takes (suc left) [] u fits e = absurd cc
+message_takes zero (x ∷ octets) u fits e = by (x == RELAY_FORWARD) e
   where
-    by : (t : Bool) → (if t then Err TooDeep else or_ignored (kind_of x) (x ∷ octets)) ≡ Ok h → HearsFrom (x ∷ octets) h.relays h.kind h.xid h.said × (length h.relays ≤ 0)
+    by : (t : Bool) → (if t then Err TooDeep else or_ignored (kind_of x) (x ∷ octets)) ≡ Ok u → SpellsIn 0 (x ∷ octets) u
     by true e = absurd cc
-    by false e = alone 0 (x ∷ octets) h (other_takes x octets h fits e)
-message_takes (suc left) (x ∷ octets) h fits e = by (x == 12) refl (message_takes left) e
+    by false e = no_relay 0 (x ∷ octets) u (other_takes x octets u fits e)
+message_takes (suc left) (x ∷ octets) u fits e = by (x == RELAY_FORWARD) refl (message_takes left) e
   where
-    by : (t : Bool) → (x == 12) ≡ t → ((inside : List ℕ) (heard : Heard) → AreOctets inside → message_in left inside ≡ Ok heard → HearsFrom inside heard.relays heard.kind heard.xid heard.said × (length heard.relays ≤ left))
-        → (if t then relay_in (message_in left) (x ∷ octets) else or_ignored (kind_of x) (x ∷ octets)) ≡ Ok h → HearsFrom (x ∷ octets) h.relays h.kind h.xid h.said × (length h.relays ≤ suc left)
+    by : (t : Bool) → (x == RELAY_FORWARD) ≡ t → ((inside : List ℕ) (v : UntestedMessage) → AreOctets inside → message_in left inside ≡ Ok v → SpellsIn left inside v)
+        → (if t then relay_in (message_in left) (x ∷ octets) else or_ignored (kind_of x) (x ∷ octets)) ≡ Ok u → SpellsIn (suc left) (x ∷ octets) u
     by true test again e =
-        let r = relay_takes (message_in left) (x ∷ octets) h fits (eqb-true x 12 test) e in
-        let later = again r.2 r.0 r.3 r.4 in
-        let few : suc (length r.0.relays) ≤ suc left = omega (arith, later.1) in
-        subst (λ (y : Heard). HearsFrom (x ∷ octets) y.relays y.kind y.xid y.said × (length y.relays ≤ suc left)) r.6 ((r.2, r.5, later.0), few)
-    by false test again e = alone (suc left) (x ∷ octets) h (other_takes x octets h fits e)
+        let r = relay_takes (message_in left) (x ∷ octets) u fits (eqb-true x RELAY_FORWARD test) e in
+        let v = r.0 in
+        let later = again r.2 v r.3 r.4 in
+        let few : suc (length v.relays) ≤ suc left = omega (arith, later.1) in
+        subst (SpellsIn (suc left) (x ∷ octets)) r.6 ((r.2, r.5, spells_by (r.1 ∷ v.relays) v.relays r.2 v later.0), few)
+    by false test again e = no_relay (suc left) (x ∷ octets) u (other_takes x octets u fits e)
 
-client_typed : (relay : List ℕ → Result Heard PdFault) (octets : List ℕ) (kind : ClientKind) (xid : List ℕ) (said : Said) → HearsClient octets kind xid said → by_type relay octets ≡ Ok (record { relays = []; kind = kind; xid = xid; said = said })
-client_typed relay [] kind xid said h = absurd (let w = h.whole in omega (arith, w))
-client_typed relay (x ∷ octets) kind xid said h =
-    let type : x ≡ type_of kind = h.type in
-    let k = kind_again kind in
-    let other : (x == 12) ≡ false = ap (λ (n : ℕ). n == 12) type ∙ k.0 in
-    let known : kind_of x ≡ Some kind = ap kind_of type ∙ k.1 in
-    rw (other, known) (client_again (x ∷ octets) kind xid said h)
+client_typed : (relay : List ℕ → Result UntestedMessage PdFault) (octets : List ℕ) (u : UntestedMessage) → SpellsClient octets u → by_type relay octets ≡ Ok (record u { relays = [] })
+client_typed relay [] u h = absurd (let w = h.whole in omega (arith, w))
+client_typed relay (x ∷ octets) u h =
+    let type : x ≡ type_of u.kind = h.kind in
+    let k = kind_again u.kind in
+    let other : (x == RELAY_FORWARD) ≡ false = ap (λ (n : ℕ). n == RELAY_FORWARD) type ∙ k.0 in
+    let known : kind_of x ≡ Some u.kind = ap kind_of type ∙ k.1 in
+    rw (other, known) (client_again (x ∷ octets) u h)
 
-relay_typed : (relay : List ℕ → Result Heard PdFault) (octets : List ℕ) → 34 ≤ length octets → slice_index octets 0 ≡ 12 → by_type relay octets ≡ relay octets
+pub relay_typed : (relay : List ℕ → Result UntestedMessage PdFault) (octets : List ℕ) → 34 ≤ length octets → slice_index octets 0 ≡ RELAY_FORWARD → by_type relay octets ≡ relay octets
 relay_typed relay [] long type = absurd (omega (arith, long))
-relay_typed relay (x ∷ octets) long type = let this : x ≡ 12 = type in rw (eq-eqb x 12 this) refl
+relay_typed relay (x ∷ octets) long type = let this : x ≡ RELAY_FORWARD = type in rw (eq-eqb x RELAY_FORWARD this) refl
 
-pub message_again : (relays : List Relay) (left : ℕ) (octets : List ℕ) (kind : ClientKind) (xid : List ℕ) (said : Said) → HearsFrom octets relays kind xid said → length relays ≤ left
-    → message_in left octets ≡ Ok (record { relays = relays; kind = kind; xid = xid; said = said })
+pub message_again : (relays : List Relay) (left : ℕ) (octets : List ℕ) (u : UntestedMessage) → SpellsFrom octets relays u → length relays ≤ left → message_in left octets ≡ Ok (record u { relays = relays })
 unfolding message_in
-message_again [] zero octets kind xid said h few = client_typed (λ _. Err TooDeep) octets kind xid said h
-message_again [] (suc left) octets kind xid said h few = client_typed (relay_in (message_in left)) octets kind xid said h
-message_again (r ∷ relays) zero octets kind xid said h few = absurd (omega arith)
-message_again (r ∷ relays) (suc left) octets kind xid said h few =
-    let inner = message_again relays left h.0 kind xid said h.2 (omega (arith, few)) in
+message_again [] zero octets u h few = client_typed (λ _. Err TooDeep) octets u h
+message_again [] (suc left) octets u h few = client_typed (relay_in (message_in left)) octets u h
+message_again (r ∷ relays) zero octets u h few = absurd (omega arith)
+message_again (r ∷ relays) (suc left) octets u h few =
     relay_typed (relay_in (message_in left)) octets h.1.whole h.1.kind
-    ∙ relay_again (message_in left) octets r h.0 (record { relays = relays; kind = kind; xid = xid; said = said }) h.1 inner
+    ∙ relay_again (message_in left) octets r h.0 (record u { relays = relays }) h.1 (message_again relays left h.0 u h.2 (omega (arith, few)))

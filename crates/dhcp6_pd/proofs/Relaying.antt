@@ -3,9 +3,10 @@ use Rattle.std.proofs.Common.{◌≡◌, ℕ, suc, ◌+◌, ◌-◌, ◌<◌, ad
 use Rattle.std.specs.Prelude.{sum_by}
 use Rattle.byteorder.specs.Endian.{big_bytes}
 use Rattle.std.proofs.lemmas.List.Sums.{sum_by-cons}
+use Rattle.dhcp6_pd.specs.declared.numbers.TheConstants.{RELAY_MESSAGE}
 use Rattle.dhcp6_pd.specs.declared.message.Relay.{Relay}
 use Rattle.dhcp6_pd.specs.Layout.{relay_head, relayed, option_octets}
-use Rattle.dhcp6_pd.specs.Size.{relay_size}
+use Rattle.dhcp6_pd.specs.Size.{relay_size, relay_front}
 use Rattle.dhcp6_pd.proofs.Sizes.{relayed_length}
 
 -- the octets so far, and the relays that are left, make the whole datagram of `size` octets
@@ -16,17 +17,13 @@ pub record IsOnTheWay (before : List ℕ) (relays : List Relay) (size : ℕ) (ou
 pub begins : (before : List ℕ) (relays : List Relay) (size : ℕ) → IsOnTheWay before relays size before relays
 begins before relays size = record { room = refl; so_far = λ message e. refl }
 
--- a relay's octets before the message that it holds, of so many octets
-abbrev pub relay_front : Relay → ℕ → List ℕ
-relay_front r n = relay_head r ++ (big_bytes 2 9 ++ big_bytes 2 n)
-
 front_length : (r : Relay) (n : ℕ) → length (relay_front r n) ≡ relay_size r
-front_length r n = length-append (relay_head r) (big_bytes 2 9 ++ big_bytes 2 n)
+front_length r n = length-append (relay_head r) (big_bytes 2 RELAY_MESSAGE ++ big_bytes 2 n)
 
-within : (out : List ℕ) (r : Relay) (held : List ℕ) (n : ℕ) → n ≡ length held → (out ++ relay_front r n) ++ held ≡ out ++ (relay_head r ++ option_octets 9 held)
+within : (out : List ℕ) (r : Relay) (held : List ℕ) (n : ℕ) → n ≡ length held → (out ++ relay_front r n) ++ held ≡ out ++ (relay_head r ++ option_octets RELAY_MESSAGE held)
 within out r held n e =
     append_assoc out (relay_front r n) held
-    ∙ ap (λ (xs : List ℕ). out ++ xs) (append_assoc (relay_head r) (big_bytes 2 9 ++ big_bytes 2 n) held ∙ ap (λ (k : ℕ). relay_head r ++ (big_bytes 2 9 ++ (big_bytes 2 k ++ held))) e)
+    ∙ ap (λ (xs : List ℕ). out ++ xs) (append_assoc (relay_head r) (big_bytes 2 RELAY_MESSAGE ++ big_bytes 2 n) held ∙ ap (λ (k : ℕ). relay_head r ++ (big_bytes 2 RELAY_MESSAGE ++ (big_bytes 2 k ++ held))) e)
 
 pub goes_on : (before : List ℕ) (relays : List Relay) (size : ℕ) (out more : List ℕ) (r : Relay) (left : List Relay) → IsOnTheWay before relays size out (r ∷ left)
     → more ≡ out ++ relay_front r (size - (length out + relay_size r)) → IsOnTheWay before relays size more left

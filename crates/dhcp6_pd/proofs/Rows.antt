@@ -4,7 +4,7 @@ use Rattle.std.proofs.lemmas.List.{drop-drop}
 use Rattle.std.proofs.lemmas.Bool.{lt-ltb, le-ltb}
 use Rattle.byteorder.specs.Endian.{big_number}
 use Rattle.dhcp6_pd.specs.declared.error.PdFault.TheVariants.{Short, OptionLength}
-use Rattle.dhcp6_pd.specs.Options.{Row, Done, Broken, Next, row_behind, row_of}
+use Rattle.dhcp6_pd.specs.Rows.{Row, Done, Broken, Next, row_behind, row_of}
 
 -- the octets that were passed over do not matter
 pub row_drop : (n : ℕ) (octets : List ℕ) → row_behind n octets ≡ row_of (drop n octets)

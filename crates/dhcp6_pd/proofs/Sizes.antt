@@ -3,6 +3,7 @@ use Rattle.std.proofs.Common.{◌≡◌, ℕ, ◌+◌, ◌≤◌, List, [], ◌�
 use Rattle.std.specs.Prelude.{sum_by, nat_lt, Bool, true, false, if◌then◌else◌}
 use Rattle.std.proofs.lemmas.Bool.Decides.{nat_tests}
 use Rattle.std.proofs.lemmas.List.Sums.{sum_by-cons}
+use Rattle.dhcp6_pd.specs.declared.numbers.TheConstants.{RELAY_MESSAGE}
 use Rattle.dhcp6_pd.specs.declared.error.PdError.{PdError}
 use Rattle.dhcp6_pd.specs.declared.error.PdError.TheVariants.{TooLong}
 use Rattle.dhcp6_pd.specs.declared.message.Relay.{Relay}
@@ -17,8 +18,8 @@ unfolding relayed
 relayed_length [] message = omega arith
 relayed_length (r ∷ relays) message =
     let later = relayed_length relays message in
-    let first : length (relay_head r ++ option_octets 9 (relayed relays message)) ≡ relay_size r + length (relayed relays message) =
-    length-append (relay_head r) (option_octets 9 (relayed relays message)) ∙ omega arith in
+    let first : length (relay_head r ++ option_octets RELAY_MESSAGE (relayed relays message)) ≡ relay_size r + length (relayed relays message) =
+    length-append (relay_head r) (option_octets RELAY_MESSAGE (relayed relays message)) ∙ omega arith in
     first ∙ omega (arith, later, sum_by-cons relay_size r relays)
 
 pub fitting_is : (n size : ℕ) → fitting n ≡ Ok size → n ≡ size

@@ -11,8 +11,8 @@ use Rattle.text_fields.specs.Octets.{AreOctets}
 use Rattle.dhcp6_pd.specs.declared.error.PdFault.{PdFault}
 use Rattle.dhcp6_pd.specs.declared.error.PdFault.TheVariants.{Short, OptionLength}
 use Rattle.dhcp6_pd.specs.Layout.{option_octets}
-use Rattle.dhcp6_pd.specs.Options.{DhcpOption, IsOption, AreOptions, Row, Done, Broken, Next, row_behind, row_of}
-use Rattle.dhcp6_pd.specs.Reading.{folded}
+use Rattle.dhcp6_pd.specs.Options.{DhcpOption, IsOption, AreOptions}
+use Rattle.dhcp6_pd.specs.Rows.{Row, Done, Broken, Next, row_behind, row_of, folded}
 use Rattle.dhcp6_pd.proofs.Binds.{bind_ok}
 use Rattle.dhcp6_pd.proofs.Rows.{row_drop, row_next}
 
@@ -131,7 +131,7 @@ are_options (o ∷ options) octets h e =
 abbrev row_by : ℕ → ℕ → List ℕ → Row
 row_by code n octets = Next (record { code = code; octets = take n octets }) (row_of (drop n octets))
 
-row_of_option : (o : DhcpOption) (rest : List ℕ) → IsOption o → row_of (option_octets o.code o.octets ++ rest) ≡ Next o (row_of rest)
+pub row_of_option : (o : DhcpOption) (rest : List ℕ) → IsOption o → row_of (option_octets o.code o.octets ++ rest) ≡ Next o (row_of rest)
 row_of_option o rest h =
     let octets = option_octets o.code o.octets ++ rest in
     let body = o.octets ++ rest in

@@ -1,11 +1,16 @@
 -- Which octets are which client's message (RFC 8415).
 use Rattle.std.specs.Prelude.{◌≡◌, ℕ, ◌-◌, ◌%◌, ◌≤◌, List, [], ◌∷◌, length, take, drop, slice_index, Option, Some, None}
+use Rattle.std.specs.List.{AllByRecursion}
 use Rattle.byteorder.specs.Endian.{big_number}
 use Rattle.prefix_range.specs.Prefix.{Prefix, size_of}
 use Rattle.client_id.specs.Duid.{IsDuid}
 use Rattle.dhcp6_pd.specs.declared.message.ClientKind.{ClientKind}
 use Rattle.dhcp6_pd.specs.declared.message.ClientKind.TheVariants.{Solicit, Request, Renew, Rebind, Release}
 use Rattle.dhcp6_pd.specs.declared.message.ClientMessage.{ClientMessage}
+use Rattle.dhcp6_pd.specs.declared.untested.UntestedMessage.{UntestedMessage}
+use Rattle.dhcp6_pd.specs.declared.numbers.TheConstants.{CLIENT_ID, SERVER_ID, RELAY_MESSAGE, INTERFACE_ID, IA_PD}
+use Rattle.dhcp6_pd.specs.declared.numbers.TheConstants.{IA_PREFIX, SOLICIT, REQUEST, RENEW, REBIND, RELEASE}
+use Rattle.dhcp6_pd.specs.declared.numbers.TheConstants.{RELAY_FORWARD, MAX_IAS, MAX_RELAYS}
 use Rattle.dhcp6_pd.specs.declared.message.IaPd.{IaPd}
 use Rattle.dhcp6_pd.specs.declared.message.Relay.{Relay}
 use Rattle.dhcp6_pd.specs.Options.{DhcpOption, AreOptions, data_of}
@@ -38,7 +43,7 @@ pub record SpellsIa (octets : List ℕ) (ia : IaPd) : Type 0 where
   pub iaid : ia.iaid ≡ big_number 4 octets
   pub options : List DhcpOption
   pub spelled : AreOptions (drop 12 octets) options
-  pub hint : SpellsHint (data_of 26 options) ia.hint
+  pub hint : SpellsHint (data_of IA_PREFIX options) ia.hint
 
 abbrev pub SpellIas : List (List ℕ) → List IaPd → Type 0
 SpellIas [] [] = Unit {0}
@@ -50,63 +55,83 @@ SpellIas (octets ∷ more) (ia ∷ ias) = SpellsIa octets ia × SpellIas more ia
 
 -- section 7.3
 abbrev pub type_of : ClientKind → ℕ
-type_of Solicit = 1
-type_of Request = 3
-type_of Renew = 5
-type_of Rebind = 6
-type_of Release = 8
+type_of Solicit = SOLICIT
+type_of Request = REQUEST
+type_of Renew = RENEW
+type_of Rebind = REBIND
+type_of Release = RELEASE
 
--- sections 16.2 to 16.9, of those that are read: to this server, or to any
-abbrev pub NamesServer : List ℕ → ClientKind → List (List ℕ) → Type 0
-NamesServer own Solicit servers = servers ≡ []
-NamesServer own Rebind servers = servers ≡ []
-NamesServer own Request servers = servers ≡ own ∷ []
-NamesServer own Renew servers = servers ≡ own ∷ []
-NamesServer own Release servers = servers ≡ own ∷ []
-
--- the type, three octets of transaction identifier, options; what may stand once stands once, IA_PDs at most 16 times
-pub record SpellsClient (own octets : List ℕ) (m : ClientMessage) : Type 0 where
-  pub whole : 4 ≤ length octets
-  pub kind : slice_index octets 0 ≡ type_of m.kind
-  pub xid : m.xid ≡ take 3 (drop 1 octets)
-  pub options : List DhcpOption
-  pub spelled : AreOptions (drop 4 octets) options
-  pub client : data_of 1 options ≡ m.client ∷ []
-  pub duid : IsDuid m.client
-  pub server : NamesServer own m.kind (data_of 2 options)
-  pub relayed : length (data_of 9 options) ≤ 1
-  pub interface : length (data_of 18 options) ≤ 1
-  pub ias : SpellIas (data_of 25 options) m.ias
-  pub few : length m.ias ≤ 16
-
--- ---- a relay's message (section 9)
-
+-- an option that stands once or not at all
 abbrev pub listed : Option (List ℕ) → List (List ℕ)
 listed None = []
 listed (Some octets) = octets ∷ []
 
+-- The type, three octets of transaction identifier, options. What may stand once stands once, IA_PDs at most 16 times.
+-- Whom the identifiers name isn't asked.
+pub record SpellsClient (octets : List ℕ) (u : UntestedMessage) : Type 0 where
+  pub whole : 4 ≤ length octets
+  pub kind : slice_index octets 0 ≡ type_of u.kind
+  pub xid : u.xid ≡ take 3 (drop 1 octets)
+  pub options : List DhcpOption
+  pub spelled : AreOptions (drop 4 octets) options
+  pub client : data_of CLIENT_ID options ≡ listed u.client
+  pub client_duid : AllByRecursion IsDuid (listed u.client)
+  pub server : data_of SERVER_ID options ≡ listed u.server
+  pub server_duid : AllByRecursion IsDuid (listed u.server)
+  pub relayed : length (data_of RELAY_MESSAGE options) ≤ 1
+  pub interface : length (data_of INTERFACE_ID options) ≤ 1
+  pub ias : SpellIas (data_of IA_PD options) u.ias
+  pub few : length u.ias ≤ MAX_IAS
+
+-- ---- a relay's message (section 9)
+
 -- type RELAY-FORW, hop count, link and peer address, options, of which one is the message that it holds
 pub record SpellsRelay (octets : List ℕ) (r : Relay) (inside : List ℕ) : Type 0 where
   pub whole : 34 ≤ length octets
-  pub kind : slice_index octets 0 ≡ 12
+  pub kind : slice_index octets 0 ≡ RELAY_FORWARD
   pub hops : r.hops ≡ slice_index octets 1
   pub link : r.link ≡ take 16 (drop 2 octets)
   pub peer : r.peer ≡ take 16 (drop 18 octets)
   pub options : List DhcpOption
   pub spelled : AreOptions (drop 34 octets) options
-  pub held : data_of 9 options ≡ inside ∷ []
-  pub interface : data_of 18 options ≡ listed r.interface
-  pub client : length (data_of 1 options) ≤ 1
-  pub server : length (data_of 2 options) ≤ 1
+  pub held : data_of RELAY_MESSAGE options ≡ inside ∷ []
+  pub interface : data_of INTERFACE_ID options ≡ listed r.interface
+  pub client : length (data_of CLIENT_ID options) ≤ 1
+  pub server : length (data_of SERVER_ID options) ≤ 1
 
 -- ---- the whole datagram
 
 -- the message, in as many relays' messages, the first of them outermost
-abbrev pub SpellsFrom : List ℕ → List ℕ → List Relay → ClientMessage → Type 0
-SpellsFrom own octets [] m = SpellsClient own octets m
-SpellsFrom own octets (r ∷ relays) m = (inside : List ℕ) × SpellsRelay octets r inside × SpellsFrom own inside relays m
+abbrev pub SpellsFrom : List ℕ → List Relay → UntestedMessage → Type 0
+SpellsFrom octets [] u = SpellsClient octets u
+SpellsFrom octets (r ∷ relays) u = (inside : List ℕ) × SpellsRelay octets r inside × SpellsFrom inside relays u
+
+-- the octets are this message, whatever its identifiers are
+pub record SpellsUntested (octets : List ℕ) (u : UntestedMessage) : Type 0 where
+  pub spelled : SpellsFrom octets u.relays u
+  pub few : length u.relays ≤ MAX_RELAYS
+
+-- ---- the identifiers (sections 16.2 to 16.9, of the types that are read)
+
+-- the server that a message of this type names, where it is for the server `own`: none, where it is for any
+abbrev pub server_for : List ℕ → ClientKind → Option (List ℕ)
+server_for own Solicit = None
+server_for own Rebind = None
+server_for own Request = Some own
+server_for own Renew = Some own
+server_for own Release = Some own
+
+-- a message with the identifiers that it has to have
+abbrev pub addressed : List ℕ → ClientMessage → UntestedMessage
+addressed own m = record {
+  relays = m.relays;
+  kind = m.kind;
+  xid = m.xid;
+  client = Some m.client;
+  server = server_for own m.kind;
+  ias = m.ias;
+}
 
 -- the octets are this message for the server with this identifier
-pub record Spells (own octets : List ℕ) (m : ClientMessage) : Type 0 where
-  pub spelled : SpellsFrom own octets m.relays m
-  pub few : length m.relays ≤ 32
+abbrev pub Spells : List ℕ → List ℕ → ClientMessage → Type 0
+Spells own octets m = SpellsUntested octets (addressed own m)

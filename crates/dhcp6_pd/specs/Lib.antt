@@ -1,7 +1,9 @@
 pub mod Layout
 pub mod Size
 pub mod Options
-pub mod Reading
-pub mod Faults
-pub mod Found
 pub mod Grammar
+pub mod Rows
+pub mod Refusals
+pub mod Faults
+pub mod Answers
+pub mod Parsing

@@ -1,23 +1,25 @@
-//! Reading a client's message.
+//! What octets are as a client's message to a server.
 
-ghost use Rattle.std.specs.Prelude.{◌≡◌, IfOk, Ok};
-ghost use Rattle.dhcp6_pd.specs.Reading.{Gives};
-ghost use Rattle.dhcp6_pd.specs.Faults.{for_server, identified, reading_of};
-ghost use Rattle.dhcp6_pd.specs.Found.{turned};
+ghost use Rattle.std.specs.Prelude.{◌≡◌, IfOk, IsErrOf, Ok};
+ghost use Rattle.dhcp6_pd.specs.Answers.{Gives};
+ghost use Rattle.dhcp6_pd.specs.Faults.{for_server, identified, message_of};
 ghost use Rattle.dhcp6_pd.specs.Grammar.{Spells};
+ghost use Rattle.dhcp6_pd.specs.Refusals.{Refuses, IsOfForm, IsMalformed, IsOfOtherType, IsDeeper, SpellsOne};
+ghost use Rattle.dhcp6_pd.specs.Refusals.{NamesNoClient};
+ghost use Rattle.dhcp6_pd.specs.Refusals.{NamesServerOfAny, NamesNoServer, NamesAnother};
+ghost use Rattle.dhcp6_pd.specs.declared.error.PdFault.{PdFault as PdFaultValue};
 ghost use Rattle.dhcp6_pd.specs.declared.message.ClientMessage.{ClientMessage as ClientMessageValue};
 
 use crate::error::{PdError, PdFault};
-use crate::heard::{Heard, message_in};
 use crate::message::{ClientKind, ClientMessage};
-use crate::numbers::MOST_RELAYS;
-use crate::said::Said;
+use crate::numbers::MAX_RELAYS;
+use crate::untested::{UntestedMessage, message_in};
 use client_id::Duid;
 use std::alloc::Global;
 
 /// Whether a server identifier stands there as the message's type asks for (RFC 8415, section 16).
 #[tactic(auto, unfolding(crate::specs::Faults::for_server))]
-fn for_server(own: &[u8], kind: ClientKind, server: &Option<Duid>) -> Result<(), PdFault>
+fn for_server(own: &Duid, kind: ClientKind, server: &Option<Duid>) -> Result<(), PdFault>
     ensures { result ≡ for_server own.now kind server.now }
 {
     match (kind, server) {
@@ -25,7 +27,7 @@ fn for_server(own: &[u8], kind: ClientKind, server: &Option<Duid>) -> Result<(),
         (ClientKind::Solicit | ClientKind::Rebind, Some(_)) => Err(PdFault::ServerIdPresent),
         (_, None) => Err(PdFault::ServerIdMissing),
         (_, Some(server)) => {
-            if server.as_bytes() == own {
+            if server == own {
                 Ok(())
             } else {
                 Err(PdFault::NotOurs)
@@ -36,26 +38,21 @@ fn for_server(own: &[u8], kind: ClientKind, server: &Option<Duid>) -> Result<(),
 
 /// A message whose identifiers are as its type asks for.
 #[tactic(auto, unfolding(crate::specs::Faults::identified))]
-fn identified(heard: Heard, own: &[u8]) -> Result<ClientMessage, PdFault>
-    ensures { result ≡ identified own.now (turned heard) }
+fn identified(message: UntestedMessage, own: &Duid) -> Result<ClientMessage, PdFault>
+    ensures { result ≡ identified own.now message }
 {
-    let Heard {
+    let UntestedMessage {
         relays,
         kind,
         xid,
-        said,
-    } = heard;
-    let Said {
         client,
         server,
-        relayed: _,
-        interface: _,
         ias,
-    } = said;
+    } = message;
     let client = client.ok_or(PdFault::NoClientId)?;
     for_server(own, kind, &server)?;
     Ok(ClientMessage {
-        relays: relays.reversed(),
+        relays: relays.into_list(),
         kind,
         xid,
         client,
@@ -63,11 +60,11 @@ fn identified(heard: Heard, own: &[u8]) -> Result<ClientMessage, PdFault>
     })
 }
 
-fn decoded(alloc: Global, octets: &[u8], own: &[u8]) -> Result<ClientMessage, PdError>
-    ensures { Gives (λ m. m) result (reading_of own.now octets.now) }
+fn decoded(alloc: Global, octets: &[u8], own: &Duid) -> Result<ClientMessage, PdError>
+    ensures { Gives (λ m. m) result (message_of own.now octets.now) }
 {
-    let heard = message_in(alloc, octets, MOST_RELAYS)?;
-    let message = identified(heard, own)?;
+    let untested = message_in(alloc, octets, MAX_RELAYS)?;
+    let message = identified(untested, own)?;
     Ok(message)
 }
 
@@ -78,8 +75,18 @@ pub fn decode(alloc: Global, octets: &[u8], own: &Duid) -> Result<ClientMessage,
     ensures found { IfOk result (λ m. Spells own.now octets.now m) }
     // What is spelled so is read, unless memory runs out.
     ensures only { (m : ClientMessageValue) → Spells own.now octets.now m → Gives (λ x. x) result (Ok m) }
-    // Which fault it is.
-    ensures exact { Gives (λ m. m) result (reading_of own.now octets.now) }
+    // What is cut, does not fit or stands too often makes no message.
+    ensures malformed { (fault : PdFaultValue) → IsOfForm fault → IsErrOf result (PdError.Fault fault) → IsMalformed octets.now }
+    // The innermost message is of a type that is not read, or one relay too deep.
+    ensures ignored { Refuses result PdFault.Ignored (IsOfOtherType MAX_RELAYS octets.now) }
+    ensures too_deep { Refuses result PdFault.TooDeep (IsDeeper MAX_RELAYS octets.now) }
+    // All else of the message is as it should be, and its identifiers are not.
+    ensures no_client { Refuses result PdFault.NoClientId (SpellsOne octets.now NamesNoClient) }
+    ensures present { Refuses result PdFault.ServerIdPresent (SpellsOne octets.now NamesServerOfAny) }
+    ensures missing { Refuses result PdFault.ServerIdMissing (SpellsOne octets.now NamesNoServer) }
+    ensures not_ours { Refuses result PdFault.NotOurs (SpellsOne octets.now (NamesAnother own.now)) }
+    // Which fault it is: the first from the front.
+    ensures exact { Gives (λ m. m) result (message_of own.now octets.now) }
 {
-    decoded(alloc, octets, own.as_bytes())
+    decoded(alloc, octets, own)
 }

@@ -1,8 +1,9 @@
-//! Reading an IA_PD.
+//! Parsing an IA_PD.
 
 ghost use Rattle.std.specs.Prelude.{◌≡◌, ◌≤◌, None, length};
-ghost use Rattle.dhcp6_pd.specs.Options.{row_of};
-ghost use Rattle.dhcp6_pd.specs.Reading.{plain, folded, Finds};
+ghost use Rattle.text_fields.specs.Parsing.{FindsOr};
+ghost use Rattle.dhcp6_pd.specs.Rows.{row_of, folded};
+ghost use Rattle.dhcp6_pd.specs.Parsing.{plain};
 ghost use Rattle.dhcp6_pd.specs.Grammar.{cleared, address_of};
 ghost use Rattle.dhcp6_pd.specs.Faults.{prefix_in, with_hint, ia_in};
 
@@ -56,7 +57,7 @@ fn prefix_in(octets: &[u8]) -> Result<Prefix, PdFault>
 /// Keeps the prefix of the first IAPREFIX.
 #[tactic(auto, unfolding(crate::specs::Faults::with_hint))]
 fn keep_hint(hint: &mut Option<Prefix>, option: &RawOption<'_>) -> Result<(), PdFault>
-    ensures { Finds (λ _. hint.new) result (with_hint hint.old (plain option.now)) }
+    ensures { FindsOr (λ _. hint.new) result (with_hint hint.old (plain option.now)) }
 {
     if hint.is_none() && option.code == IA_PREFIX {
         *hint = Some(prefix_in(option.octets)?);

@@ -1,25 +1,40 @@
-//! DHCPv6 messages with prefix delegation (RFC 8415): the clients' messages that a server reads, by relays or
-//! not, and its answers.
+//! DHCPv6 messages with prefix delegation (RFC 8415): what clients send, by relays or not, and a server's answers.
+//!
+//! `decode` takes a datagram to a `ClientMessage` for this server, or names the first fault from the front; `encode`
+//! takes a `ServerMessage` to the octets that go back by the same relays. Neither decides anything.
+//!
+//! What they promise stands at their calls: which octets are which message in specs/Grammar, why a message is refused
+//! for its type, its relays or its identifiers in specs/Refusals, the first fault of any octets in specs/Faults, the
+//! octets of an answer in specs/Layout.
+//!
+//! ```text
+//! match decode(alloc, octets, &own) {
+//!     Ok(message) => send(encode(alloc, &answer(message))?),
+//!     Err(PdError::Fault(fault)) => dropped(fault),
+//!     Err(e) => return Err(e),
+//! }
+//! ```
 #![tactic(auto)]
 
+mod client_options;
 mod decoding;
 mod error;
-mod heard;
 mod ia;
-mod level;
-mod lists;
+mod keeping;
 mod message;
+mod message_lists;
 mod numbers;
 mod option_code;
 mod options;
-mod said;
+mod relay_options;
 mod size;
+mod untested;
 mod writing;
 
 pub use decoding::decode;
 pub use error::{PdError, PdFault};
-pub use lists::{IaPdList, IaReplyList, InterfaceId, RelayList};
 pub use message::{
     ClientKind, ClientMessage, IaPd, IaReply, IaReplyAnswer, Relay, ServerKind, ServerMessage,
 };
+pub use message_lists::{IaPdList, IaReplyList, InterfaceId, RelayList};
 pub use writing::encode;

@@ -1,6 +1,6 @@
 //! What messages say (RFC 8415): those of clients that are read, and those of the server that are written.
 
-use crate::lists::{IaPdList, IaReplyList, InterfaceId, RelayList};
+use crate::message_lists::{IaPdList, IaReplyList, InterfaceId, RelayList};
 use client_id::{Duid, Iaid};
 use prefix_range::Prefix;
 

@@ -1,4 +1,4 @@
-//! The numbers of RFC 8415 that messages are spelled with.
+//! The numbers of RFC 8415 that messages are spelled with, and the limits of what is read and written.
 
 /// Option codes (section 21).
 pub const CLIENT_ID: u16 = 1;
@@ -22,6 +22,22 @@ pub const NO_BINDING: u16 = 3;
 
 pub const NO_PREFIX_AVAILABLE: u16 = 6;
 
+/// The types of clients' messages that are read (section 7.3).
+pub const SOLICIT: u8 = 1;
+
+pub const REQUEST: u8 = 3;
+
+pub const RENEW: u8 = 5;
+
+pub const REBIND: u8 = 6;
+
+pub const RELEASE: u8 = 8;
+
+/// The types of the server's messages (section 7.3).
+pub const ADVERTISE: u8 = 2;
+
+pub const REPLY: u8 = 7;
+
 /// The types of relays' messages (section 7.3).
 pub const RELAY_FORWARD: u8 = 12;
 
@@ -31,10 +47,10 @@ pub const RELAY_REPLY: u8 = 13;
 pub const OPTION_HEAD: usize = 4;
 
 /// The most octets of a datagram.
-pub const MOST_OCTETS: usize = 65535;
+pub const MAX_OCTETS: usize = 65535;
 
 /// The most IA_PDs of a message.
-pub const MOST_IAS: usize = 16;
+pub const MAX_IAS: usize = 16;
 
 /// The most relays that a message comes by.
-pub const MOST_RELAYS: usize = 32;
+pub const MAX_RELAYS: usize = 32;

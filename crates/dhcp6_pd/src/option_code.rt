@@ -1,7 +1,7 @@
 //! Which options are read.
 
-ghost use Rattle.std.specs.Prelude.{◌≡◌, true, false};
-ghost use Rattle.dhcp6_pd.specs.Options.{code_of};
+ghost use Rattle.std.specs.Prelude.{◌≡◌};
+ghost use Rattle.dhcp6_pd.specs.Rows.{code_of};
 
 use crate::numbers::{CLIENT_ID, IA_PD, IA_PREFIX, INTERFACE_ID, RELAY_MESSAGE, SERVER_ID};
 
@@ -19,7 +19,7 @@ pub enum OptionCode {
 
 impl OptionCode {
     /// The option with this code.
-    #[tactic(auto, unfolding(crate::specs::Options::code_of))]
+    #[tactic(auto, unfolding(crate::specs::Rows::code_of))]
     pub fn of(code: u16) -> OptionCode
         ensures { result ≡ code_of code }
     {

@@ -1,8 +1,8 @@
-//! The options of a level, one after the other.
+//! The options of a message, of a relay's message or of an IA_PD, one after the other.
 
 ghost use Rattle.std.specs.Prelude.{◌≡◌};
-ghost use Rattle.dhcp6_pd.specs.Options.{row_of};
-ghost use Rattle.dhcp6_pd.specs.Reading.{Steps};
+ghost use Rattle.dhcp6_pd.specs.Rows.{row_of};
+ghost use Rattle.dhcp6_pd.specs.Parsing.{Steps};
 
 use crate::error::PdFault;
 use crate::numbers::OPTION_HEAD;
@@ -15,7 +15,7 @@ pub struct RawOption<'a> {
     pub octets: &'a [u8],
 }
 
-/// The options that are left of a level, from the front.
+/// The options that are left, from the front.
 #[derive(Drop)]
 pub struct Options<'a> {
     /// Their octets.
@@ -31,7 +31,7 @@ impl<'a> Options<'a> {
 
     /// The next option, or `None` at the end: `Short` where fewer than four octets are left, `OptionLength`
     /// where fewer than the option's length says.
-    #[tactic(auto, using(crate::proofs::Rows::row_done, crate::proofs::Rows::row_short, crate::proofs::Rows::row_long, crate::proofs::Rows::row_next))]
+    #[tactic(auto, using(crate::proofs::Rows::row_done, crate::proofs::Rows::row_short))]
     pub fn next_option(&mut self) -> Result<Option<RawOption<'a>>, PdFault>
         ensures { Steps result (row_of self.new.rest.now) (row_of self.old.rest.now) }
     {

@@ -7,14 +7,14 @@ ghost use Rattle.dhcp6_pd.specs.Size.{fitting, relay_size};
 
 use crate::error::PdError;
 use crate::message::{IaReply, IaReplyAnswer, Relay, ServerMessage};
-use crate::numbers::{MOST_OCTETS, OPTION_HEAD};
+use crate::numbers::{MAX_OCTETS, OPTION_HEAD};
 
 /// A size so far and some octets more, where a datagram can have as many.
 fn with_octets(size: usize, more: usize) -> Result<usize, PdError>
-    requires { size ≤ 65535 }
+    requires { size ≤ MAX_OCTETS }
     ensures { result ≡ fitting (size + more) }
 {
-    if more > MOST_OCTETS - size {
+    if more > MAX_OCTETS - size {
         return Err(PdError::TooLong);
     }
     Ok(size + more)
@@ -31,7 +31,7 @@ pub fn ia_size(reply: &IaReply) -> usize
 }
 
 fn ias_size(before: usize, ias: &[IaReply]) -> Result<usize, PdError>
-    requires { before ≤ 65535 }
+    requires { before ≤ MAX_OCTETS }
     ensures { result ≡ fitting (before + length (flat_map ia_octets ias.now)) }
 {
     let mut size = before;
@@ -43,7 +43,7 @@ fn ias_size(before: usize, ias: &[IaReply]) -> Result<usize, PdError>
 
 fn head_size(message: &ServerMessage) -> usize
     ensures value { result ≡ length (head_octets message.now) }
-    ensures most { result ≤ 65535 }
+    ensures most { result ≤ MAX_OCTETS }
 {
     let identifiers = 12 + message.client.as_bytes().len() + message.server.as_bytes().len();
     if message.success {
@@ -55,7 +55,7 @@ fn head_size(message: &ServerMessage) -> usize
 
 /// The octets of the option that an interface identifier has.
 fn relays_size(before: usize, relays: &[Relay]) -> Result<usize, PdError>
-    requires { before ≤ 65535 }
+    requires { before ≤ MAX_OCTETS }
     ensures { result ≡ fitting (before + sum_by relay_size relays.now) }
 {
     let mut size = before;
@@ -66,7 +66,7 @@ fn relays_size(before: usize, relays: &[Relay]) -> Result<usize, PdError>
 }
 
 fn with_relay(before: usize, relay: &Relay) -> Result<usize, PdError>
-    requires { before ≤ 65535 }
+    requires { before ≤ MAX_OCTETS }
     ensures { result ≡ fitting (before + relay_size relay.now) }
 {
     let size = with_octets(before, 34 + OPTION_HEAD)?;

@@ -1,17 +1,21 @@
 //! Writing an answer.
 
-ghost use Rattle.std.specs.Prelude.{◌≡◌, ◌++◌, ◌∷◌, ◌+◌, ◌-◌, ◌*◌, ◌/◌, ◌≤◌, ◌<◌, ◌⊎◌, ◌↔◌, ℕ, List, [], length, sum_by, OnOk, IfOk, IfErr, IsErrOf, if◌then◌else◌};
-ghost use Rattle.std.specs.List.{flat_map};
+ghost use Rattle.std.specs.Prelude.{◌≡◌, ◌++◌, ◌∷◌, ◌+◌, ◌-◌, ◌≤◌, ◌<◌, ◌⊎◌, ◌↔◌, ℕ, List, length};
+ghost use Rattle.std.specs.Prelude.{sum_by, OnOk, IfOk, IfErr, IsErrOf};
 ghost use Rattle.byteorder.specs.Endian.{big_bytes};
-ghost use Rattle.dhcp6_pd.specs.Layout.{option_octets, status_octets, prefix_octets, answer_octets, ia_octets, head_octets, interface_octets, relay_head, relayed, server_octets, message_octets};
-ghost use Rattle.dhcp6_pd.specs.Size.{relay_size};
+ghost use Rattle.dhcp6_pd.specs.Layout.{option_octets, status_octets, prefix_octets, times_octets, answer_octets};
+ghost use Rattle.dhcp6_pd.specs.Layout.{ia_octets};
+ghost use Rattle.dhcp6_pd.specs.Layout.{head_octets, interface_octets, relay_head, relayed, server_octets};
+ghost use Rattle.dhcp6_pd.specs.Layout.{message_octets};
+ghost use Rattle.dhcp6_pd.specs.Size.{relay_size, relay_front};
 
 use crate::error::PdError;
-use crate::lists::InterfaceId;
 use crate::message::{IaReply, IaReplyAnswer, Relay, ServerKind, ServerMessage};
+use crate::message_lists::InterfaceId;
 use crate::numbers::{
-    CLIENT_ID, IA_PD, IA_PREFIX, INTERFACE_ID, NO_BINDING, NO_PREFIX_AVAILABLE, OPTION_HEAD,
-    RELAY_MESSAGE, RELAY_REPLY, SERVER_ID, STATUS_CODE, SUCCESS,
+    ADVERTISE, CLIENT_ID, IA_PD, IA_PREFIX, INTERFACE_ID, MAX_OCTETS, NO_BINDING,
+    NO_PREFIX_AVAILABLE, OPTION_HEAD, RELAY_MESSAGE, RELAY_REPLY, REPLY, SERVER_ID, STATUS_CODE,
+    SUCCESS,
 };
 use crate::size::{ia_size, size_of};
 use byteorder::{BigEndian, ByteOrder};
@@ -51,7 +55,7 @@ fn push_option_head(out: &mut Vec<u8>, code: u16, length: u16) -> Result<(), All
 }
 
 fn push_option(out: &mut Vec<u8>, code: u16, octets: &[u8]) -> Result<(), AllocError>
-    requires { length octets.now ≤ 65535 }
+    requires { length octets.now ≤ MAX_OCTETS }
     ensures { OnOk result (out.new.items ≡ out.old.items ++ option_octets code octets.now) }
 {
     push_option_head(out, code, octets.len() as u16)?;
@@ -93,7 +97,7 @@ fn push_prefix(out: &mut Vec<u8>, prefix: &Prefix, valid: u32) -> Result<(), All
 
 /// Appends T1 and T2 for a valid lifetime: a half and four fifths of it, rounded down.
 fn push_times(out: &mut Vec<u8>, valid: u32) -> Result<(), AllocError>
-    ensures { OnOk result (out.new.items ≡ out.old.items ++ (big_bytes 4 (valid / 2) ++ big_bytes 4 (4 * valid / 5))) }
+    ensures { OnOk result (out.new.items ≡ out.old.items ++ times_octets valid) }
 {
     push_u32(out, valid / 2)?;
     push_u32(out, (4 * u64::from(valid) / 5) as u32)
@@ -131,8 +135,8 @@ fn push_head(out: &mut Vec<u8>, message: &ServerMessage) -> Result<(), AllocErro
     ensures { OnOk result (out.new.items ≡ out.old.items ++ head_octets message.now) }
 {
     let kind = match message.kind {
-        ServerKind::Advertise => 2,
-        ServerKind::Reply => 7,
+        ServerKind::Advertise => ADVERTISE,
+        ServerKind::Reply => REPLY,
     };
     out.push(kind)?;
     out.extend_from_slice(&message.xid)?;
@@ -156,7 +160,7 @@ fn push_server(out: &mut Vec<u8>, message: &ServerMessage) -> Result<(), AllocEr
 }
 
 fn push_interface(out: &mut Vec<u8>, interface: &Option<InterfaceId>) -> Result<(), AllocError>
-    requires { length (interface_octets interface.now) ≤ 65539 }
+    requires { length (interface_octets interface.now) ≤ MAX_OCTETS + OPTION_HEAD }
     ensures { OnOk result (out.new.items ≡ out.old.items ++ interface_octets interface.now) }
 {
     match interface {
@@ -167,7 +171,7 @@ fn push_interface(out: &mut Vec<u8>, interface: &Option<InterfaceId>) -> Result<
 
 /// Appends what a relay puts before its relay message option.
 fn push_relay_head(out: &mut Vec<u8>, relay: &Relay) -> Result<(), AllocError>
-    requires { relay_size relay.now ≤ 65535 }
+    requires { relay_size relay.now ≤ MAX_OCTETS }
     ensures { OnOk result (out.new.items ≡ out.old.items ++ relay_head relay.now) }
 {
     out.push(RELAY_REPLY)?;
@@ -179,9 +183,10 @@ fn push_relay_head(out: &mut Vec<u8>, relay: &Relay) -> Result<(), AllocError>
 
 /// Appends what a relay puts before the message that it holds, which ends where the whole datagram does.
 fn push_relay(out: &mut Vec<u8>, relay: &Relay, size: usize) -> Result<(), AllocError>
-    requires fits { size ≤ 65535 }
+    requires fits { size ≤ MAX_OCTETS }
     requires room { length out.old.items + relay_size relay.now ≤ size }
-    ensures { OnOk result (out.new.items ≡ out.old.items ++ (relay_head relay.now ++ (big_bytes 2 9 ++ big_bytes 2 (size - (length out.old.items + relay_size relay.now))))) }
+    ensures { let left = size - (length out.old.items + relay_size relay.now) in
+        OnOk result (out.new.items ≡ out.old.items ++ relay_front relay.now left) }
 {
     push_relay_head(out, relay)?;
     let left = size - out.len() - OPTION_HEAD;
@@ -190,9 +195,10 @@ fn push_relay(out: &mut Vec<u8>, relay: &Relay, size: usize) -> Result<(), Alloc
 
 /// Appends what relays put before the message that they hold, where all of it makes `size` octets.
 fn push_relays(out: &mut Vec<u8>, relays: &[Relay], size: usize) -> Result<(), AllocError>
-    requires fits { size ≤ 65535 }
+    requires fits { size ≤ MAX_OCTETS }
     requires room { length out.old.items + sum_by relay_size relays.now ≤ size }
-    ensures { (message : List ℕ) → length out.old.items + (sum_by relay_size relays.now + length message) ≡ size → OnOk result (out.new.items ++ message ≡ out.old.items ++ relayed relays.now message) }
+    ensures { (message : List ℕ) → length out.old.items + (sum_by relay_size relays.now + length message) ≡ size
+        → OnOk result (out.new.items ++ message ≡ out.old.items ++ relayed relays.now message) }
 {
     for relay in relays {
         push_relay(out, relay, size)?;
@@ -204,7 +210,7 @@ fn push_relays(out: &mut Vec<u8>, relays: &[Relay], size: usize) -> Result<(), A
 /// 65,535, `Memory` where a growth was refused.
 pub fn encode(alloc: Global, message: &ServerMessage) -> Result<Vec<u8>, PdError>
     ensures written { IfOk result (λ v. v.items ≡ message_octets message.now) }
-    ensures too_long { IsErrOf result PdError.TooLong ↔ (65535 < length (message_octets message.now)) }
+    ensures too_long { IsErrOf result PdError.TooLong ↔ (MAX_OCTETS < length (message_octets message.now)) }
     ensures refused { IfErr result (λ e. (e ≡ PdError.TooLong) ⊎ (e ≡ PdError.Memory)) }
 {
     let size = size_of(message)?;

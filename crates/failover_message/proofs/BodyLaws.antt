@@ -1,7 +1,7 @@
 -- A body that is read is spelled so, and a body that is spelled is read again.
 use Rattle.std.proofs.Common.{◌≡◌, ℕ, ◌^◌, ◌≤◌, List, [], ◌∷◌, ◌++◌, Option, Some, refl, ap, subst, ◌∙◌, append_assoc, arith}
 use Rattle.std.specs.Int.{w32}
-use Rattle.text_fields.specs.Reading.{◌>>=◌}
+use Rattle.text_fields.specs.Parsing.{◌>>=◌}
 use Rattle.text_fields.proofs.Steps.{bind_some, some_is}
 use Rattle.prefix_range.specs.Prefix.{Prefix, IsPrefix}
 use Rattle.binding_rules.specs.declared.role.Role.{Role}
@@ -9,21 +9,21 @@ use Rattle.binding_rules.specs.declared.update.Status.{Status}
 use Rattle.binding_rules.specs.declared.update.Status.TheVariants.{Active, Expired, Released, Backup, Free}
 use Rattle.binding_rules.specs.declared.update.Update.{Update}
 use Rattle.binding_rules.specs.declared.update.BindReply.{BindReply}
-use Rattle.failover_message.specs.Frames.{number_octets, count_octets, prefix_octets, client_octets, status_code, verdict_code, role_code, update_octets, reply_octets, greeting_octets}
+use Rattle.failover_message.specs.declared.codes.TheConstants.{STATUSES, ACKNOWLEDGEMENTS, ROLES}
+use Rattle.failover_message.specs.Frames.{number_octets, count_octets, prefix_octets, client_octets, status_code, acknowledgement_code, role_code, update_octets, reply_octets, greeting_octets}
 use Rattle.binding_rules.specs.Messages.{has_client, latest_end, IsUpdate, IsReply}
-use Rattle.failover_message.specs.Reading.{limited_at, count_at, coded_at, prefix_at, holder_at, status_of, verdict_of, role_of, update_at, reply_at, greeting_at, contact_at}
+use Rattle.failover_message.specs.Parsing.{limited_at, count_at, coded_at, prefix_at, holder_at, update_at, reply_at, greeting_at, contact_at}
 use Rattle.failover_message.proofs.FieldLaws.{IsBytes, Takes, Takes-then, limited_takes, limited_again, coded_takes, coded_again}
-use Rattle.failover_message.proofs.CodeLaws.{status_takes, status_again, verdict_takes, verdict_again, role_takes, role_again}
+use Rattle.failover_message.proofs.CodeLaws.{statuses, acknowledgements, roles}
 use Rattle.failover_message.proofs.HolderLaws.{prefix_takes, prefix_again, holder_takes, holder_again}
 
 -- ---- one field, and what is read behind it
 
-coded_then : {A B : Type 0} (meaning : ℕ → Option A) (number : A → ℕ) → ((code : ℕ) (a : A) → meaning code ≡ Some a → code ≡ number a) → (bytes : List ℕ) (f : A × List ℕ → Option B) (y : B) → IsBytes bytes → (coded_at meaning bytes >>= f) ≡ Some y
-    → (x : A × List ℕ) × Takes bytes (number x.0 ∷ []) x.1 × (f x ≡ Some y)
-coded_then meaning number coded bytes f y fits e =
-    let s = bind_some (coded_at meaning bytes) f y e in
-    let t = coded_takes meaning bytes s.0 fits s.1 in
-    (s.0, subst (λ (n : ℕ). Takes bytes (n ∷ []) s.0.1) (coded t.0 s.0.0 t.2) t.1, s.2)
+coded_then : {A B : Type 0} (code_of : A → ℕ) (values : List A) (bytes : List ℕ) (f : A × List ℕ → Option B) (y : B) → IsBytes bytes → (coded_at code_of values bytes >>= f) ≡ Some y
+    → (x : A × List ℕ) × Takes bytes (code_of x.0 ∷ []) x.1 × (f x ≡ Some y)
+coded_then code_of values bytes f y fits e =
+    let s = bind_some (coded_at code_of values bytes) f y e in
+    (s.0, coded_takes code_of values bytes s.0 fits s.1, s.2)
 
 prefix_then : {B : Type 0} (bytes : List ℕ) (f : Prefix × List ℕ → Option B) (y : B) → IsBytes bytes → (prefix_at bytes >>= f) ≡ Some y
     → (x : Prefix × List ℕ) × Takes bytes (prefix_octets x.0) x.1 × IsPrefix x.0 × (f x ≡ Some y)
@@ -57,7 +57,7 @@ IsUpdateOf bytes x = Takes bytes (update_octets x.0) x.1 × IsUpdate x.0
 pub update_takes : (bytes : List ℕ) (x : Update × List ℕ) → IsBytes bytes → update_at bytes ≡ Some x → IsUpdateOf bytes x
 unfolding update_at
 update_takes bytes x fits e =
-    let status = coded_then status_of status_code status_takes bytes _ x fits e in
+    let status = coded_then status_code STATUSES bytes _ x fits e in
     let prefix = prefix_then status.0.1 _ x status.1.fits status.2 in
     let mine = limited_then (2 ^ 49) prefix.0.1 _ x prefix.1.fits prefix.3 in
     let seen = limited_then (2 ^ 49) mine.0.1 _ x mine.1.fits mine.3 in
@@ -77,7 +77,7 @@ update_again u rest h =
     let c = client_octets u.client in
     let regrouped : update_octets u ++ rest ≡ status_code u.status ∷ (p ++ (m ++ (s ++ (n ++ (i ++ (c ++ rest)))))) = ap (λ (w : List ℕ). status_code u.status ∷ w) (regroup p m s n i c rest) in
     ap update_at regrouped ∙ rw (
-      coded_again status_of (status_code u.status) u.status (p ++ (m ++ (s ++ (n ++ (i ++ (c ++ rest)))))) (status_again u.status),
+      coded_again status_code STATUSES statuses u.status (p ++ (m ++ (s ++ (n ++ (i ++ (c ++ rest)))))),
       prefix_again u.prefix (m ++ (s ++ (n ++ (i ++ (c ++ rest))))) h.prefix,
       count_again u.mine (s ++ (n ++ (i ++ (c ++ rest)))) h.mine,
       count_again u.seen (n ++ (i ++ (c ++ rest))) h.seen,
@@ -94,12 +94,12 @@ IsReplyOf bytes x = Takes bytes (reply_octets x.0) x.1 × IsReply x.0
 pub reply_takes : (bytes : List ℕ) (x : BindReply × List ℕ) → IsBytes bytes → reply_at bytes ≡ Some x → IsReplyOf bytes x
 unfolding reply_at
 reply_takes bytes x fits e =
-    let verdict = coded_then verdict_of verdict_code verdict_takes bytes _ x fits e in
-    let prefix = prefix_then verdict.0.1 _ x verdict.1.fits verdict.2 in
+    let acknowledgement = coded_then acknowledgement_code ACKNOWLEDGEMENTS bytes _ x fits e in
+    let prefix = prefix_then acknowledgement.0.1 _ x acknowledgement.1.fits acknowledgement.2 in
     let of = limited_then (2 ^ 49) prefix.0.1 _ x prefix.1.fits prefix.3 in
     let mine = limited_then (2 ^ 49) of.0.1 _ x of.1.fits of.3 in
     let seen = limited_then (2 ^ 49) mine.0.1 _ x mine.1.fits mine.3 in
-    subst (IsReplyOf bytes) (some_is _ _ seen.3) (Takes-then verdict.1 (Takes-then prefix.1 (Takes-then of.1 (Takes-then mine.1 seen.1))), record { prefix = prefix.2; of = of.2; mine = mine.2; seen = seen.2 })
+    subst (IsReplyOf bytes) (some_is _ _ seen.3) (Takes-then acknowledgement.1 (Takes-then prefix.1 (Takes-then of.1 (Takes-then mine.1 seen.1))), record { prefix = prefix.2; of = of.2; mine = mine.2; seen = seen.2 })
 
 pub reply_again : (r : BindReply) (rest : List ℕ) → IsReply r → reply_at (reply_octets r ++ rest) ≡ Some (r, rest)
 unfolding reply_at
@@ -108,9 +108,9 @@ reply_again r rest h =
     let o = count_octets r.of in
     let m = count_octets r.mine in
     let s = count_octets r.seen in
-    let regrouped : reply_octets r ++ rest ≡ verdict_code r.acknowledgement ∷ (p ++ (o ++ (m ++ (s ++ rest)))) = ap (λ (w : List ℕ). verdict_code r.acknowledgement ∷ w) (regroup p o m s rest) in
+    let regrouped : reply_octets r ++ rest ≡ acknowledgement_code r.acknowledgement ∷ (p ++ (o ++ (m ++ (s ++ rest)))) = ap (λ (w : List ℕ). acknowledgement_code r.acknowledgement ∷ w) (regroup p o m s rest) in
     ap reply_at regrouped ∙ rw (
-      coded_again verdict_of (verdict_code r.acknowledgement) r.acknowledgement (p ++ (o ++ (m ++ (s ++ rest)))) (verdict_again r.acknowledgement),
+      coded_again acknowledgement_code ACKNOWLEDGEMENTS acknowledgements r.acknowledgement (p ++ (o ++ (m ++ (s ++ rest)))),
       prefix_again r.prefix (o ++ (m ++ (s ++ rest))) h.prefix,
       count_again r.of (m ++ (s ++ rest)) h.of,
       count_again r.mine (s ++ rest) h.mine,
@@ -126,13 +126,13 @@ IsGreetingOf bytes x = Takes bytes (greeting_octets x.0.0 x.0.1) x.1 × (x.0.1 �
 pub greeting_takes : (bytes : List ℕ) (x : (Role × ℕ) × List ℕ) → IsBytes bytes → greeting_at bytes ≡ Some x → IsGreetingOf bytes x
 unfolding greeting_at
 greeting_takes bytes x fits e =
-    let role = coded_then role_of role_code role_takes bytes _ x fits e in
+    let role = coded_then role_code ROLES bytes _ x fits e in
     let last = limited_then (2 ^ 49) role.0.1 _ x role.1.fits role.2 in
     subst (IsGreetingOf bytes) (some_is _ _ last.3) (Takes-then role.1 last.1, last.2)
 
 pub greeting_again : (role : Role) (last : ℕ) (rest : List ℕ) → last ≤ 2 ^ 49 → greeting_at (greeting_octets role last ++ rest) ≡ Some ((role, last), rest)
 unfolding greeting_at
-greeting_again role last rest le = rw (coded_again role_of (role_code role) role (count_octets last ++ rest) (role_again role), count_again last rest le) refl
+greeting_again role last rest le = rw (coded_again role_code ROLES roles role (count_octets last ++ rest), count_again last rest le) refl
 
 abbrev pub IsContactOf : List ℕ → (ℕ × ℕ) × List ℕ → Type 0
 IsContactOf bytes x = Takes bytes (count_octets x.0.0 ++ count_octets x.0.1) x.1 × (x.0.0 ≤ 2 ^ 49) × (x.0.1 ≤ 2 ^ 49)

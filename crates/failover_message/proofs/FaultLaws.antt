@@ -8,7 +8,7 @@ use Rattle.failover_message.specs.declared.error.LinkError.{LinkError}
 use Rattle.failover_message.specs.declared.error.LinkError.TheVariants as errors
 use Rattle.failover_message.specs.declared.frame.Frame.{Frame}
 use Rattle.failover_message.specs.Frames.{number_octets, content_octets, frame_octets, is_length, IsFrame}
-use Rattle.failover_message.specs.Reading.{number_at, is_kind, fields_of, or_field, content_of, is_whole, behind_length, frame_of}
+use Rattle.failover_message.specs.Parsing.{number_at, is_kind, fields_of, or_field, content_of, is_whole, behind_length, frame_of}
 use Rattle.failover_message.specs.Faults.{length_of, IsMeasured, HasLength, HasKind, IsNoFrame}
 use Rattle.failover_message.proofs.FieldLaws.{IsBytes, IsBytes-drop, IsBytes-rest, wide32}
 use Rattle.failover_message.proofs.FrameLaws.{IsContent, fields_take, content_again, frame_takes}
@@ -93,8 +93,8 @@ pub record IsOfFrame (bytes : List ℕ) (found : Result Frame LinkError) : Type 
   pub fits : IsFrame frame
   pub is : found ≡ Ok frame
 
-abbrev pub Verdict : List ℕ → Result Frame LinkError → Type 0
-Verdict bytes found = IsNoLength bytes found ⊎ (IsOfNoKind bytes found ⊎ (IsOfNoField bytes found ⊎ IsOfFrame bytes found))
+abbrev pub Outcome : List ℕ → Result Frame LinkError → Type 0
+Outcome bytes found = IsNoLength bytes found ⊎ (IsOfNoKind bytes found ⊎ (IsOfNoField bytes found ⊎ IsOfFrame bytes found))
 
 no_frame : (bytes : List ℕ) → IsNoContent (drop 4 bytes) → IsNoFrame bytes
 no_frame bytes none = record { each = λ f h same. none.each f h (ap (drop 4) same ∙ drop_at (number_octets w32 (length (content_octets f))) (content_octets f) 4 (wide32.len (length (content_octets f)))) }
@@ -102,7 +102,7 @@ no_frame bytes none = record { each = λ f h same. none.each f h (ap (drop 4) sa
 pub headed : (bytes : List ℕ) → 4 < length bytes → drop 4 bytes ≡ get_or bytes 4 0 ∷ drop 5 bytes
 headed bytes lt = drop-cons bytes 4 0 lt
 
-behind : (bytes : List ℕ) → IsBytes bytes → HasLength bytes → frame_of bytes ≡ content_of (drop 4 bytes) → Verdict bytes (frame_of bytes)
+behind : (bytes : List ℕ) → IsBytes bytes → HasLength bytes → frame_of bytes ≡ content_of (drop 4 bytes) → Outcome bytes (frame_of bytes)
 behind bytes fits h is =
     let split = headed bytes (omega (arith, h.counts, h.measured.least)) in
     let fits-behind : IsBytes (get_or bytes 4 0 ∷ drop 5 bytes) = subst IsBytes split (IsBytes-drop 4 bytes fits) in
@@ -113,14 +113,14 @@ behind bytes fits h is =
       | inr (inr g) ↦ (let t = frame_takes bytes g.frame fits (same ∙ g.is) in inr (inr (inr (record { has_length = h; has_kind = record { least = g.is_code.least; most = g.is_code.most }; frame = g.frame; parts = t.0; fits = t.1; is = same ∙ g.is }))))
     ]
 
-long : (bytes : List ℕ) → IsBytes bytes → 4 ≤ length bytes → (b : Bool) → is_whole (length_of bytes, drop 4 bytes) ≡ b → frame_of bytes ≡ cond b (content_of (drop 4 bytes)) (Err errors.Length) → Verdict bytes (frame_of bytes)
+long : (bytes : List ℕ) → IsBytes bytes → 4 ≤ length bytes → (b : Bool) → is_whole (length_of bytes, drop 4 bytes) ≡ b → frame_of bytes ≡ cond b (content_of (drop 4 bytes)) (Err errors.Length) → Outcome bytes (frame_of bytes)
 long bytes fits le true e is =
     let t = both (is_length (length_of bytes)) (eqb (length (drop 4 bytes)) (length_of bytes)) e in
     let counts : length (drop 4 bytes) ≡ length_of bytes = eqb-true _ _ t.1 in
     behind bytes fits (record { measured = measured bytes le t.0; counts = omega (arith, counts, length-drop 4 bytes) }) is
 long bytes fits le false e is = inl (record { no_length = λ h. (let yes : is_whole (length_of bytes, drop 4 bytes) ≡ true = rw (is_measured bytes h.measured, eq-eqb (length (drop 4 bytes)) (length_of bytes) (omega (arith, h.counts, length-drop 4 bytes))) refl in let no = sym yes ∙ e in absurd cc); is = is })
 
-pub frame_found : (bytes : List ℕ) → IsBytes bytes → Verdict bytes (frame_of bytes)
+pub frame_found : (bytes : List ℕ) → IsBytes bytes → Outcome bytes (frame_of bytes)
 frame_found bytes fits =
     elim (cases_lt (length bytes) 4) [
       | inl lt ↦ inl (record { no_length = λ h. absurd (omega (arith, h.measured.field)); is = ap behind_length (number_none bytes lt) })
@@ -129,25 +129,25 @@ frame_found bytes fits =
 
 -- ---- each fault
 
-pub length_fault : (bytes : List ℕ) (found : Result Frame LinkError) → Verdict bytes found → (found ≡ Err errors.Length → HasLength bytes → ⊥) × ((HasLength bytes → ⊥) → found ≡ Err errors.Length)
+pub length_fault : (bytes : List ℕ) (found : Result Frame LinkError) → Outcome bytes found → (found ≡ Err errors.Length → HasLength bytes → ⊥) × ((HasLength bytes → ⊥) → found ≡ Err errors.Length)
 length_fault bytes found (inl v) = (λ e h. v.no_length h, λ n. v.is)
 length_fault bytes found (inr (inl v)) = (λ e h. (let x = sym v.is ∙ e in absurd cc), λ n. absurd (n v.has_length))
 length_fault bytes found (inr (inr (inl v))) = (λ e h. (let x = sym v.is ∙ e in absurd cc), λ n. absurd (n v.has_length))
 length_fault bytes found (inr (inr (inr v))) = (λ e h. (let x = sym v.is ∙ e in absurd cc), λ n. absurd (n v.has_length))
 
-pub kind_fault : (bytes : List ℕ) (found : Result Frame LinkError) → Verdict bytes found → (found ≡ Err errors.Kind → HasLength bytes × (HasKind bytes → ⊥)) × (HasLength bytes × (HasKind bytes → ⊥) → found ≡ Err errors.Kind)
+pub kind_fault : (bytes : List ℕ) (found : Result Frame LinkError) → Outcome bytes found → (found ≡ Err errors.Kind → HasLength bytes × (HasKind bytes → ⊥)) × (HasLength bytes × (HasKind bytes → ⊥) → found ≡ Err errors.Kind)
 kind_fault bytes found (inl v) = (λ e. (let x = sym v.is ∙ e in absurd cc), λ n. absurd (v.no_length n.0))
 kind_fault bytes found (inr (inl v)) = (λ e. (v.has_length, v.no_kind), λ n. v.is)
 kind_fault bytes found (inr (inr (inl v))) = (λ e. (let x = sym v.is ∙ e in absurd cc), λ n. absurd (n.1 v.has_kind))
 kind_fault bytes found (inr (inr (inr v))) = (λ e. (let x = sym v.is ∙ e in absurd cc), λ n. absurd (n.1 v.has_kind))
 
-pub field_fault : (bytes : List ℕ) (found : Result Frame LinkError) → Verdict bytes found → (found ≡ Err errors.Field → HasLength bytes × HasKind bytes × IsNoFrame bytes) × (HasLength bytes × HasKind bytes × IsNoFrame bytes → found ≡ Err errors.Field)
+pub field_fault : (bytes : List ℕ) (found : Result Frame LinkError) → Outcome bytes found → (found ≡ Err errors.Field → HasLength bytes × HasKind bytes × IsNoFrame bytes) × (HasLength bytes × HasKind bytes × IsNoFrame bytes → found ≡ Err errors.Field)
 field_fault bytes found (inl v) = (λ e. (let x = sym v.is ∙ e in absurd cc), λ n. absurd (v.no_length n.0))
 field_fault bytes found (inr (inl v)) = (λ e. (let x = sym v.is ∙ e in absurd cc), λ n. absurd (v.no_kind n.1))
 field_fault bytes found (inr (inr (inl v))) = (λ e. (v.has_length, v.has_kind, v.none), λ n. v.is)
 field_fault bytes found (inr (inr (inr v))) = (λ e. (let x = sym v.is ∙ e in absurd cc), λ n. absurd (n.2.each v.frame v.fits v.parts))
 
-pub no_memory : (bytes : List ℕ) (found : Result Frame LinkError) → Verdict bytes found → found ≢ Err errors.Memory
+pub no_memory : (bytes : List ℕ) (found : Result Frame LinkError) → Outcome bytes found → found ≢ Err errors.Memory
 no_memory bytes found (inl v) e = let x = sym v.is ∙ e in absurd cc
 no_memory bytes found (inr (inl v)) e = let x = sym v.is ∙ e in absurd cc
 no_memory bytes found (inr (inr (inl v))) e = let x = sym v.is ∙ e in absurd cc

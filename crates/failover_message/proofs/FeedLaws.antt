@@ -8,7 +8,7 @@ use Rattle.failover_message.specs.declared.frame.Frame.{Frame}
 use Rattle.failover_message.specs.Stream.{Splits, Breaks}
 use Rattle.failover_message.proofs.StreamLaws.{one_split, not_both, one_fault}
 
--- the octets held and a piece, as one list
+-- the octets held and a chunk, as one list
 pub given_only : (joined stream : List ℕ) (given : List Frame) (left : List ℕ) → joined ≡ stream → Splits joined given left → (frames : List Frame) (rest : List ℕ) → Splits stream frames rest → (given ≡ frames) × (left ≡ rest)
 given_only joined stream given left same s frames rest t = one_split stream given frames left rest (subst (λ (x : List ℕ). Splits x given left) same s) t
 

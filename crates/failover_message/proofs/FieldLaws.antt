@@ -1,12 +1,14 @@
 -- A field that is read is spelled so, and a field that is spelled is read again.
-use Rattle.std.proofs.Common.{◌≡◌, ℕ, suc, ◌+◌, ◌^◌, ◌<◌, ◌≤◌, Bool, true, false, cond, ltb, leb, List, [], ◌∷◌, ◌++◌, length, get_or, take, drop, Option, Some, None, refl, sym, ap, subst, ◌∙◌, append_assoc, arith, inl, inr}
+use Rattle.std.proofs.Common.{◌≡◌, ℕ, suc, ◌+◌, ◌^◌, ◌<◌, ◌≤◌, Bool, true, false, cond, eqb, ltb, leb, List, [], ◌∷◌, ◌++◌, length, get_or, take, drop, Some, None, refl, sym, ap, subst, ◌∙◌, append_assoc, arith, inl, inr}
+use Rattle.std.specs.List.{find}
 use Rattle.std.specs.Int.{Width, w32, w64, w128, byte_len, from_be_bytes}
-use Rattle.std.proofs.lemmas.Bool.{cases_lt, ltb-false, le-ltb, leb-true, le-leb}
+use Rattle.std.proofs.lemmas.Bool.{cases_lt, eqb-true, ltb-false, le-ltb, leb-true, le-leb}
 use Rattle.std.proofs.lemmas.List.{take_at, drop_at, take-append-drop, length-append, length-take, get_or-drop, get_or-take, get_or_past}
 use Rattle.std.proofs.lemmas.Nat.{be_bytes_4, be_bytes_8, from_be_bytes-to_be_bytes_4, from_be_bytes-to_be_bytes_8}
 use Rattle.text_fields.proofs.Steps.{bind_some, map_some, some_is, chosen}
 use Rattle.failover_message.specs.Frames.{number_octets, count_octets}
-use Rattle.failover_message.specs.Reading.{number_at, limited_at, octets_at, coded_at}
+use Rattle.failover_message.specs.Parsing.{number_at, limited_at, octets_at, coded_at}
+use Rattle.failover_message.proofs.CodeLaws.{IsTable}
 use Rattle.failover_message.proofs.Sixteen.{be_octets_16, from_be_octets_16}
 
 -- each is an octet
@@ -106,16 +108,26 @@ limited_again limit n rest le lt = rw (number_again w64 (2 ^ 64) wide64 n rest l
 
 -- ---- codes and rows of octets
 
-pub coded_takes : {A : Type 0} (meaning : ℕ → Option A) (bytes : List ℕ) (x : A × List ℕ) → IsBytes bytes → coded_at meaning bytes ≡ Some x → (code : ℕ) × Takes bytes (code ∷ []) x.1 × (meaning code ≡ Some x.0)
-unfolding coded_at
-coded_takes meaning [] x fits e = absurd (none_is x e)
-coded_takes {A} meaning (code ∷ bytes) x fits e =
-    let m = map_some (meaning code) (λ a. (a, bytes)) x e in
-    subst (λ (y : A × List ℕ). (c : ℕ) × Takes (code ∷ bytes) (c ∷ []) y.1 × (meaning c ≡ Some y.0)) m.2 (code, record { parts = refl; fits = IsBytes-rest code bytes fits }, m.1)
+-- what is found passes the test
+pub found_passes : {A : Type 0} (test : A → Bool) (xs : List A) (y : A) → find test xs ≡ Some y → test y ≡ true
+found_passes test [] y e = absurd cc
+found_passes {A} test (x ∷ xs) y e = by (test x) refl (found_passes test xs y) e
+  where
+    by : (b : Bool) → test x ≡ b → (find test xs ≡ Some y → test y ≡ true) → cond b (Some x) (find test xs) ≡ Some y → test y ≡ true
+    by true is later e = ap test (sym (some_is x y e)) ∙ is
+    by false is later e = later e
 
-pub coded_again : {A : Type 0} (meaning : ℕ → Option A) (code : ℕ) (a : A) (rest : List ℕ) → meaning code ≡ Some a → coded_at meaning (code ∷ rest) ≡ Some (a, rest)
+pub coded_takes : {A : Type 0} (code_of : A → ℕ) (values : List A) (bytes : List ℕ) (x : A × List ℕ) → IsBytes bytes → coded_at code_of values bytes ≡ Some x → Takes bytes (code_of x.0 ∷ []) x.1
 unfolding coded_at
-coded_again meaning code a rest is = rw is refl
+coded_takes code_of values [] x fits e = absurd (none_is x e)
+coded_takes {A} code_of values (code ∷ bytes) x fits e =
+    let m = map_some (find (λ value. eqb (code_of value) code) values) (λ value. (value, bytes)) x e in
+    let is : code_of m.0 ≡ code = eqb-true _ _ (found_passes (λ value. eqb (code_of value) code) values m.0 m.1) in
+    subst (λ (y : A × List ℕ). Takes (code ∷ bytes) (code_of y.0 ∷ []) y.1) m.2 (record { parts = ap (λ (n : ℕ). n ∷ bytes) (sym is); fits = IsBytes-rest code bytes fits })
+
+pub coded_again : {A : Type 0} (code_of : A → ℕ) (values : List A) → IsTable code_of values → (a : A) (rest : List ℕ) → coded_at code_of values (code_of a ∷ rest) ≡ Some (a, rest)
+unfolding coded_at
+coded_again code_of values table a rest = rw (table a) refl
 
 pub octets_take : (n : ℕ) (bytes : List ℕ) (x : List ℕ × List ℕ) → IsBytes bytes → octets_at n bytes ≡ Some x → Takes bytes x.0 x.1 × (length x.0 ≡ n) × IsBytes x.0
 unfolding octets_at

@@ -9,7 +9,7 @@ use Rattle.failover_message.specs.declared.frame.FrameKind.{FrameKind}
 use Rattle.failover_message.specs.declared.frame.FrameKind.TheVariants.{BindingUpdate, BindingReply, PoolRequest, PoolResponse, UpdateRequest, UpdateRequestAll, UpdateDone, Connect, ConnectReply, Disconnect, State, Contact}
 use Rattle.failover_message.specs.declared.frame.Frame.{Frame}
 use Rattle.failover_message.specs.Frames.{number_octets, count_octets, kind_code, body_octets, content_octets, frame_octets, is_numbered, is_length, IsSerial, IsFrame}
-use Rattle.failover_message.specs.Reading.{number_at, kind_at, is_serial, is_kind, fields_of, or_field, content_of, is_whole, behind_length, frame_of}
+use Rattle.failover_message.specs.Parsing.{number_at, kind_at, is_serial, is_kind, fields_of, or_field, content_of, is_whole, behind_length, frame_of}
 use Rattle.failover_message.proofs.FieldLaws.{IsBytes, IsBytes-rest, Takes, Takes-then, wide32, number_takes, number_again}
 use Rattle.failover_message.proofs.BodyLaws.{limited_then, count_again}
 use Rattle.failover_message.proofs.KindLaws.{kind_takes, kind_again}

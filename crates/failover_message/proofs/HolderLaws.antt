@@ -3,7 +3,7 @@ use Rattle.std.proofs.Common.{◌≡◌, ℕ, ◌%◌, ◌^◌, ◌<◌, Bool, t
 use Rattle.std.specs.Prelude.{option_map}
 use Rattle.std.specs.Int.{w32, w128}
 use Rattle.std.proofs.lemmas.Bool.{eqb-true, eq-eqb, leb-true, le-leb, ltb-false, le-ltb}
-use Rattle.text_fields.specs.Reading.{◌>>=◌}
+use Rattle.text_fields.specs.Parsing.{◌>>=◌}
 use Rattle.text_fields.proofs.Steps.{bind_some, map_some, some_is, chosen}
 use Rattle.client_id.specs.declared.error.ClientIdError.TheVariants.{TooShort, TooLong}
 use Rattle.client_id.specs.Duid.{IsDuid, duid_in, found_duid}
@@ -12,7 +12,7 @@ use Rattle.prefix_range.specs.Prefix.{Prefix, IsPrefix, size_of}
 use Rattle.prefix_range.specs.Text.{made}
 use Rattle.failover_message.specs.Frames.{number_octets, prefix_octets, client_octets}
 use Rattle.binding_rules.specs.Messages.{IsHeld}
-use Rattle.failover_message.specs.Reading.{number_at, octets_at, prefix_at, somebody_at, nobody_at, holder_at}
+use Rattle.failover_message.specs.Parsing.{number_at, octets_at, prefix_at, somebody_at, nobody_at, holder_at}
 use Rattle.failover_message.proofs.FieldLaws.{IsBytes, IsBytes-rest, Takes, Takes-then, none_is, wide32, wide128, number_takes, number_again, octets_take, octets_again}
 
 -- ---- prefixes

@@ -1,4 +1,4 @@
--- Pieces one behind another are one stream.
+-- Chunks one behind another are one stream.
 use Rattle.std.proofs.Common.{◌≡◌, ℕ, List, [], ◌∷◌, ◌++◌, refl, sym, ap, subst, ◌∙◌, append_assoc, append-nil, arith}
 use Rattle.std.specs.List.{flat_map, AllByRecursion}
 use Rattle.std.proofs.lemmas.List.Concat.{flat_map-cons}
@@ -7,8 +7,8 @@ use Rattle.text_fields.proofs.OctetLaws.{octets_are_bytes}
 use Rattle.failover_message.specs.declared.error.LinkError.{LinkError}
 use Rattle.failover_message.specs.declared.frame.Frame.{Frame}
 use Rattle.failover_message.specs.Frames.{frame_octets, IsFrame}
-use Rattle.failover_message.specs.Reading.{next_of}
-use Rattle.failover_message.specs.Stream.{IsPartial, stream_of, Splits, Breaks, Feeds, pieces_of, frames_of}
+use Rattle.failover_message.specs.Parsing.{next_of}
+use Rattle.failover_message.specs.Stream.{IsPartial, stream_of, Splits, Breaks, Fed, Feeds, chunks_of, frames_of}
 use Rattle.failover_message.proofs.NextLaws.{frame_next}
 use Rattle.failover_message.proofs.StreamLaws.{all_append, stream_append, IsEnd, fault_end, same_first, first_of, broken_bytes}
 
@@ -24,19 +24,19 @@ behind_rest : (stream more : List ℕ) (frames others : List Frame) (rest end : 
 behind_rest stream more frames others rest end a b =
     ap (λ (w : List ℕ). w ++ more) a ∙ append_assoc (flat_map frame_octets frames) rest more ∙ ap (λ (w : List ℕ). flat_map frame_octets frames ++ w) b ∙ sym (stream_append frames others end)
 
-joined : (held : List ℕ) (feds : List (List ℕ × List Frame)) (rest : List ℕ) → IsPartial held → Feeds held feds rest → Splits (held ++ pieces_of feds) (frames_of feds) rest
+joined : (held : List ℕ) (feds : List Fed) (rest : List ℕ) → IsPartial held → Feeds held feds rest → Splits (held ++ chunks_of feds) (frames_of feds) rest
 joined held [] rest p h = record { whole = append-nil held ∙ sym h; each = tt; partial = subst IsPartial (sym h) p }
 joined held (fed ∷ feds) rest p h =
     let s = h.1 in
     let more = joined h.0 feds rest s.partial h.2 in
-    let stream : (held ++ fed.0) ++ pieces_of feds ≡ stream_of (fed.1 ++ frames_of feds) rest = behind_rest (held ++ fed.0) (pieces_of feds) fed.1 (frames_of feds) h.0 rest s.whole more.whole in
-    let pieces : held ++ pieces_of (fed ∷ feds) ≡ (held ++ fed.0) ++ pieces_of feds = ap (λ (w : List ℕ). held ++ w) (flat_map-cons (λ (x : List ℕ × List Frame). x.0) fed feds) ∙ sym (append_assoc held fed.0 (pieces_of feds)) in
-    let frames : frames_of (fed ∷ feds) ≡ fed.1 ++ frames_of feds = flat_map-cons (λ (x : List ℕ × List Frame). x.1) fed feds in
-    let all : Splits (held ++ pieces_of (fed ∷ feds)) (fed.1 ++ frames_of feds) rest = record { whole = pieces ∙ stream; each = all_append IsFrame fed.1 (frames_of feds) s.each more.each; partial = more.partial } in
-    subst (λ (fs : List Frame). Splits (held ++ pieces_of (fed ∷ feds)) fs rest) (sym frames) all
+    let stream : (held ++ fed.0) ++ chunks_of feds ≡ stream_of (fed.1 ++ frames_of feds) rest = behind_rest (held ++ fed.0) (chunks_of feds) fed.1 (frames_of feds) h.0 rest s.whole more.whole in
+    let chunks : held ++ chunks_of (fed ∷ feds) ≡ (held ++ fed.0) ++ chunks_of feds = ap (λ (w : List ℕ). held ++ w) (flat_map-cons (λ (x : Fed). x.0) fed feds) ∙ sym (append_assoc held fed.0 (chunks_of feds)) in
+    let frames : frames_of (fed ∷ feds) ≡ fed.1 ++ frames_of feds = flat_map-cons (λ (x : Fed). x.1) fed feds in
+    let all : Splits (held ++ chunks_of (fed ∷ feds)) (fed.1 ++ frames_of feds) rest = record { whole = chunks ∙ stream; each = all_append IsFrame fed.1 (frames_of feds) s.each more.each; partial = more.partial } in
+    subst (λ (fs : List Frame). Splits (held ++ chunks_of (fed ∷ feds)) fs rest) (sym frames) all
 
-pub pieces_are_one : (feds : List (List ℕ × List Frame)) (rest : List ℕ) → Feeds [] feds rest → Splits (pieces_of feds) (frames_of feds) rest
-pieces_are_one feds rest h = joined [] feds rest nothing_partial h
+pub chunks_are_one : (feds : List Fed) (rest : List ℕ) → Feeds [] feds rest → Splits (chunks_of feds) (frames_of feds) rest
+chunks_are_one feds rest h = joined [] feds rest nothing_partial h
 
 -- ---- faults
 
@@ -53,18 +53,18 @@ peeled (f ∷ fs) (g ∷ gs) t q e a b j =
     let more = peeled fs gs t q same.1 a.1 b.1 j in
     (more.0, ap (λ (h : Frame). h ∷ gs) (sym same.0) ∙ ap (λ (hs : List Frame). f ∷ hs) more.1, more.2)
 
-pub fault_of_stream : (stream piece rest : List ℕ) (frames : List Frame) (fault : LinkError) → Splits stream frames rest → Breaks (rest ++ piece) fault → Breaks (stream ++ piece) fault
-fault_of_stream stream piece rest frames fault s b = record {
+pub fault_of_stream : (stream chunk rest : List ℕ) (frames : List Frame) (fault : LinkError) → Splits stream frames rest → Breaks (rest ++ chunk) fault → Breaks (stream ++ chunk) fault
+fault_of_stream stream chunk rest frames fault s b = record {
   frames = frames ++ b.frames;
   rest = b.rest;
-  whole = behind_rest stream piece frames b.frames rest b.rest s.whole b.whole;
+  whole = behind_rest stream chunk frames b.frames rest b.rest s.whole b.whole;
   each = all_append IsFrame frames b.frames s.each b.each;
   faulty = b.faulty;
 }
 
-pub fault_of_rest : (stream piece rest : List ℕ) (frames : List Frame) (fault : LinkError) → AreOctets (stream ++ piece) → Splits stream frames rest → Breaks (stream ++ piece) fault → Breaks (rest ++ piece) fault
-fault_of_rest stream piece rest frames fault octets s b =
-    let bytes = broken_bytes (stream ++ piece) fault (octets_are_bytes (stream ++ piece) octets) b in
-    let cut : stream_of frames (rest ++ piece) ≡ stream_of b.frames b.rest = sym (append_assoc (flat_map frame_octets frames) rest piece) ∙ ap (λ (w : List ℕ). w ++ piece) (sym s.whole) ∙ b.whole in
-    let p = peeled frames b.frames (rest ++ piece) b.rest cut s.each b.each (fault_end b.rest fault bytes b.faulty) in
+pub fault_of_rest : (stream chunk rest : List ℕ) (frames : List Frame) (fault : LinkError) → AreOctets (stream ++ chunk) → Splits stream frames rest → Breaks (stream ++ chunk) fault → Breaks (rest ++ chunk) fault
+fault_of_rest stream chunk rest frames fault octets s b =
+    let bytes = broken_bytes (stream ++ chunk) fault (octets_are_bytes (stream ++ chunk) octets) b in
+    let cut : stream_of frames (rest ++ chunk) ≡ stream_of b.frames b.rest = sym (append_assoc (flat_map frame_octets frames) rest chunk) ∙ ap (λ (w : List ℕ). w ++ chunk) (sym s.whole) ∙ b.whole in
+    let p = peeled frames b.frames (rest ++ chunk) b.rest cut s.each b.each (fault_end b.rest fault bytes b.faulty) in
     record { frames = p.0; rest = b.rest; whole = p.2; each = last_of IsFrame frames p.0 (subst (AllByRecursion IsFrame) p.1 b.each); faulty = b.faulty }

@@ -1,14 +1,25 @@
 -- The body of a kind: what is read is spelled so, and what is spelled is read again.
-use Rattle.std.proofs.Common.{◌≡◌, ℕ, ◌^◌, List, [], ◌∷◌, ◌++◌, Option, Some, None, refl, sym, ap, subst}
+use Rattle.std.proofs.Common.{◌≡◌, ℕ, ◌^◌, Bool, true, false, cond, eqb, List, [], ◌++◌, Option, Some, None, refl, sym, ap, subst}
+use Rattle.std.proofs.lemmas.Bool.{eqb-true}
 use Rattle.std.specs.Int.{w32}
 use Rattle.text_fields.proofs.Steps.{some_is}
 use Rattle.failover_message.specs.declared.frame.FrameKind.{FrameKind}
 use Rattle.failover_message.specs.declared.frame.FrameKind.TheVariants.{BindingUpdate, BindingReply, PoolRequest, PoolResponse, UpdateRequest, UpdateRequestAll, UpdateDone, Connect, ConnectReply, Disconnect, State, Contact}
+use Rattle.failover_message.specs.declared.codes.TheConstants.{STATES}
 use Rattle.failover_message.specs.Frames.{kind_code, state_code, body_octets, IsBody}
-use Rattle.failover_message.specs.Reading.{number_at, coded_at, state_of, update_at, reply_at, greeting_at, contact_at, within, kind_at}
+use Rattle.text_fields.specs.Parsing.{within}
+use Rattle.failover_message.specs.Parsing.{number_at, coded_at, update_at, reply_at, greeting_at, contact_at, kind_at}
 use Rattle.failover_message.proofs.FieldLaws.{IsBytes, Takes, wide32, number_takes, number_again, coded_takes, coded_again}
-use Rattle.failover_message.proofs.CodeLaws.{tried, state_takes, state_again}
+use Rattle.failover_message.proofs.CodeLaws.{states}
 use Rattle.failover_message.proofs.BodyLaws.{update_takes, update_again, reply_takes, reply_again, greeting_takes, greeting_again, contact_takes, contact_again}
+
+-- the code is this number and stands for this, or another is tried
+pub tried : {A P : Type 0} (code n : ℕ) (o other : Option A) (y : A) → (code ≡ n → o ≡ Some y → P) → (other ≡ Some y → P) → cond (eqb code n) o other ≡ Some y → P
+tried {P = P} code n o other y here later e = by (eqb code n) (eqb-true code n) e
+  where
+    by : (b : Bool) → (b ≡ true → code ≡ n) → cond b o other ≡ Some y → P
+    by true is e = here (is refl) e
+    by false is e = later e
 
 -- octets of a kind with this code, and those that are left
 pub record IsKindOf (code : ℕ) (bytes : List ℕ) (x : FrameKind × List ℕ) : Type 0 where
@@ -42,7 +53,7 @@ kind_takes code bytes x fits e =
     tried code 8 _ _ x (λ is. part code bytes x (λ g. Connect g.0 g.1) (greeting_at bytes) (λ y found. (let t = greeting_takes bytes y fits found in record { named = is; takes = t.0; body = t.1 }))) (
     tried code 9 _ _ x (λ is. part code bytes x (λ g. ConnectReply g.0 g.1) (greeting_at bytes) (λ y found. (let t = greeting_takes bytes y fits found in record { named = is; takes = t.0; body = t.1 }))) (
     tried code 10 _ _ x (λ is. bare code bytes x Disconnect fits is refl tt) (
-    tried code 11 _ _ x (λ is. part code bytes x (λ s. State s) (coded_at state_of bytes) (λ y found. (let t = coded_takes state_of bytes y fits found in record { named = is; takes = subst (λ (n : ℕ). Takes bytes (n ∷ []) y.1) (state_takes t.0 y.0 t.2) t.1; body = tt }))) (
+    tried code 11 _ _ x (λ is. part code bytes x (λ s. State s) (coded_at state_code STATES bytes) (λ y found. record { named = is; takes = coded_takes state_code STATES bytes y fits found; body = tt })) (
     tried code 12 _ _ x (λ is. part code bytes x (λ c. Contact c.0 c.1) (contact_at bytes) (λ y found. (let t = contact_takes bytes y fits found in record { named = is; takes = t.0; body = (t.1, t.2) }))) (
     λ none. absurd cc
     )))))))))))) e
@@ -59,5 +70,5 @@ kind_again UpdateDone rest h = refl
 kind_again (Connect role last) rest h = rw (greeting_again role last rest h) refl
 kind_again (ConnectReply role last) rest h = rw (greeting_again role last rest h) refl
 kind_again Disconnect rest h = refl
-kind_again (State state) rest h = rw (coded_again state_of (state_code state) state rest (state_again state)) refl
+kind_again (State state) rest h = rw (coded_again state_code STATES states state rest) refl
 kind_again (Contact ask answer) rest h = rw (contact_again ask answer rest h.0 h.1) refl

@@ -10,5 +10,5 @@ mod FaultLaws
 mod NextLaws
 mod StreamLaws
 mod FeedLaws
-mod PieceLaws
+mod ChunkLaws
 mod JoinLaws

@@ -7,7 +7,7 @@ use Rattle.failover_message.specs.declared.error.LinkError.{LinkError}
 use Rattle.failover_message.specs.declared.error.LinkError.TheVariants as errors
 use Rattle.failover_message.specs.declared.frame.Frame.{Frame}
 use Rattle.failover_message.specs.Frames.{number_octets, content_octets, frame_octets, is_length, IsFrame}
-use Rattle.failover_message.specs.Reading.{octets_at, content_of, behind_length, frame_of, frame_then, content_then, next_behind, next_of}
+use Rattle.failover_message.specs.Parsing.{octets_at, content_of, behind_length, frame_of, frame_then, content_then, next_behind, next_of}
 use Rattle.failover_message.specs.Faults.{length_of, IsMeasured, HasLength, HasKind}
 use Rattle.failover_message.specs.Stream.{IsPartial, HasFrame, IsFaulty}
 use Rattle.failover_message.proofs.FieldLaws.{IsBytes, IsBytes-drop, IsBytes-take, wide32, number_again, octets_again}

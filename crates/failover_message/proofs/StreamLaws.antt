@@ -1,4 +1,4 @@
--- A stream has one reading, however it is cut into pieces.
+-- A stream has one reading, however it is cut into chunks.
 use Rattle.std.proofs.Common.{◌≡◌, ◌≢◌, ℕ, suc, ◌+◌, ◌-◌, ◌<◌, ◌≤◌, List, [], ◌∷◌, ◌++◌, length, drop, Option, Some, None, Result, Ok, Err, refl, sym, ap, subst, ◌∙◌, append_assoc, arith, inl, inr}
 use Rattle.std.specs.List.{flat_map, AllByRecursion}
 use Rattle.std.proofs.lemmas.List.{length-append, drop_at}
@@ -7,7 +7,7 @@ use Rattle.std.proofs.lemmas.Grind.{flat_map-append}
 use Rattle.failover_message.specs.declared.error.LinkError.{LinkError}
 use Rattle.failover_message.specs.declared.frame.Frame.{Frame}
 use Rattle.failover_message.specs.Frames.{frame_octets, IsFrame}
-use Rattle.failover_message.specs.Reading.{next_of, Next}
+use Rattle.failover_message.specs.Parsing.{next_of, Next}
 use Rattle.failover_message.specs.Stream.{IsPartial, stream_of, Splits, IsFaulty, Breaks}
 use Rattle.failover_message.proofs.FieldLaws.{IsBytes}
 use Rattle.failover_message.proofs.NextLaws.{comes, frame_next, partial_next, fault_next}

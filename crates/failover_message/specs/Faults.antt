@@ -2,6 +2,7 @@
 use Rattle.std.specs.Prelude.{◌≡◌, ◌≢◌, ℕ, ◌+◌, ◌≤◌, List, length, take, slice_index}
 use Rattle.std.specs.Int.{w32, from_be_bytes}
 use Rattle.failover_message.specs.declared.frame.Frame.{Frame}
+use Rattle.failover_message.specs.declared.frame.TheConstants.{MIN_LENGTH, MAX_LENGTH}
 use Rattle.failover_message.specs.Frames.{frame_octets, IsFrame}
 
 -- what the length field says
@@ -11,8 +12,8 @@ length_of octets = from_be_bytes w32 (take 4 octets)
 -- the length field is whole and in its range
 pub record IsMeasured (octets : List ℕ) : Type 0 where
   pub field : 4 ≤ length octets
-  pub least : 13 ≤ length_of octets
-  pub most : length_of octets ≤ 512
+  pub least : MIN_LENGTH ≤ length_of octets
+  pub most : length_of octets ≤ MAX_LENGTH
 
 -- the length field also counts the octets behind it
 pub record HasLength (octets : List ℕ) : Type 0 where

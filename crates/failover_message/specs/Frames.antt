@@ -1,5 +1,5 @@
--- The frames of the link, octet by octet, in network byte order. The kinds have the names of RFC 8156, section 5; their layout is this
--- project's own.
+-- The frames of the link, octet by octet, in network byte order. The kinds have the names of RFC 8156, section 5;
+-- their layout is this project's own.
 use Rattle.std.specs.Prelude.{◌≡◌, ℕ, ◌^◌, ◌<◌, ◌≤◌, Bool, true, false, List, [], ◌∷◌, ◌++◌, length, Option, Some, None, ◌&&◌, nat_le}
 use Rattle.std.specs.Int.{Width, w32, w64, w128, to_be_bytes}
 use Rattle.prefix_range.specs.Prefix.{Prefix}
@@ -12,13 +12,14 @@ use Rattle.binding_rules.specs.declared.update.Acknowledgement.TheVariants.{Acce
 use Rattle.binding_rules.specs.declared.update.Update.{Update}
 use Rattle.binding_rules.specs.declared.update.BindReply.{BindReply}
 use Rattle.binding_rules.specs.Messages.{IsUpdate, IsReply}
-use Rattle.failover_message.specs.declared.frame.ServerState.{ServerState}
-use Rattle.failover_message.specs.declared.frame.ServerState.TheVariants.{Normal, Interrupted, Down}
+use Rattle.binding_rules.specs.declared.message.ServerState.{ServerState}
+use Rattle.binding_rules.specs.declared.message.ServerState.TheVariants.{Normal, Interrupted, Down}
 use Rattle.failover_message.specs.declared.frame.FrameKind.{FrameKind}
 use Rattle.failover_message.specs.declared.frame.FrameKind.TheVariants.{BindingUpdate, BindingReply, PoolRequest, PoolResponse, UpdateRequest, UpdateRequestAll, UpdateDone, Connect, ConnectReply, Disconnect, State, Contact}
 use Rattle.failover_message.specs.declared.frame.Frame.{Frame}
+use Rattle.failover_message.specs.declared.frame.TheConstants.{MIN_LENGTH, MAX_LENGTH}
 
--- ---- codes
+-- ---- codes: each takes one octet
 
 abbrev pub status_code : Status → ℕ
 status_code Active = 1
@@ -27,9 +28,9 @@ status_code Released = 3
 status_code Backup = 4
 status_code Free = 5
 
-abbrev pub verdict_code : Acknowledgement → ℕ
-verdict_code Accept = 1
-verdict_code Reject = 2
+abbrev pub acknowledgement_code : Acknowledgement → ℕ
+acknowledgement_code Accept = 1
+acknowledgement_code Reject = 2
 
 abbrev pub role_code : Role → ℕ
 role_code Primary = 1
@@ -74,10 +75,14 @@ client_octets None = 0 ∷ []
 client_octets (Some client) = length client ∷ client
 
 abbrev pub update_octets : Update → List ℕ
-update_octets u = status_code u.status ∷ (prefix_octets u.prefix ++ (count_octets u.mine ++ (count_octets u.seen ++ (count_octets u.end ++ (number_octets w32 u.iaid ++ client_octets u.client)))))
+update_octets u =
+    status_code u.status ∷ (prefix_octets u.prefix ++ (count_octets u.mine ++ (count_octets u.seen
+    ++ (count_octets u.end ++ (number_octets w32 u.iaid ++ client_octets u.client)))))
 
 abbrev pub reply_octets : BindReply → List ℕ
-reply_octets r = verdict_code r.acknowledgement ∷ (prefix_octets r.prefix ++ (count_octets r.of ++ (count_octets r.mine ++ count_octets r.seen)))
+reply_octets r =
+    acknowledgement_code r.acknowledgement ∷ (prefix_octets r.prefix ++ (count_octets r.of
+    ++ (count_octets r.mine ++ count_octets r.seen)))
 
 abbrev pub greeting_octets : Role → ℕ → List ℕ
 greeting_octets role last = role_code role ∷ count_octets last
@@ -134,4 +139,4 @@ pub record IsFrame (f : Frame) : Type 0 where
 
 -- how many octets may follow the length field
 abbrev pub is_length : ℕ → Bool
-is_length n = nat_le 13 n && nat_le n 512
+is_length n = nat_le MIN_LENGTH n && nat_le n MAX_LENGTH

@@ -1,5 +1,5 @@
 pub mod Frames
-pub mod Reading
+pub mod Parsing
 pub mod Faults
 pub mod Stream
 pub mod Laws

@@ -1,18 +1,20 @@
-//! The bodies of frames, read from their octets.
+//! The bodies of frames, taken from their octets.
 
 ghost use Rattle.std.specs.Prelude.{◌≡◌};
-ghost use Rattle.failover_message.specs.Reading.{Moves, update_at, reply_at, greeting_at, contact_at, within, kind_at};
+ghost use Rattle.text_fields.specs.Parsing.{Moves, within};
+ghost use Rattle.failover_message.specs.Parsing.{update_at, reply_at, greeting_at, contact_at, kind_at};
 
-use crate::fields;
 use crate::frame::FrameKind;
 use crate::octets::Octets;
+use crate::{codes, fields};
 use binding_rules::{BindReply, Counter, Role, Update};
 
-#[tactic(auto, unfolding(crate::specs::Reading::update_at))]
+/// What a unit became.
+#[tactic(auto, unfolding(crate::specs::Parsing::update_at))]
 fn update(octets: &mut Octets<'_>) -> Option<Update>
     ensures { Moves (λ u. u) result octets.new (update_at octets.old) }
 {
-    let status = fields::status(octets)?;
+    let status = codes::status(octets)?;
     let prefix = octets.prefix()?;
     let mine = octets.count()?;
     let seen = octets.count()?;
@@ -29,11 +31,12 @@ fn update(octets: &mut Octets<'_>) -> Option<Update>
     })
 }
 
-#[tactic(auto, unfolding(crate::specs::Reading::reply_at))]
+/// Whether an update was taken over.
+#[tactic(auto, unfolding(crate::specs::Parsing::reply_at))]
 fn reply(octets: &mut Octets<'_>) -> Option<BindReply>
     ensures { Moves (λ r. r) result octets.new (reply_at octets.old) }
 {
-    let acknowledgement = fields::verdict(octets)?;
+    let acknowledgement = codes::acknowledgement(octets)?;
     let prefix = octets.prefix()?;
     let of = octets.count()?;
     let mine = octets.count()?;
@@ -48,16 +51,17 @@ fn reply(octets: &mut Octets<'_>) -> Option<BindReply>
 }
 
 /// A role and the serial of the last frame taken.
-#[tactic(auto, unfolding(crate::specs::Reading::greeting_at))]
+#[tactic(auto, unfolding(crate::specs::Parsing::greeting_at))]
 fn greeting(octets: &mut Octets<'_>) -> Option<(Role, Counter)>
     ensures { Moves (λ g. g) result octets.new (greeting_at octets.old) }
 {
-    let role = fields::role(octets)?;
+    let role = codes::role(octets)?;
     let last = octets.count()?;
     Some((role, last))
 }
 
-#[tactic(auto, unfolding(crate::specs::Reading::contact_at))]
+/// The numbers of a contact: that which is to be answered, and the answer.
+#[tactic(auto, unfolding(crate::specs::Parsing::contact_at))]
 fn contact(octets: &mut Octets<'_>) -> Option<(Counter, Counter)>
     ensures { Moves (λ c. c) result octets.new (contact_at octets.old) }
 {
@@ -66,6 +70,7 @@ fn contact(octets: &mut Octets<'_>) -> Option<(Counter, Counter)>
     Some((ask, answer))
 }
 
+/// CONNECT.
 fn connect(octets: &mut Octets<'_>) -> Option<FrameKind>
     ensures { Moves (λ k. k) result octets.new (within (λ g. FrameKind.Connect g.0 g.1) (greeting_at octets.old)) }
 {
@@ -73,6 +78,7 @@ fn connect(octets: &mut Octets<'_>) -> Option<FrameKind>
     Some(FrameKind::Connect { role, last })
 }
 
+/// CONNECTREPLY.
 fn connect_reply(octets: &mut Octets<'_>) -> Option<FrameKind>
     ensures { Moves (λ k. k) result octets.new (within (λ g. FrameKind.ConnectReply g.0 g.1) (greeting_at octets.old)) }
 {
@@ -80,6 +86,7 @@ fn connect_reply(octets: &mut Octets<'_>) -> Option<FrameKind>
     Some(FrameKind::ConnectReply { role, last })
 }
 
+/// CONTACT.
 fn contact_kind(octets: &mut Octets<'_>) -> Option<FrameKind>
     ensures { Moves (λ k. k) result octets.new (within (λ c. FrameKind.Contact c.0 c.1) (contact_at octets.old)) }
 {
@@ -88,7 +95,7 @@ fn contact_kind(octets: &mut Octets<'_>) -> Option<FrameKind>
 }
 
 /// The body of this kind.
-#[tactic(auto, unfolding(crate::specs::Reading::kind_at))]
+#[tactic(auto, unfolding(crate::specs::Parsing::kind_at))]
 pub fn kind(octets: &mut Octets<'_>, code: u8) -> Option<FrameKind>
     ensures { Moves (λ k. k) result octets.new (kind_at code octets.old) }
 {
@@ -105,7 +112,7 @@ pub fn kind(octets: &mut Octets<'_>, code: u8) -> Option<FrameKind>
         8 => connect(octets),
         9 => connect_reply(octets),
         10 => Some(FrameKind::Disconnect),
-        11 => Some(FrameKind::State(fields::state(octets)?)),
+        11 => Some(FrameKind::State(codes::state(octets)?)),
         12 => contact_kind(octets),
         _ => None,
     }

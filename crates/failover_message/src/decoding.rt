@@ -1,15 +1,15 @@
 //! Octets as a frame.
 
 ghost use Rattle.std.specs.Prelude.{◌≡◌, ◌≢◌, ◌↔◌, Ok, IfOk, IsErrOf};
-ghost use Rattle.text_fields.specs.Reading.{Finds};
+ghost use Rattle.text_fields.specs.Parsing.{Finds};
 ghost use Rattle.failover_message.specs.declared.frame.Frame.{Frame as FrameValue};
 ghost use Rattle.failover_message.specs.Frames.{is_length, is_numbered, IsFrame, frame_octets};
 ghost use Rattle.failover_message.specs.Faults.{HasLength, HasKind, IsNoFrame};
-ghost use Rattle.failover_message.specs.Reading.{is_kind, is_serial, fields_of, content_of, frame_of};
+ghost use Rattle.failover_message.specs.Parsing.{is_kind, is_serial, fields_of, content_of, frame_of};
 
 use crate::bodies;
 use crate::error::LinkError;
-use crate::frame::{Frame, FrameKind};
+use crate::frame::{Frame, FrameKind, MAX_LENGTH, MIN_LENGTH};
 use crate::octets::Octets;
 use binding_rules::Counter;
 
@@ -17,9 +17,10 @@ use binding_rules::Counter;
 pub fn is_length(length: u32) -> bool
     ensures { result ≡ is_length length }
 {
-    13 <= length && length <= 512
+    MIN_LENGTH <= length && length <= MAX_LENGTH
 }
 
+/// Whether this is the code of a kind.
 fn is_kind(code: u8) -> bool
     ensures { result ≡ is_kind code }
 {
@@ -36,6 +37,7 @@ fn is_numbered(kind: &FrameKind) -> bool
     )
 }
 
+/// Whether the serial is of a frame that is counted, or not counted.
 fn is_serial(numbered: bool, serial: Counter) -> bool
     ensures { result ≡ is_serial numbered serial }
 {
@@ -47,7 +49,7 @@ fn is_serial(numbered: bool, serial: Counter) -> bool
 }
 
 /// The frame of this kind in the octets behind its kind.
-#[tactic(auto, unfolding(crate::specs::Reading::fields_of))]
+#[tactic(auto, unfolding(crate::specs::Parsing::fields_of))]
 fn fields_of(octets: &[u8], code: u8) -> Option<Frame>
     ensures { Finds (λ f. f) result (fields_of code octets.now) }
 {
@@ -93,16 +95,17 @@ fn frame_of(octets: &[u8]) -> Result<Frame, LinkError>
     }
 }
 
-/// The frame that these octets are, all of them. The first fault where they are none, in the order of
-/// `LinkError`; no memory is taken.
+/// The frame that these octets are, all of them. Where they are none the first fault, in the order of `LinkError`;
+/// no memory is taken.
 pub fn decode(octets: &[u8]) -> Result<Frame, LinkError>
-    // What is read is spelled so.
+    // What is decoded is spelled so.
     ensures found { IfOk result (λ f. (octets.now ≡ frame_octets f) × IsFrame f) }
-    // What is spelled so is read.
+    // What is spelled so is decoded.
     ensures only { (f : FrameValue) → IsFrame f → octets.now ≡ frame_octets f → result ≡ Ok f }
     ensures length { IsErrOf result LinkError.Length ↔ ¬ (HasLength octets.now) }
     ensures kind { IsErrOf result LinkError.Kind ↔ (HasLength octets.now × ¬ (HasKind octets.now)) }
-    ensures field { IsErrOf result LinkError.Field ↔ (HasLength octets.now × HasKind octets.now × IsNoFrame octets.now) }
+    ensures field { IsErrOf result LinkError.Field
+        ↔ (HasLength octets.now × HasKind octets.now × IsNoFrame octets.now) }
     ensures memory { ¬ (IsErrOf result LinkError.Memory) }
 {
     frame_of(octets)

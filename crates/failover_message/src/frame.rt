@@ -1,15 +1,15 @@
 //! Frames of the link between the partners.
 
-use binding_rules::{BindReply, Counter, Role, Update};
+use binding_rules::{BindReply, Counter, Role, ServerState, Update};
 
-/// What a server takes its partner for (RFC 8156, section 8, whose names these are).
-#[derive(Clone, Copy, Debug, PartialEq, Eq, Hash)]
-pub enum ServerState {
-    Normal,
-    Interrupted,
-    /// The partner is known to be down.
-    Down,
-}
+/// The fewest octets behind a frame's length field: its kind, term and serial.
+pub const MIN_LENGTH: u32 = 13;
+
+/// The most octets behind a frame's length field.
+pub const MAX_LENGTH: u32 = 512;
+
+/// The most octets of a frame: the 4 of its length field, and those behind it.
+pub const MAX_OCTETS: usize = 516;
 
 /// What a frame says. The names are those of RFC 8156, section 5.
 #[derive(Clone, Copy, Debug, PartialEq, Eq, Hash)]

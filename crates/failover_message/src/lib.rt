@@ -1,9 +1,21 @@
-//! What the two servers of a pair say to each other: the bodies that journals keep, and the frames of the link
-//! as octets.
+//! What the two servers of a pair say to each other, as octets on the link between them.
+//!
+//! `encode` writes a `Frame`, `decode` takes one apart, and a `Feed` gives the frames of a stream that comes in
+//! chunks of any length. A `Frame` says one thing, its `FrameKind`; octets that are none have a `LinkError`.
+//!
+//! What is promised stands at these calls and at the laws: a frame has one spelling (specs/Frames.antt), and other
+//! octets are refused for their first fault (specs/Faults.antt); a feed gives the frames of the whole stream, however
+//! it was cut (specs/Stream.antt, specs/Laws.antt). Only bodies cite specs/Parsing.antt.
+//!
+//! ```text
+//! let octets = encode(alloc, &frame)?;
+//! let mut feed = Feed::new(alloc);
+//! let frames = feed.feed(octets.as_slice())?; // this one frame
+//! ```
 #![tactic(auto)]
 
 mod bodies;
-mod body;
+mod codes;
 mod decoding;
 mod error;
 mod feed;
@@ -13,10 +25,10 @@ mod laws;
 mod octets;
 mod writing;
 
-pub use body::Body;
+pub use binding_rules::{Body, ServerState};
 pub use decoding::decode;
 pub use error::LinkError;
 pub use feed::Feed;
-pub use frame::{Frame, FrameKind, ServerState};
-pub use laws::{frames_stand_apart, pieces_join};
+pub use frame::{Frame, FrameKind};
+pub use laws::{chunks_join, frames_stand_apart};
 pub use writing::encode;

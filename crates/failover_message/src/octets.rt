@@ -1,16 +1,17 @@
-//! The octets of a frame, from the front.
+//! The octets of a frame, taken from the front.
 
 ghost use Rattle.std.specs.Prelude.{◌≡◌, ◌≤◌, length, IfSome};
 ghost use Rattle.std.specs.Int.{w32, w64, w128};
-ghost use Rattle.failover_message.specs.Reading.{Moves, octet_at, number_at, limited_at, count_at, octets_at, prefix_at};
+ghost use Rattle.text_fields.specs.Parsing.{Moves};
+ghost use Rattle.failover_message.specs.Parsing.{octet_at, number_at, limited_at, count_at, octets_at, prefix_at};
 
 use binding_rules::Counter;
 use prefix_range::Prefix;
 use std::marker::Model;
 
-/// The octets of a frame that are still to be read. Contracts see the list of them.
+/// The octets of a frame that are still to be parsed. Contracts see the list of them.
 ///
-/// Each reader takes the value that stands in front. It answers `None` where the octets are too few or spell no
+/// Each call takes the value that stands in front. It answers `None` where the octets are too few or spell no
 /// such value, and then the frame has a fault.
 #[derive(Drop)]
 pub struct Octets<'a> {
@@ -26,6 +27,7 @@ impl<'a> Model for Octets<'a> {
 }
 
 impl<'a> Octets<'a> {
+    /// These octets, none of them taken yet.
     pub fn new(octets: &'a [u8]) -> Octets<'a>
         ensures { result ≡ octets.now }
     {
@@ -39,7 +41,7 @@ impl<'a> Octets<'a> {
         self.rest.len()
     }
 
-    /// The same octets, to be read apart.
+    /// The same octets, to look ahead in.
     pub fn again(&self) -> Octets<'a>
         ensures { result ≡ self.now }
     {
@@ -53,6 +55,7 @@ impl<'a> Octets<'a> {
         self.rest
     }
 
+    /// The next octet.
     pub fn octet(&mut self) -> Option<u8>
         ensures { Moves (λ n. n) result self.new (octet_at self.old) }
     {
@@ -62,7 +65,7 @@ impl<'a> Octets<'a> {
     }
 
     /// The next `count` octets.
-    #[tactic(auto, unfolding(crate::specs::Reading::octets_at))]
+    #[tactic(auto, unfolding(crate::specs::Parsing::octets_at))]
     pub fn octets(&mut self, count: usize) -> Option<&'a [u8]>
         ensures { Moves (λ o. o.now) result self.new (octets_at count self.old) }
     {
@@ -74,7 +77,8 @@ impl<'a> Octets<'a> {
         Some(octets)
     }
 
-    #[tactic(auto, unfolding(crate::specs::Reading::number_at))]
+    /// A number of 4 octets.
+    #[tactic(auto, unfolding(crate::specs::Parsing::number_at))]
     pub fn u32(&mut self) -> Option<u32>
         ensures { Moves (λ n. n) result self.new (number_at w32 self.old) }
     {
@@ -83,7 +87,8 @@ impl<'a> Octets<'a> {
         Some(u32::from_be_bytes(*octets))
     }
 
-    #[tactic(auto, unfolding(crate::specs::Reading::number_at))]
+    /// A number of 8 octets.
+    #[tactic(auto, unfolding(crate::specs::Parsing::number_at))]
     pub fn u64(&mut self) -> Option<u64>
         ensures { Moves (λ n. n) result self.new (number_at w64 self.old) }
     {
@@ -92,7 +97,8 @@ impl<'a> Octets<'a> {
         Some(u64::from_be_bytes(*octets))
     }
 
-    #[tactic(auto, unfolding(crate::specs::Reading::number_at))]
+    /// A number of 16 octets.
+    #[tactic(auto, unfolding(crate::specs::Parsing::number_at))]
     pub fn u128(&mut self) -> Option<u128>
         ensures { Moves (λ n. n) result self.new (number_at w128 self.old) }
     {
@@ -102,7 +108,7 @@ impl<'a> Octets<'a> {
     }
 
     /// A number of 8 octets that is at most `limit`.
-    #[tactic(auto, unfolding(crate::specs::Reading::limited_at))]
+    #[tactic(auto, unfolding(crate::specs::Parsing::limited_at))]
     pub fn limited(&mut self, limit: u64) -> Option<u64>
         ensures found { Moves (λ n. n) result self.new (limited_at limit self.old) }
         ensures within { IfSome result (λ n. n ≤ limit) }
@@ -119,7 +125,7 @@ impl<'a> Octets<'a> {
     }
 
     /// A prefix: its length, then its address.
-    #[tactic(auto, unfolding(crate::specs::Reading::prefix_at))]
+    #[tactic(auto, unfolding(crate::specs::Parsing::prefix_at))]
     pub fn prefix(&mut self) -> Option<Prefix>
         ensures { Moves (λ p. p) result self.new (prefix_at self.old) }
     {

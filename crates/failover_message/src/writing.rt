@@ -1,60 +1,22 @@
-//! Frames as octets.
+//! Frames as octets. Each `put_` call appends the octets of one value.
 
 ghost use Rattle.std.specs.Prelude.{◌≡◌, ◌≤◌, ◌++◌, ◌∷◌, [], length, OnOk, IfOk, IfErr};
 ghost use Rattle.std.specs.Int.{w32, w64, w128};
-ghost use Rattle.failover_message.specs.Frames.{status_code, verdict_code, role_code, state_code, kind_code, number_octets, count_octets, prefix_octets, client_octets, update_octets, reply_octets, greeting_octets, body_octets, content_octets, frame_octets};
+ghost use Rattle.failover_message.specs.Frames.{status_code, acknowledgement_code, role_code, state_code, kind_code, number_octets, count_octets, prefix_octets, client_octets, update_octets, reply_octets, greeting_octets, body_octets, content_octets, frame_octets};
 
+use crate::codes::{acknowledgement_code, role_code, state_code, status_code};
 use crate::error::LinkError;
-use crate::frame::{Frame, FrameKind, ServerState};
-use binding_rules::{Acknowledgement, BindReply, Counter, Role, Status, Update};
+use crate::frame::{Frame, FrameKind};
+use binding_rules::{BindReply, Counter, Role, Update};
 use bytes::BytesMut;
 use client_id::Duid;
 use prefix_range::Prefix;
 use std::alloc::{AllocError, Global};
 
-/// No frame has more octets than a binding update for a DUID of 130 octets.
-const MOST_OCTETS: usize = 194;
+/// Room for each frame that is written: the longest tells an update of a client whose DUID has 130 octets.
+const ROOM: usize = 194;
 
-fn status_code(status: Status) -> u8
-    ensures { result ≡ status_code status }
-{
-    match status {
-        Status::Active => 1,
-        Status::Expired => 2,
-        Status::Released => 3,
-        Status::Backup => 4,
-        Status::Free => 5,
-    }
-}
-
-fn verdict_code(verdict: Acknowledgement) -> u8
-    ensures { result ≡ verdict_code verdict }
-{
-    match verdict {
-        Acknowledgement::Accept => 1,
-        Acknowledgement::Reject => 2,
-    }
-}
-
-fn role_code(role: Role) -> u8
-    ensures { result ≡ role_code role }
-{
-    match role {
-        Role::Primary => 1,
-        Role::Secondary => 2,
-    }
-}
-
-fn state_code(state: ServerState) -> u8
-    ensures { result ≡ state_code state }
-{
-    match state {
-        ServerState::Normal => 1,
-        ServerState::Interrupted => 2,
-        ServerState::Down => 3,
-    }
-}
-
+/// What stands for a frame's kind.
 fn kind_code(kind: &FrameKind) -> u8
     ensures { result ≡ kind_code kind.now }
 {
@@ -144,7 +106,7 @@ fn put_update(out: &mut BytesMut, update: &Update) -> Result<(), AllocError>
 fn put_reply(out: &mut BytesMut, reply: &BindReply) -> Result<(), AllocError>
     ensures { OnOk result (out.new.items ≡ out.old.items ++ reply_octets reply.now) }
 {
-    put_octet(out, verdict_code(reply.acknowledgement))?;
+    put_octet(out, acknowledgement_code(reply.acknowledgement))?;
     put_prefix(out, &reply.prefix)?;
     put_count(out, reply.of)?;
     put_count(out, reply.mine)?;
@@ -182,6 +144,7 @@ fn put_body(out: &mut BytesMut, kind: &FrameKind) -> Result<(), AllocError>
     }
 }
 
+/// How many octets a client has, its length included.
 fn client_len(client: &Option<Duid>) -> u32
     ensures value { result ≡ length (client_octets client.now) }
     ensures within { result ≤ 131 }
@@ -213,6 +176,7 @@ fn body_len(kind: &FrameKind) -> u32
     }
 }
 
+/// How many octets stand behind the length field.
 #[tactic(auto, unfolding(crate::specs::Frames::number_octets))]
 fn content_len(frame: &Frame) -> u32
     ensures { result ≡ length (content_octets frame.now) }
@@ -225,7 +189,7 @@ pub fn encode(alloc: Global, frame: &Frame) -> Result<BytesMut, LinkError>
     ensures octets { IfOk result (λ octets. octets.items ≡ frame_octets frame.now) }
     ensures memory { IfErr result (λ e. e ≡ LinkError.Memory) }
 {
-    let mut out = BytesMut::with_capacity(alloc, MOST_OCTETS)?;
+    let mut out = BytesMut::with_capacity(alloc, ROOM)?;
     put_u32(&mut out, content_len(frame))?;
     put_octet(&mut out, kind_code(&frame.kind))?;
     put_u32(&mut out, frame.term)?;

@@ -13,4 +13,7 @@ pub enum LeadTimeError {
     /// A skew is at most a day.
     #[error("a skew is at most 86,400,000 ms")]
     SkewTooLarge,
+    /// A transit is at most an hour.
+    #[error("a transit is at most 3,600,000 ms")]
+    TransitTooLarge,
 }

@@ -1,18 +1,32 @@
-//! How long a lease may last, and when it ends. Bare numbers are seconds; milliseconds are readings, ends and skews.
+//! How long a lease may last, and when it ends. Bare numbers are seconds; milliseconds are readings, ends, skews and
+//! transits.
 
-ghost use Rattle.std.specs.Prelude.{◌≡◌, ◌+◌, ◌*◌, ◌≤◌, ◌↔◌, IsTrue};
+ghost use Rattle.std.specs.Prelude.{◌≡◌, ◌+◌, ◌*◌, ◌≤◌, ◌↔◌, IsTrue, max};
 ghost use Rattle.lead_time.specs.Lease.{allowed_lifetime};
 
 use crate::end::End;
 use crate::reading::Reading;
 use crate::skew::Skew;
+use crate::transit::Transit;
 
-/// When a server holds its own grant of `valid` seconds for ended: the reading at the grant, the lifetime, and
-/// twice the skew, since the client's end and the server's clock may both be off by it.
-pub fn own_end(granted: Reading, valid: u32, skew: Skew) -> End
-    ensures { result ≡ granted + 1000 * valid + 2 * skew }
+/// When a server holds its own grant of `valid` seconds for ended: the reading at the grant, the lifetime, twice the
+/// skew, since the client's end and the server's clock may both be off by it, and the transit, since the lifetime
+/// begins when the answer comes.
+pub fn own_end(granted: Reading, valid: u32, skew: Skew, transit: Transit) -> End
+    ensures { result ≡ granted + 1000 * valid + 2 * skew + transit }
 {
-    End::from_sum(granted.milliseconds() + 1000 * u64::from(valid) + 2 * skew.milliseconds())
+    let lasts = granted.milliseconds() + 1000 * u64::from(valid);
+    End::from_sum(lasts + 2 * skew.milliseconds() + transit.milliseconds())
+}
+
+/// From which reading on, in milliseconds, a server whose partner is down may take over a unit of the partner's: the
+/// later of the end that the partner told and the reading at which it was taken for down, the maximum client lead time
+/// of `mclt` seconds, twice the skew, and the transit. No lease that the partner gave meanwhile reaches it.
+pub fn takeover(told: End, down: Reading, mclt: u32, skew: Skew, transit: Transit) -> u64
+    ensures { result ≡ max told down + 1000 * mclt + 2 * skew + transit }
+{
+    let known = told.milliseconds().max(down.milliseconds());
+    known + 1000 * u64::from(mclt) + 2 * skew.milliseconds() + transit.milliseconds()
 }
 
 /// Whether a grant has ended when the server's clock shows `now`: from its end on.

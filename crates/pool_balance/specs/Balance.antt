@@ -1,5 +1,7 @@
--- How many free units the secondary should have, and which of the primary's go to it (RFC 8156, section 4.2.2: proportional allocation).
-use Rattle.std.specs.Prelude.{◌≡◌, ℕ, ◌+◌, ◌-◌, ◌/◌, ◌<◌, ◌≤◌, Bool, true, false, List, length, take, map, filter, count_by, slice_index_or}
+-- How many free units the secondary should have, and which of the primary's go to it (RFC 8156, section 4.2.2:
+-- proportional allocation).
+use Rattle.std.specs.Prelude.{◌≡◌, ℕ, ◌+◌, ◌-◌, ◌/◌, ◌<◌, ◌≤◌, Bool, true, false, List, length, take, map, filter}
+use Rattle.std.specs.Prelude.{count_by, slice_index_or}
 use Rattle.std.specs.List.Sorted.{IsPermutation}
 use Rattle.prefix_range.specs.Prefix.{Prefix}
 use Rattle.binding_rules.specs.declared.update.Status.{Status}
@@ -27,7 +29,8 @@ lacking units = half_of (count_by is_free units) (count_by is_backup units) - co
 
 -- no prefix begins above the one before it
 abbrev pub IsDescending : List Prefix → Type 0
-IsDescending ps = (i j : ℕ) (d : Prefix) → i ≤ j → j < length ps → (slice_index_or ps j d).address ≤ (slice_index_or ps i d).address
+IsDescending ps =
+    (i j : ℕ) (d : Prefix) → i ≤ j → j < length ps → (slice_index_or ps j d).address ≤ (slice_index_or ps i d).address
 
 -- the highest free units, as many as the secondary lacks, highest first
 pub record IsChoice (units : List (Prefix × Status)) (chosen : List Prefix) : Type 0 where

@@ -45,7 +45,9 @@ pub fn choose(alloc: Global, units: &[(Prefix, Status)]) -> Result<Vec<Prefix>, 
     ensures choice { IfOk result (λ chosen. IsChoice units.now chosen.items) }
     ensures many { IfOk result (λ chosen. length chosen.items ≡ lacking units.now) }
 {
-    let mut units_to_give = free_units(alloc, units)?;
+    let Ok(mut units_to_give) = free_units(alloc, units) else {
+        return Err(BalanceError::Memory);
+    };
     let backup = backup_units(units);
     let lacking = target(units_to_give.len(), backup).saturating_sub(backup);
     sort_highest_first(&mut units_to_give);

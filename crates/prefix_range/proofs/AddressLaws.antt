@@ -2,12 +2,12 @@
 use Rattle.std.proofs.Common.{◌≡◌, ◌≢◌, ℕ, ◌+◌, ◌-◌, ◌<◌, ◌≤◌, cond, eqb, leb, List, [], ◌∷◌, ◌++◌, length, replicate, Option, Some, None, refl, sym, ap, ◌∙◌, length-append, arith, inl, inr}
 use Rattle.std.proofs.lemmas.Bool.{eqb-true, eq-eqb, leb-true, le-leb}
 use Rattle.std.proofs.lemmas.List.{length-replicate}
-use Rattle.text_fields.specs.Reading.{◌>>=◌}
-use Rattle.text_fields.specs.Pieces.{joined, Lacks}
+use Rattle.text_fields.specs.Parsing.{◌>>=◌}
+use Rattle.text_fields.specs.Cuts.{joined, Lacks}
 use Rattle.text_fields.proofs.Steps.{bind_some, some_is, chosen}
-use Rattle.text_fields.proofs.PieceLaws.{Lacks-append, Lacks-joined}
+use Rattle.text_fields.proofs.CutLaws.{Lacks-append, Lacks-joined}
 use Rattle.prefix_range.specs.Spelling.{AreGroups, value_of, IsWhole, IsShortened, SpellsAddress}
-use Rattle.prefix_range.specs.SpellingRead.{words_of, groups_on, padded, cut, with_gap, groups_cut, whole, text_address}
+use Rattle.prefix_range.specs.Parsing.{words_of, groups_on, padded, cut, with_gap, groups_cut, whole, text_address}
 use Rattle.prefix_range.proofs.GroupLaws.{groups_lack, words_again, words_take, on_takes, on_again, padded_again}
 use Rattle.prefix_range.proofs.CutLaws.{cut_takes, cut_nothing, cut_again}
 

@@ -2,10 +2,10 @@
 use Rattle.std.proofs.Common.{◌≡◌, ℕ, Bool, true, false, cond, List, [], ◌∷◌, ◌++◌, drop, Option, Some, None, refl, sym, ap, ◌∙◌, append_assoc, append-nil, arith, eqb, ◌&&◌}
 use Rattle.std.specs.Prelude.{option_map}
 use Rattle.std.proofs.lemmas.Bool.{ne_eqb, eqb-true, and_parts}
-use Rattle.text_fields.specs.Pieces.{joined, Lacks}
+use Rattle.text_fields.specs.Cuts.{joined, Lacks}
 use Rattle.text_fields.proofs.Steps.{map_some, some_is}
 use Rattle.prefix_range.specs.Spelling.{IsNumeral, AreGroups}
-use Rattle.prefix_range.specs.SpellingRead.{begins, cut}
+use Rattle.prefix_range.specs.Parsing.{begins, cut}
 use Rattle.prefix_range.proofs.GroupLaws.{numeral_lacks}
 
 -- ---- what is cut is the text

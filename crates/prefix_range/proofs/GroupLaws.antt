@@ -1,12 +1,12 @@
 -- Words that are read as groups are numerals, and numerals are read again.
 use Rattle.std.proofs.Common.{◌≡◌, ◌≢◌, ℕ, zero, suc, ◌+◌, ◌<◌, ◌≤◌, cond, ltb, leb, List, [], ◌∷◌, ◌++◌, length, replicate, Some, None, ◌*◌, ◌&&◌, refl, sym, ap, ◌∙◌, append_assoc, append-nil, length-append, arith}
 use Rattle.std.proofs.lemmas.Bool.{and_parts, leb-true, le-leb, ltb-true, lt-ltb}
-use Rattle.text_fields.specs.Reading.{◌>>=◌}
-use Rattle.text_fields.specs.Pieces.{joined, split, Lacks, AllLack}
+use Rattle.text_fields.specs.Parsing.{◌>>=◌}
+use Rattle.text_fields.specs.Cuts.{joined, split, Lacks, AllLack}
 use Rattle.text_fields.proofs.Steps.{bind_some, some_is, chosen}
-use Rattle.text_fields.proofs.PieceLaws.{split-joined, joined-split, joined-behind}
+use Rattle.text_fields.proofs.CutLaws.{split-joined, joined-split, joined-behind}
 use Rattle.prefix_range.specs.Spelling.{digit_value, with_digit, digits_on, IsNumeral, AreGroups}
-use Rattle.prefix_range.specs.SpellingRead.{numeral_in, words_of, with_one, groups_on, padded}
+use Rattle.prefix_range.specs.Parsing.{numeral_in, words_of, with_one, groups_on, padded}
 
 -- ---- numerals
 

@@ -1,7 +1,7 @@
 -- The first two colons that are neighbours.
 use Rattle.std.proofs.Common.{◌≡◌, ◌≢◌, ℕ, zero, suc, ◌+◌, ◌<◌, ◌≤◌, true, false, List, [], ◌∷◌, length, get_or, take, drop, Some, None, refl, ap, subst, ◌∙◌, arith, eqb, ◌&&◌}
 use Rattle.std.proofs.lemmas.Bool.{eq-eqb, eqb-true, and_parts, false_from_ne_true}
-use Rattle.prefix_range.specs.SpellingRead.{begins, cut}
+use Rattle.prefix_range.specs.Parsing.{begins, cut}
 
 -- no octet before this one is a colon with a colon behind it up to here
 pub record NoneBefore (text : List ℕ) (next : ℕ) : Type 0 where

@@ -2,7 +2,7 @@
 use Rattle.std.proofs.Common.{◌≡◌, ℕ, ◌+◌, ◌<◌, ◌≤◌, List, length, get_or, drop, Some, refl, add-one}
 use Rattle.std.proofs.Math.Seq.{drop-cons}
 use Rattle.std.proofs.lemmas.List.{drop_all}
-use Rattle.text_fields.specs.Reading.{◌>>=◌}
+use Rattle.text_fields.specs.Parsing.{◌>>=◌}
 use Rattle.prefix_range.specs.Spelling.{with_digit, digits_on}
 
 -- one more digit, or no number

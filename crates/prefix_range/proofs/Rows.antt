@@ -2,10 +2,10 @@
 use Rattle.std.proofs.Common.{◌≡◌, ◌≢◌, ℕ, suc, ◌+◌, ◌-◌, ◌*◌, ◌/◌, ◌%◌, ◌^◌, ◌<◌, ◌≤◌, List, [], ◌∷◌, ◌++◌, length, Some, None, refl, sym, ap, ◌∙◌, arith, add-one, eqb, lit<, true}
 use Rattle.std.proofs.lemmas.Bool.{lt-ltb, le-ltb, eq-eqb, ne_eqb}
 use Rattle.std.proofs.Math.Nat.{pow-succ', pow-le-pow_right}
-use Rattle.text_fields.specs.Reading.{◌>>=◌}
+use Rattle.text_fields.specs.Parsing.{◌>>=◌}
 use Rattle.prefix_range.specs.Text.{groups_of}
 use Rattle.prefix_range.specs.RowOf.{IsRow}
-use Rattle.prefix_range.specs.SpellingRead.{with_one, padded, whole}
+use Rattle.prefix_range.specs.Parsing.{with_one, padded, whole}
 use Rattle.prefix_range.proofs.Groups.{length-groups}
 use Rattle.prefix_range.proofs.TextLaws.{groups-value}
 

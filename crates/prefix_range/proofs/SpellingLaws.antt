@@ -2,15 +2,15 @@
 use Rattle.std.proofs.Common.{◌≡◌, ◌≢◌, ℕ, ◌%◌, ◌<◌, ◌≤◌, List, [], ◌∷◌, Option, Some, None, refl, sym, ap, subst, ◌∙◌, arith, inl, inr}
 use Rattle.std.specs.Prelude.{Result, Ok, Err, IfOk, IsErrOf, ◌↔◌}
 use Rattle.std.proofs.lemmas.Bool.{eq-eqb, ne_eqb, lt-ltb, le-ltb, cases_lt, cases_eq}
-use Rattle.text_fields.specs.Reading.{◌>>=◌, Finds}
-use Rattle.text_fields.specs.Pieces.{joined, split}
+use Rattle.text_fields.specs.Parsing.{◌>>=◌, Finds}
+use Rattle.text_fields.specs.Cuts.{joined, split}
 use Rattle.text_fields.proofs.Steps.{bind_some, some_is}
-use Rattle.text_fields.proofs.PieceLaws.{split-joined, joined-split}
+use Rattle.text_fields.proofs.CutLaws.{split-joined, joined-split}
 use Rattle.prefix_range.specs.declared.error.PrefixError.{PrefixError}
 use Rattle.prefix_range.specs.declared.error.PrefixError.TheVariants.{LengthOver128, HostBits, Text}
 use Rattle.prefix_range.specs.Prefix.{Prefix, IsPrefix, size_of}
 use Rattle.prefix_range.specs.Spelling.{Spells}
-use Rattle.prefix_range.specs.SpellingRead.{numeral_in, text_address, parts_spelled, spelled, prefix_in, prefix_spelled}
+use Rattle.prefix_range.specs.Parsing.{numeral_in, text_address, parts_spelled, spelled, prefix_in, prefix_spelled}
 use Rattle.prefix_range.proofs.GroupLaws.{numeral_takes, numeral_again, numeral_lacks}
 use Rattle.prefix_range.proofs.AddressLaws.{address_takes, address_again, address_lacks_slash}
 

@@ -7,12 +7,12 @@ use Rattle.std.specs.Int.{w16, to_be_bytes, from_be_bytes}
 use Rattle.std.proofs.lemmas.List.{length-map}
 use Rattle.std.proofs.lemmas.Bool.{eqb-true, eq-eqb, leb-true, le-leb, ltb-true, lt-ltb}
 use Rattle.std.proofs.lemmas.Nat.{be_bytes_2, from_be_bytes-to_be_bytes_2, div_below}
-use Rattle.text_fields.specs.Reading.{◌>>=◌}
-use Rattle.text_fields.specs.Pieces.{joined, split, Lacks, AllLack}
+use Rattle.text_fields.specs.Parsing.{◌>>=◌}
+use Rattle.text_fields.specs.Cuts.{joined, split, Lacks, AllLack}
 use Rattle.text_fields.specs.Octets.{AreOctets, hex, octets_of}
 use Rattle.text_fields.specs.Number.{number_of}
 use Rattle.text_fields.proofs.Steps.{bind_some, map_some, some_is, chosen}
-use Rattle.text_fields.proofs.PieceLaws.{split-joined, joined-split, Lacks-joined}
+use Rattle.text_fields.proofs.CutLaws.{split-joined, joined-split, Lacks-joined}
 use Rattle.text_fields.proofs.NumberLaws.{number_takes, number_again, decimal_lacks}
 use Rattle.text_fields.proofs.OctetLaws.{octets_take, octets_again, length-hex, octets_are_bytes, hex_lacks, hex_lacks_colon}
 use Rattle.prefix_range.specs.Prefix.{Prefix, IsPrefix, size_of}

@@ -2,5 +2,5 @@ pub mod Prefix
 pub mod Unit
 pub mod Text
 pub mod Spelling
-pub mod SpellingRead
+pub mod Parsing
 pub mod RowOf

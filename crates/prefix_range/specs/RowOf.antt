@@ -1,4 +1,4 @@
--- Groups of 16 bits that make an address so far.
+-- For bodies only: Groups of 16 bits that make an address so far.
 use Rattle.std.specs.Prelude.{ℕ, ◌^◌, ◌<◌, ◌≤◌}
 
 pub record IsRow (count address : ℕ) : Type 0 where

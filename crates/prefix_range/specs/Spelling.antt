@@ -1,12 +1,16 @@
--- The texts of a prefix: an address in form 1 or 2 of RFC 4291, section 2.2, a slash and the length (section 2.3). Many texts spell one prefix.
-use Rattle.std.specs.Prelude.{◌≡◌, ℕ, ◌+◌, ◌-◌, ◌*◌, ◌<◌, ◌≤◌, ◌⊎◌, ⊤, List, [], ◌∷◌, ◌++◌, length, replicate, Option, Some, None, ◌&&◌, nat_lt, nat_le, if◌then◌else◌}
-use Rattle.text_fields.specs.Reading.{◌>>=◌}
-use Rattle.text_fields.specs.Pieces.{joined}
+-- The texts of a prefix: an address in form 1 or 2 of RFC 4291, section 2.2, a slash and the length (section 2.3).
+-- Many texts spell one prefix.
+use Rattle.std.specs.Prelude.{◌≡◌, ℕ, ◌+◌, ◌-◌, ◌*◌, ◌<◌, ◌≤◌, ◌⊎◌, ⊤, List, [], ◌∷◌, ◌++◌, length, replicate, Option}
+use Rattle.std.specs.Prelude.{Some, None, ◌&&◌, nat_lt, nat_le, if◌then◌else◌}
+use Rattle.text_fields.specs.Parsing.{◌>>=◌}
+use Rattle.text_fields.specs.Cuts.{joined}
 
 -- what a digit stands for: 0 to 9, and a to f in either case
 abbrev pub digit_value : ℕ → Option ℕ
 digit_value b =
-    if nat_le 48 b && nat_le b 57 then Some (b - 48) else (if nat_le 97 b && nat_le b 102 then Some (b - 87) else (if nat_le 65 b && nat_le b 70 then Some (b - 55) else None))
+    if nat_le 48 b && nat_le b 57 then Some (b - 48)
+    else (if nat_le 97 b && nat_le b 102 then Some (b - 87)
+    else (if nat_le 65 b && nat_le b 70 then Some (b - 55) else None))
 
 -- the number n with one more digit of a base, where it fits 16 bits, as four digits of base 16 do
 unfoldable pub with_digit : ℕ → ℕ → ℕ → Option ℕ
@@ -50,7 +54,8 @@ pub record IsWhole (text : List ℕ) (address : ℕ) : Type 0 where
   pub eight : length groups ≡ 8
   pub value : address ≡ value_of groups
 
--- form 2: two colons in the place of one group of zeros or more; before them and behind them groups with a colon between each two, or none
+-- form 2: two colons in the place of one group of zeros or more; before them and behind them groups with a colon
+-- between each two, or none
 pub record IsShortened (text : List ℕ) (address : ℕ) : Type 0 where
   pub before : List (List ℕ)
   pub behind : List (List ℕ)

@@ -1,9 +1,11 @@
--- The canonical text of a prefix: eight groups of four lower-case digits, a slash, the length (RFC 4291, sections 2.2 and 2.3).
-use Rattle.std.specs.Prelude.{ℕ, zero, suc, ◌+◌, ◌*◌, ◌/◌, ◌%◌, ◌^◌, ◌==◌, List, [], ◌∷◌, ◌++◌, length, Option, Some, None, map, option_map, nat_lt, nat_le, if◌then◌else◌}
+-- The canonical text of a prefix: eight groups of four lower-case digits, a slash, the length (RFC 4291, sections 2.2
+-- and 2.3).
+use Rattle.std.specs.Prelude.{ℕ, zero, suc, ◌+◌, ◌*◌, ◌/◌, ◌%◌, ◌^◌, ◌==◌, List, [], ◌∷◌, ◌++◌, length, Option, Some}
+use Rattle.std.specs.Prelude.{None, map, option_map, nat_lt, nat_le, if◌then◌else◌}
 use Rattle.std.specs.Fmt.{decimal}
 use Rattle.std.specs.Int.{w16, to_be_bytes, from_be_bytes}
-use Rattle.text_fields.specs.Reading.{◌>>=◌}
-use Rattle.text_fields.specs.Pieces.{joined, split}
+use Rattle.text_fields.specs.Parsing.{◌>>=◌}
+use Rattle.text_fields.specs.Cuts.{joined, split}
 use Rattle.text_fields.specs.Octets.{hex, octets_of}
 use Rattle.text_fields.specs.Number.{number_of}
 use Rattle.prefix_range.specs.Prefix.{Prefix, size_of}
@@ -48,7 +50,9 @@ address_of text = address_on 8 0 (split 58 text)
 
 -- the prefix of an address and a length
 abbrev pub made : ℕ → ℕ → Option Prefix
-made address length = if nat_le length 128 then (if address % size_of length == 0 then Some (record { address = address; length = length }) else None) else None
+made address length =
+    if nat_le length 128 then
+    (if address % size_of length == 0 then Some (record { address = address; length = length }) else None) else None
 
 abbrev pub parts_prefix : List (List ℕ) → Option Prefix
 parts_prefix (address ∷ length ∷ []) = do

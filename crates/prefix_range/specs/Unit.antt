@@ -1,4 +1,5 @@
--- The units of a pool: its prefixes of one length, in the order of their addresses (RFC 8415, section 6.3: a pool of prefixes).
+-- The units of a pool: its prefixes of one length, in the order of their addresses (RFC 8415, section 6.3: a pool of
+-- prefixes).
 use Rattle.std.specs.Prelude.{◌≡◌, ℕ, ◌+◌, ◌*◌}
 use Rattle.prefix_range.specs.Prefix.{Prefix, Contains, size_of}
 

@@ -1,13 +1,13 @@
 //! Addresses in form 1 or 2 of RFC 4291, section 2.2.
 
 ghost use Rattle.std.specs.Prelude.{◌≡◌};
-ghost use Rattle.text_fields.specs.Reading.{Finds};
-ghost use Rattle.prefix_range.specs.SpellingRead.{words_of, groups_on, with_gap, groups_cut, cut, text_address};
+ghost use Rattle.text_fields.specs.Parsing.{Finds};
+ghost use Rattle.prefix_range.specs.Parsing.{words_of, groups_on, with_gap, groups_cut, cut, text_address};
 
 use crate::colons::two_colons;
 use crate::numeral::numeral_in;
 use crate::row::Row;
-use text_fields::Pieces;
+use text_fields::Cuts;
 
 /// How many groups of 16 bits an address has.
 const GROUPS: usize = 8;
@@ -21,15 +21,16 @@ fn with_words(row: Row, text: &[u8]) -> Option<Row>
         return Some(row);
     }
     let mut row = row;
-    let mut words = Pieces::new(text, b':');
-    while let Some(word) = words.next_piece() {
+    let mut words = Cuts::new(text, b':');
+    while let Some(word) = words.next_cut() {
         row = row.with(numeral_in(16, 4, word)?)?;
     }
     Some(row)
 }
 
-/// The eight groups that begin with this row, then zeros in the place of the colons, then those of the text behind them.
-#[tactic(auto, unfolding(crate::specs::SpellingRead::with_gap))]
+/// The eight groups that begin with this row, then zeros in the place of the colons, then those of the text behind
+/// them.
+#[tactic(auto, unfolding(crate::specs::Parsing::with_gap))]
 fn with_gap(front: Row, behind: &[u8]) -> Option<Row>
     ensures { Finds (λ r. r) result (with_gap front (words_of behind.now)) }
 {
@@ -54,7 +55,7 @@ fn groups_of(text: &[u8]) -> Option<Row>
 }
 
 /// The address that a text spells.
-#[tactic(auto, unfolding(crate::specs::SpellingRead::text_address))]
+#[tactic(auto, unfolding(crate::specs::Parsing::text_address))]
 pub(crate) fn text_address(text: &[u8]) -> Option<u128>
     ensures { Finds (λ a. a) result (text_address text.now) }
 {

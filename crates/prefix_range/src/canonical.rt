@@ -1,15 +1,16 @@
 //! The canonical text of a prefix.
 
 ghost use Rattle.std.specs.Prelude.{◌≡◌, ◌++◌, ◌<◌, map, Ok, IfOk, IfErr, OnOk};
-ghost use Rattle.text_fields.specs.Reading.{Finds, Answers};
-ghost use Rattle.text_fields.specs.Pieces.{joined};
+ghost use Rattle.text_fields.specs.Parsing.{Finds, Answers};
+ghost use Rattle.text_fields.specs.Cuts.{joined};
 ghost use Rattle.prefix_range.specs.Prefix.{Prefix as PrefixValue, IsPrefix};
-ghost use Rattle.prefix_range.specs.Text.{groups_of, group_of, group_text, with_group, address_of, prefix_text, prefix_word};
+ghost use Rattle.prefix_range.specs.Text.{groups_of, group_of, group_text, with_group, address_of, prefix_text};
+ghost use Rattle.prefix_range.specs.Text.{prefix_word};
 
 use crate::error::PrefixError;
 use crate::prefix::Prefix;
 use std::alloc::{AllocError, Global};
-use text_fields::{Pieces, number_of, octets_of, push_number, push_octets};
+use text_fields::{Cuts, number_of, octets_of, push_number, push_octets};
 
 /// How many groups of 16 bits an address has.
 const GROUPS: usize = 8;
@@ -37,10 +38,10 @@ fn with_group(address: u128, group: u16) -> Option<u128>
 fn address_of(text: &[u8]) -> Option<u128>
     ensures { Finds (λ n. n) result (address_of text.now) }
 {
-    let mut groups = Pieces::new(text, b':');
+    let mut groups = Cuts::new(text, b':');
     let mut address = 0u128;
     for _ in 0..GROUPS {
-        let group = group_of(groups.next_piece()?)?;
+        let group = group_of(groups.next_cut()?)?;
         address = with_group(address, group)?;
     }
     if groups.is_done() {
@@ -54,9 +55,9 @@ fn address_of(text: &[u8]) -> Option<u128>
 fn prefix_of(word: &[u8]) -> Option<Prefix>
     ensures { Finds (λ p. p) result (prefix_word word.now) }
 {
-    let mut parts = Pieces::new(word, b'/');
-    let address = address_of(parts.next_piece()?)?;
-    let length = number_of(parts.next_piece()?)?;
+    let mut parts = Cuts::new(word, b'/');
+    let address = address_of(parts.next_cut()?)?;
+    let length = number_of(parts.next_cut()?)?;
     if !parts.is_done() || length > 128 {
         return None;
     }
@@ -107,6 +108,6 @@ pub fn write_text(alloc: Global, prefix: Prefix) -> Result<Vec<u8>, PrefixError>
     ensures memory { IfErr result (λ e. e ≡ PrefixError.Memory) }
 {
     let mut text = Vec::new(alloc);
-    push_prefix(&mut text, &prefix)?;
+    push_prefix(&mut text, &prefix).map_err(|_| PrefixError::Memory)?;
     Ok(text)
 }

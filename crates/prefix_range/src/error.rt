@@ -1,9 +1,5 @@
 //! Why numbers or texts are no prefix.
 
-ghost use Rattle.std.specs.Prelude.{◌≡◌};
-ghost use Rattle.prefix_range.specs.declared.error.PrefixError.TheVariants.{Memory};
-
-use std::alloc::AllocError;
 use thiserror::Error;
 
 #[derive(Clone, Copy, Debug, PartialEq, Eq, Error)]
@@ -23,12 +19,4 @@ pub enum PrefixError {
     /// A growth was refused.
     #[error("out of memory")]
     Memory,
-}
-
-impl From<AllocError> for PrefixError {
-    ghost from_gives = { λ _ e. e ≡ Memory };
-
-    fn from(_e: AllocError) -> PrefixError {
-        PrefixError::Memory
-    }
 }

@@ -1,9 +1,9 @@
 //! Numerals of a few digits.
 
 ghost use Rattle.std.specs.Prelude.{◌≡◌, ◌≤◌};
-ghost use Rattle.text_fields.specs.Reading.{Finds};
+ghost use Rattle.text_fields.specs.Parsing.{Finds};
 ghost use Rattle.prefix_range.specs.Spelling.{digit_value, with_digit, digits_on};
-ghost use Rattle.prefix_range.specs.SpellingRead.{numeral_in};
+ghost use Rattle.prefix_range.specs.Parsing.{numeral_in};
 
 fn digit_value(byte: u8) -> Option<u16>
     ensures { Finds (λ d. d) result (digit_value byte) }
@@ -39,7 +39,7 @@ fn digits_on(base: u16, word: &[u8]) -> Option<u16>
 }
 
 /// The number of a word of one to `most` digits of a base, of either case.
-#[tactic(auto, unfolding(crate::specs::SpellingRead::numeral_in))]
+#[tactic(auto, unfolding(crate::specs::Parsing::numeral_in))]
 pub(crate) fn numeral_in(base: u16, most: usize, word: &[u8]) -> Option<u16>
     ensures { Finds (λ n. n) result (numeral_in base most word.now) }
 {

@@ -56,7 +56,8 @@ impl Prefix {
         ensures made { IfOk result (λ p. p ≡ record { address = address; length = length }) }
         ensures too_long { IsErrOf result PrefixError.LengthOver128 ↔ (128 < length) }
         ensures host_bits { IsErrOf result PrefixError.HostBits ↔ ((length ≤ 128) × (address % size_of length ≢ 0)) }
-        ensures ok { length ≤ 128 → address % size_of length ≡ 0 → result ≡ Ok (record { address = address; length = length }) }
+        ensures ok { length ≤ 128 → address % size_of length ≡ 0
+            → result ≡ Ok (record { address = address; length = length }) }
     {
         if length > 128 {
             return Err(PrefixError::LengthOver128);

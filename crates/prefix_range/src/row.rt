@@ -1,8 +1,8 @@
 //! Groups of an address, as they are read.
 
 ghost use Rattle.std.specs.Prelude.{◌≡◌, ◌≤◌, [], length};
-ghost use Rattle.text_fields.specs.Reading.{Finds};
-ghost use Rattle.prefix_range.specs.SpellingRead.{with_one, padded, whole};
+ghost use Rattle.text_fields.specs.Parsing.{Finds};
+ghost use Rattle.prefix_range.specs.Parsing.{with_one, padded, whole};
 
 use std::marker::Model;
 

@@ -1,25 +1,25 @@
 //! The texts of a prefix.
 
 ghost use Rattle.std.specs.Prelude.{◌≡◌, ◌≢◌, ◌%◌, ◌<◌, ◌≤◌, ◌↔◌, ℕ, IfOk, IsErrOf, Ok};
-ghost use Rattle.text_fields.specs.Reading.{Finds};
+ghost use Rattle.text_fields.specs.Parsing.{Finds};
 ghost use Rattle.prefix_range.specs.Prefix.{Prefix as PrefixValue, IsPrefix, size_of};
 ghost use Rattle.prefix_range.specs.Spelling.{Spells};
-ghost use Rattle.prefix_range.specs.SpellingRead.{spelled, prefix_in, prefix_spelled};
+ghost use Rattle.prefix_range.specs.Parsing.{spelled, prefix_in, prefix_spelled};
 
 use crate::address::text_address;
 use crate::error::PrefixError;
 use crate::numeral::numeral_in;
 use crate::prefix::Prefix;
-use text_fields::Pieces;
+use text_fields::Cuts;
 
 /// The address and the length that a text spells.
-#[tactic(auto, unfolding(crate::specs::SpellingRead::spelled))]
+#[tactic(auto, unfolding(crate::specs::Parsing::spelled))]
 fn spelled(text: &[u8]) -> Option<(u128, u16)>
     ensures { Finds (λ s. s) result (spelled text.now) }
 {
-    let mut parts = Pieces::new(text, b'/');
-    let address = text_address(parts.next_piece()?)?;
-    let length = numeral_in(10, 3, parts.next_piece()?)?;
+    let mut parts = Cuts::new(text, b'/');
+    let address = text_address(parts.next_cut()?)?;
+    let length = numeral_in(10, 3, parts.next_cut()?)?;
     if !parts.is_done() {
         return None;
     }
@@ -56,8 +56,11 @@ pub fn read_text(text: &[u8]) -> Result<Prefix, PrefixError>
     ensures only { (p : PrefixValue) → IsPrefix p → Spells text.now p.address p.length → result ≡ Ok p }
     // No address and length are spelled so.
     ensures no_text { IsErrOf result PrefixError.Text ↔ ((address length : ℕ) → Spells text.now address length → ⊥) }
-    ensures too_long { IsErrOf result PrefixError.LengthOver128 ↔ ((address : ℕ) × (length : ℕ) × Spells text.now address length × (128 < length)) }
-    ensures host_bits { IsErrOf result PrefixError.HostBits ↔ ((address : ℕ) × (length : ℕ) × Spells text.now address length × (length ≤ 128) × (address % size_of length ≢ 0)) }
+    ensures too_long { IsErrOf result PrefixError.LengthOver128
+        ↔ ((address : ℕ) × (length : ℕ) × Spells text.now address length × (128 < length)) }
+    ensures host_bits { IsErrOf result PrefixError.HostBits
+        ↔ ((address : ℕ) × (length : ℕ) × Spells text.now address length × (length ≤ 128)
+        × (address % size_of length ≢ 0)) }
     ensures exact { result ≡ prefix_spelled (spelled text.now) }
 {
     prefix_spelled(spelled(text))

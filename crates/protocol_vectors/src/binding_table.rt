@@ -7,6 +7,7 @@ use binding_rules::{
 use client_id::{Duid, Iaid};
 use lead_time::{End, Reading, told_end};
 use prefix_range::{Prefix, read_canonical};
+use std::process::Abort;
 use std::test::Fail;
 
 const CLIENT: &[u8] = b"00030001020000000001";
@@ -129,12 +130,10 @@ fn granted(secondary: &Unit, client: Binding) -> Result<Unit, Fail> {
     })
 }
 
-#[test]
-fn moves_a_unit_and_gives_it(rt: HostRuntime) -> Result<(), Fail> {
-    let prefix = read_canonical(LAST_UNIT)?;
-    let client = binding(CLIENT, 1)?;
+/// The primary moves a unit, and the secondary gives it to a client: the units afterwards, the secondary's first.
+fn move_and_give(rt: &impl Abort, prefix: Prefix, client: &Binding) -> Result<(Unit, Unit), Fail> {
     let moved = moved()?;
-    let backup = update_of(&moved, prefix, Status::Backup, &client);
+    let backup = update_of(&moved, prefix, Status::Backup, client);
     let (primary, secondary) = settle(Role::Secondary, &moved, &Unit::fresh(), &backup)?;
     assert_eq!(rt;
         primary,
@@ -148,10 +147,10 @@ fn moves_a_unit_and_gives_it(rt: HostRuntime) -> Result<(), Fail> {
     assert_eq!(rt; secondary.pending, Some(accepting(prefix, 1, 1, 1)?));
     assert!(rt; grantable(Role::Secondary, &secondary) && !grantable(Role::Primary, &primary));
 
-    let granted = granted(&secondary, client)?;
-    let active = update_of(&granted, prefix, Status::Active, &client);
+    let granted = granted(&secondary, *client)?;
+    let active = update_of(&granted, prefix, Status::Active, client);
     let (secondary, primary) = settle(Role::Primary, &granted, &primary, &active)?;
-    assert_eq!(rt; primary.status, UnitStatus::Active(client));
+    assert_eq!(rt; primary.status, UnitStatus::Active(*client));
     assert_eq!(rt; primary.told.milliseconds(), 7_210_000);
     assert_eq!(rt; primary.pending, Some(accepting(prefix, 2, 2, 2)?));
     assert_eq!(rt;
@@ -164,6 +163,16 @@ fn moves_a_unit_and_gives_it(rt: HostRuntime) -> Result<(), Fail> {
         }
     );
     assert_eq!(rt; secondary.acked.milliseconds(), 7_210_000);
+    Ok((secondary, primary))
+}
+
+#[test]
+fn moves_a_unit_and_gives_it(rt: HostRuntime) -> Result<(), Fail> {
+    let prefix = read_canonical(LAST_UNIT)?;
+    let client = binding(CLIENT, 1)?;
+    let (secondary, primary) = move_and_give(&rt, prefix, &client)?;
+    assert_eq!(rt; secondary.pending, None);
+    assert_eq!(rt; primary.pending, Some(accepting(prefix, 2, 2, 2)?));
     Ok(())
 }
 
@@ -171,13 +180,7 @@ fn moves_a_unit_and_gives_it(rt: HostRuntime) -> Result<(), Fail> {
 fn takes_a_release_and_drops_the_move(rt: HostRuntime) -> Result<(), Fail> {
     let prefix = read_canonical(LAST_UNIT)?;
     let client = binding(CLIENT, 1)?;
-    let moved = moved()?;
-    let backup = update_of(&moved, prefix, Status::Backup, &client);
-    let (primary, secondary) = settle(Role::Secondary, &moved, &Unit::fresh(), &backup)?;
-    let granted = granted(&secondary, client)?;
-    let active = update_of(&granted, prefix, Status::Active, &client);
-    let (secondary, primary) = settle(Role::Primary, &granted, &primary, &active)?;
-
+    let (secondary, primary) = move_and_give(&rt, prefix, &client)?;
     let released = Unit {
         status: UnitStatus::Released(client),
         mine: count(3)?,
@@ -199,6 +202,7 @@ fn takes_a_release_and_drops_the_move(rt: HostRuntime) -> Result<(), Fail> {
         }
     );
     assert_eq!(rt; secondary, free);
+    let backup = update_of(&moved()?, prefix, Status::Backup, &client);
     let now = Reading::new(10_000)?;
     assert_eq!(rt;
         take(Role::Secondary, &secondary, now, &backup)?,

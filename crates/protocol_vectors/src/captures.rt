@@ -1,5 +1,5 @@
-//! Datagrams of dhclient 4.4.3-P1 and dhcpcd 9.4.1, alone and through dhcrelay 4.4.3-P1 (Debian 12), and what each reads as for the
-//! server whose identifier is 00030001020000000009.
+//! Datagrams of dhclient 4.4.3-P1 and dhcpcd 9.4.1, alone and through dhcrelay 4.4.3-P1 (Debian 12), and what each
+//! reads as for the server whose identifier is 00030001020000000009.
 
 pub const CAPTURES: [(&[u8], &[u8]); 19] = [
     // direct-dhclient-rebind

@@ -2,7 +2,7 @@
 use Rattle.std.proofs.Common.{◌≡◌, ◌≢◌, ℕ, zero, suc, ◌<◌, List, [], ◌∷◌, length, get_or, take, drop, refl, arith, Bool, true, false, Option, Some, None, Bor}
 use Rattle.std.specs.Prelude.{◌==◌, if◌then◌else◌, IsTrue, is_some, not}
 use Rattle.std.proofs.lemmas.Bool.{eq-eqb, ne_eqb}
-use Rattle.text_fields.specs.Pieces.{split, in_front, pieces_left}
+use Rattle.text_fields.specs.Cuts.{split, in_front, cuts_left}
 
 pub split_found : (text : List ℕ) (stop i : ℕ) → i < length text → ((k : ℕ) → k < i → get_or text k 0 ≢ stop) → get_or text i 0 ≡ stop → split stop text ≡ take i text ∷ split stop (drop (suc i) text)
 unfolding split
@@ -17,10 +17,10 @@ unfolding split
 split_none [] stop h = refl
 split_none (b ∷ text) stop h = rw (ne_eqb b stop (h 0 (omega arith)), split_none text stop (λ k lt. h (suc k) (omega arith))) refl
 
--- a text has a piece
-in_front_some : (b : ℕ) (pieces : List (List ℕ)) → in_front b pieces ≢ []
+-- a text has a cut
+in_front_some : (b : ℕ) (cuts : List (List ℕ)) → in_front b cuts ≢ []
 in_front_some b [] e = cc
-in_front_some b (piece ∷ pieces) e = cc
+in_front_some b (cut ∷ cuts) e = cc
 
 pub split_some : (stop : ℕ) (text : List ℕ) → split stop text ≢ []
 unfolding split
@@ -31,7 +31,7 @@ split_some stop (b ∷ text) e = by (b == stop) e
     by true e = cc
     by false e = in_front_some b (split stop text) e
 
-pub none_left : (stop : ℕ) (rest : Option (Bor (List ℕ))) (done : Bool) → is_some rest ≡ not done → (IsTrue done → pieces_left stop rest ≡ []) × (pieces_left stop rest ≡ [] → IsTrue done)
+pub none_left : (stop : ℕ) (rest : Option (Bor (List ℕ))) (done : Bool) → is_some rest ≡ not done → (IsTrue done → cuts_left stop rest ≡ []) × (cuts_left stop rest ≡ [] → IsTrue done)
 none_left stop None true e = (λ h. refl, λ h. refl)
 none_left stop None false e = absurd cc
 none_left stop (Some rest) true e = absurd cc

@@ -2,7 +2,7 @@ pub mod Cutting
 pub mod Digits
 pub mod HexLaws
 pub mod Steps
-pub mod PieceLaws
+pub mod CutLaws
 pub mod NumberLaws
 pub mod OctetLaws
 pub mod WordLaws

@@ -7,7 +7,7 @@ use Rattle.std.proofs.Common.{◌&&◌}
 use Rattle.std.proofs.lemmas.Bool.{eq-eqb, ne_eqb, cases_eq, cases_lt, leb-true, ltb-true, lt-ltb}
 use Rattle.std.proofs.lemmas.Str.Parse.{IsNumeralModel, numerals_by_fold}
 use Rattle.std.proofs.lemmas.Fmt.{digits_decimal, digits_value-decimal, decimal-digits_value, decimal_nonempty, first_decimal, decimal_digit}
-use Rattle.text_fields.specs.Pieces.{Lacks}
+use Rattle.text_fields.specs.Cuts.{Lacks}
 use Rattle.text_fields.specs.Number.{with_digit, digits_of, number_of}
 use Rattle.text_fields.proofs.Steps.{bind_some, some_is, both, chosen}
 

@@ -3,8 +3,8 @@ use Rattle.std.proofs.Common.{◌≡◌, ◌≢◌, ℕ, zero, suc, ◌+◌, ◌
 use Rattle.std.specs.Prelude.{option_map}
 use Rattle.std.specs.Int.{w32, to_be_bytes}
 use Rattle.std.proofs.lemmas.Bool.Decides.{nat_tests}
-use Rattle.text_fields.specs.Reading.{◌>>=◌}
-use Rattle.text_fields.specs.Pieces.{Lacks}
+use Rattle.text_fields.specs.Parsing.{◌>>=◌}
+use Rattle.text_fields.specs.Cuts.{Lacks}
 use Rattle.text_fields.specs.Octets.{hex_digit, hex, AreOctets, hex_value, octet_of, octets_of}
 use Rattle.text_fields.proofs.Steps.{bind_some, map_some, some_is}
 

@@ -1,4 +1,4 @@
-pub mod Reading
-pub mod Pieces
+pub mod Parsing
+pub mod Cuts
 pub mod Number
 pub mod Octets

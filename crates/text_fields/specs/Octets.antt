@@ -1,7 +1,8 @@
 -- Octets in hexadecimal, two lower-case digits each.
-use Rattle.std.specs.Prelude.{ℕ, ◌+◌, ◌-◌, ◌*◌, ◌/◌, ◌%◌, ◌<◌, List, [], ◌∷◌, ◌&&◌, Option, Some, None, option_map, nat_lt, nat_le, if◌then◌else◌}
+use Rattle.std.specs.Prelude.{ℕ, ◌+◌, ◌-◌, ◌*◌, ◌/◌, ◌%◌, ◌<◌, List, [], ◌∷◌, ◌&&◌, Option, Some, None, option_map}
+use Rattle.std.specs.Prelude.{nat_lt, nat_le, if◌then◌else◌}
 use Rattle.std.specs.List.{AllByRecursion}
-use Rattle.text_fields.specs.Reading.{◌>>=◌}
+use Rattle.text_fields.specs.Parsing.{◌>>=◌}
 
 abbrev pub AreOctets : List ℕ → Type 0
 AreOctets octets = AllByRecursion (λ x. x < 256) octets
@@ -16,7 +17,8 @@ hex [] = []
 hex (x ∷ octets) = hex_digit (x / 16) ∷ hex_digit (x % 16) ∷ hex octets
 
 unfoldable pub hex_value : ℕ → Option ℕ
-hex_value b = if nat_le 48 b && nat_le b 57 then Some (b - 48) else if nat_le 97 b && nat_le b 102 then Some (b - 87) else None
+hex_value b =
+    if nat_le 48 b && nat_le b 57 then Some (b - 48) else if nat_le 97 b && nat_le b 102 then Some (b - 87) else None
 
 unfoldable pub octet_of : ℕ → ℕ → Option ℕ
 octet_of a b = do

@@ -1,14 +1,20 @@
-//! Fields of texts: pieces between stops, decimal numbers and lower-case hexadecimal octets.
+//! Fields of texts: cuts between stops, decimal numbers and lower-case hexadecimal octets.
 //!
-//! Journals, certificates, prefixes and identifiers are all spelled with these. Each field has one
-//! spelling: a definition says it, a reader finds a value exactly where a word is its spelling, and a
-//! writer appends it.
+//! Journals, certificates, prefixes and identifiers are all spelled with these. Each field has one spelling: a
+//! definition in specs/ says it, a call finds a value exactly where a word is its spelling, and a writer appends it.
+//! specs/Parsing has the words in which every parser above says what it found (`Finds`, `Moves`, `Gives`).
+//!
+//! ```text
+//! let mut words = Cuts::new(b"grant 7", b' ');
+//! let name = words.next_cut(); // Some(b"grant")
+//! let number = number_of(b"7"); // Some(7)
+//! ```
 #![tactic(auto)]
 
+mod cuts;
 mod number;
 mod octets;
-mod pieces;
 
+pub use cuts::Cuts;
 pub use number::{number_of, push_number};
 pub use octets::{is_hex, octets_of, push_octets};
-pub use pieces::Pieces;

@@ -3,7 +3,7 @@
 ghost use Rattle.std.specs.Prelude.{◌≡◌, ◌++◌, OnOk};
 ghost use Rattle.std.specs.Fmt.{decimal};
 ghost use Rattle.text_fields.specs.Number.{with_digit, digits_of, number_of};
-ghost use Rattle.text_fields.specs.Reading.{Finds};
+ghost use Rattle.text_fields.specs.Parsing.{Finds};
 
 use itoa::Buffer;
 use std::alloc::AllocError;

@@ -3,7 +3,7 @@
 ghost use Rattle.std.specs.Prelude.{◌≡◌, ◌*◌, ◌%◌, ◌^◌, ◌<◌, ◌++◌, length, is_some, IsTrue, IfSome, OnOk};
 ghost use Rattle.std.specs.List.{list_all};
 ghost use Rattle.text_fields.specs.Octets.{hex_digit, hex, hex_value, octet_of, octets_of};
-ghost use Rattle.text_fields.specs.Reading.{Finds};
+ghost use Rattle.text_fields.specs.Parsing.{Finds};
 
 use std::alloc::AllocError;
 

@@ -4,7 +4,7 @@
 #[cfg(test)]
 mod certificates;
 #[cfg(test)]
-mod journal_pieces;
+mod journal_chunks;
 #[cfg(test)]
 mod journals;
 #[cfg(test)]

@@ -1,15 +1,11 @@
 //! Audits of whole inputs.
 
-use crate::changes::{Change, SKEW, check_changes};
+use crate::changes::{ACCEPTED, Change, GAP, GRANT, REASON, SKEW, check_changes};
 use crate::inputs::{BEGAN_LATE, ENDED_EARLY, WHOLE_HOUR};
 use attribution_desk::{Command, UsageError, command_of, judge};
 use lead_time::Skew;
 use std::alloc::{AllocError, Global};
 use std::test::Fail;
-
-const GRANT: &str = "refused C7 PieceGrant 1\n";
-
-const GAP: &str = "refused C6 PieceGap 1\n";
 
 /// Each condition on one piece, at its limit and past it.
 const ONE_PIECE: &[Change] = &[
@@ -24,8 +20,8 @@ const ONE_PIECE: &[Change] = &[
         GRANT,
     ),
     ("/56\ninterval", "/48\ninterval", GRANT),
-    ("0000/56\ninterval", "0005/128\ninterval", "accepted\n"),
-    ("/56\ninterval", "/64\ninterval", "accepted\n"),
+    ("0000/56\ninterval", "0005/128\ninterval", ACCEPTED),
+    ("/56\ninterval", "/64\ninterval", ACCEPTED),
     ("r 00030001020000000001", "r 00030001020000000002", GRANT),
     ("piece A3 12000 3608000 latest A3 earliest A3\n", "", GAP),
     ("piece A3 12000", "piece A3 12001", GAP),
@@ -39,13 +35,13 @@ const ONE_PIECE: &[Change] = &[
         "4 3609999 close",
         "refused C5 PastEnd A\n",
     ),
-    ("4 3700000 close", "4 3610000 close", "accepted\n"),
+    ("4 3700000 close", "4 3610000 close", ACCEPTED),
     (
         "3 3700000 close",
         "3 3609999 close",
         "refused C5 PastEnd B\n",
     ),
-    ("3 3700000 close", "3 3610000 close", "accepted\n"),
+    ("3 3700000 close", "3 3610000 close", ACCEPTED),
 ];
 
 #[test]
@@ -58,14 +54,10 @@ const ENDED_EARLY_CHANGES: &[Change] = &[
     (
         "112000 200000\npiece A4 112000",
         "111999 200000\npiece A4 111999",
-        "refused C10 Reason A3\n",
+        REASON,
     ),
     ("foreign A3 early A3\n", "", "refused C9 Uncovered A3\n"),
-    (
-        "foreign A3 early A3",
-        "foreign A3 late A3",
-        "refused C10 Reason A3\n",
-    ),
+    ("foreign A3 early A3", "foreign A3 late A3", REASON),
 ];
 
 /// A lease that began after the interval, or a millisecond earlier.

@@ -6,6 +6,7 @@ use binding_rules::Role;
 use claims::CertificateFault;
 use journal_lines::JournalFault;
 use lead_time::Skew;
+use std::alloc::{AllocError, Global};
 use std::test::Fail;
 
 const A: &str = "pd-journal 1 A
@@ -23,36 +24,28 @@ const B: &str = "pd-journal 1 B
 end 3
 ";
 
-const HOUR: &str = "pd-certificate 1
-holder 00030001020000000001
+/// The certificate of a holder for one piece by line A3, from one moment on.
+fn certificate(alloc: Global, holder: &str, from: u64) -> Result<String, AllocError> {
+    format!(in alloc;
+        "pd-certificate 1
+holder {holder}
 prefix 2001:0db8:0000:0000:0000:0000:0000:0000/56
-interval 12000 3608000
-piece A3 12000 3608000 latest A3 earliest A3
+interval {from} 3608000
+piece A3 {from} 3608000 latest A3 earliest A3
 end
-";
-
-const EARLY: &str = "pd-certificate 1
-holder 00030001020000000001
-prefix 2001:0db8:0000:0000:0000:0000:0000:0000/56
-interval 11999 3608000
-piece A3 11999 3608000 latest A3 earliest A3
-end
-";
-
-const OTHER: &str = "pd-certificate 1
-holder 00030001020000000002
-prefix 2001:0db8:0000:0000:0000:0000:0000:0000/56
-interval 12000 3608000
-piece A3 12000 3608000 latest A3 earliest A3
-end
-";
+"
+    )
+}
 
 #[test]
 fn answers_first_refusal(rt: HostRuntime) -> Result<(), Fail> {
+    let hour = certificate(rt.alloc(), "00030001020000000001", 12_000)?;
+    let early = certificate(rt.alloc(), "00030001020000000001", 11_999)?;
+    let other = certificate(rt.alloc(), "00030001020000000002", 12_000)?;
     let cases = [
-        (A, B, HOUR, Verdict::Accepted),
-        (A, B, EARLY, Verdict::PieceGrant(1)),
-        (A, B, OTHER, Verdict::PieceGrant(1)),
+        (A, B, hour.as_str(), Verdict::Accepted),
+        (A, B, early.as_str(), Verdict::PieceGrant(1)),
+        (A, B, other.as_str(), Verdict::PieceGrant(1)),
         (
             B,
             A,

@@ -6,15 +6,18 @@ mod audits;
 #[cfg(test)]
 mod changes;
 #[cfg(test)]
+mod chunks;
+#[cfg(test)]
 mod evidence;
 #[cfg(test)]
 mod headline;
 #[cfg(test)]
 mod inputs;
 #[cfg(test)]
-mod pieces;
+mod reasons;
 #[cfg(test)]
 mod round_trips;
+#[cfg(test)]
 mod texts;
 #[cfg(test)]
 mod values;

@@ -1,17 +1,17 @@
-//! Pieces, numbers, octets and words.
+//! Cuts, numbers, octets and words.
 
 use line_words::Words;
 use std::test::Fail;
-use text_fields::{Pieces, is_hex, number_of, octets_of, push_number, push_octets};
+use text_fields::{Cuts, is_hex, number_of, octets_of, push_number, push_octets};
 
 #[test]
-fn cuts_pieces(rt: HostRuntime) -> Result<(), Fail> {
-    let mut pieces = Pieces::new(b"one  two", b' ');
-    assert_eq!(rt; pieces.next_piece().ok_or("a first")?, b"one".as_slice());
-    assert_eq!(rt; pieces.next_piece().ok_or("an empty one")?, b"".as_slice());
-    assert!(rt; !pieces.is_done());
-    assert_eq!(rt; pieces.next_piece().ok_or("a last")?, b"two".as_slice());
-    assert!(rt; pieces.is_done() && pieces.next_piece().is_none());
+fn cuts_at_stops(rt: HostRuntime) -> Result<(), Fail> {
+    let mut cuts = Cuts::new(b"one  two", b' ');
+    assert_eq!(rt; cuts.next_cut().ok_or("a first")?, b"one".as_slice());
+    assert_eq!(rt; cuts.next_cut().ok_or("an empty one")?, b"".as_slice());
+    assert!(rt; !cuts.is_done());
+    assert_eq!(rt; cuts.next_cut().ok_or("a last")?, b"two".as_slice());
+    assert!(rt; cuts.is_done() && cuts.next_cut().is_none());
     Ok(())
 }
 

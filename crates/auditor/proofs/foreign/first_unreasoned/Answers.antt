@@ -1,5 +1,5 @@
 use Rattle.std.proofs.Common.{arith, ap, length}
-use Rattle.attribution.specs.FirstRefusal.{ReasonHolds}
+use Rattle.attribution.specs.Acceptance.{ReasonHolds}
 use Rattle.auditor.proofs.Tiling.{all_held}
 use Rattle.auditor.proofs.foreign.first_unreasoned.Goals as goal
 

@@ -1,4 +1,4 @@
-use Rattle.attribution.specs.FirstRefusal.{ReasonHolds}
+use Rattle.attribution.specs.Acceptance.{ReasonHolds}
 use Rattle.auditor.proofs.Tiling.{HaveHeld}
 use Rattle.auditor.proofs.foreign.first_unreasoned.Given as goal
 

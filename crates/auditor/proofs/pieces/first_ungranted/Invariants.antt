@@ -1,4 +1,4 @@
-use Rattle.attribution.specs.FirstRefusal.{IsGranted}
+use Rattle.attribution.specs.Acceptance.{IsGranted}
 use Rattle.auditor.proofs.Tiling.{HaveHeld}
 use Rattle.auditor.proofs.pieces.first_ungranted.Given as goal
 

@@ -1,5 +1,5 @@
 use Rattle.std.proofs.Common.{length}
-use Rattle.text_fields.specs.Pieces.{split}
+use Rattle.text_fields.specs.Cuts.{split}
 use Rattle.certificate.proofs.Chains.{IsRead}
 use Rattle.certificate.proofs.fields.chain_of.Given as goal
 

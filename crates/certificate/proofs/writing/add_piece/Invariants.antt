@@ -1,6 +1,6 @@
 use Rattle.std.proofs.Common.{◌≡◌, ◌∷◌, ◌++◌, take}
 use Rattle.std.specs.Prelude.{map}
-use Rattle.text_fields.specs.Pieces.{ended}
+use Rattle.text_fields.specs.Cuts.{ended}
 use Rattle.certificate.specs.Spelling.{line_text, clear_words, piece_words}
 use Rattle.certificate.proofs.writing.add_piece.Given as goal
 

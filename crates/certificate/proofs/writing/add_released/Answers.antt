@@ -1,4 +1,4 @@
-use Rattle.text_fields.specs.Pieces.{behind}
+use Rattle.text_fields.specs.Cuts.{behind}
 use Rattle.text_fields.proofs.Appending.{pushed}
 use Rattle.claims.specs.declared.certificate.Reason.TheVariants.{Released}
 use Rattle.certificate.specs.Spelling.{latest_words, reason_words}

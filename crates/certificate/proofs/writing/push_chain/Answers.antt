@@ -1,5 +1,5 @@
 use Rattle.std.proofs.Common.{rules, ◌≡◌, ◌∷◌, map, ap, ◌∙◌}
-use Rattle.text_fields.specs.Pieces.{behind}
+use Rattle.text_fields.specs.Cuts.{behind}
 use Rattle.text_fields.proofs.Appending.{pushed}
 use Rattle.certificate.specs.Spelling.{ref_text, chain_text}
 use Rattle.certificate.proofs.Texts.{chain_spelled}

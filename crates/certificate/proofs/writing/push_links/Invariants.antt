@@ -1,6 +1,6 @@
 use Rattle.std.proofs.Common.{◌≡◌, ◌++◌, take}
 use Rattle.std.specs.Prelude.{map}
-use Rattle.text_fields.specs.Pieces.{behind}
+use Rattle.text_fields.specs.Cuts.{behind}
 use Rattle.certificate.specs.Spelling.{ref_text}
 use Rattle.certificate.proofs.writing.push_links.Given as goal
 

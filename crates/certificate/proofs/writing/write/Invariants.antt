@@ -1,7 +1,7 @@
 use Rattle.std.proofs.Common.{◌≡◌, ◌++◌, take}
 use Rattle.std.specs.Prelude.{map}
 use Rattle.std.specs.List.{flat_map}
-use Rattle.text_fields.specs.Pieces.{ended}
+use Rattle.text_fields.specs.Cuts.{ended}
 use Rattle.certificate.specs.Spelling.{line_text, foreign_words, opening_lines, piece_lines}
 use Rattle.certificate.proofs.writing.write.Given as goal
 

@@ -3,7 +3,7 @@ use Rattle.std.specs.Prelude.{IfOk}
 use Rattle.failover_message.specs.declared.error.LinkError.{LinkError}
 use Rattle.failover_message.specs.declared.frame.Frame.{Frame}
 use Rattle.failover_message.specs.Frames.{frame_octets, IsFrame}
-use Rattle.failover_message.specs.Reading.{frame_of}
+use Rattle.failover_message.specs.Parsing.{frame_of}
 use Rattle.failover_message.proofs.FieldLaws.{IsBytes}
 use Rattle.failover_message.proofs.FrameLaws.{frame_takes, frame_again}
 use Rattle.failover_message.proofs.FaultLaws.{frame_found, length_fault, kind_fault, field_fault, no_memory}

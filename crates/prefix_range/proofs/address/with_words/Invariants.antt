@@ -1,6 +1,6 @@
 use Rattle.std.proofs.Common.{◌≡◌, length}
-use Rattle.text_fields.specs.Pieces.{split}
-use Rattle.prefix_range.specs.SpellingRead.{groups_on}
+use Rattle.text_fields.specs.Cuts.{split}
+use Rattle.prefix_range.specs.Parsing.{groups_on}
 use Rattle.prefix_range.proofs.address.with_words.Given as goal
 
 -- the groups so far and the words that are left make the row

@@ -1,5 +1,5 @@
 use Rattle.std.proofs.Common.{◌≡◌, ◌∙◌, ap}
-use Rattle.prefix_range.specs.SpellingRead.{spelled, prefix_spelled}
+use Rattle.prefix_range.specs.Parsing.{spelled, prefix_spelled}
 use Rattle.prefix_range.proofs.SpellingLaws.{found_is, found, only, no_text, too_long, host_bits}
 use Rattle.prefix_range.proofs.text.read_text.Goals as goal
 

@@ -1,5 +1,5 @@
 use Rattle.std.proofs.Common.{◌≡◌, ◌-◌}
-use Rattle.prefix_range.specs.SpellingRead.{padded}
+use Rattle.prefix_range.specs.Parsing.{padded}
 use Rattle.prefix_range.proofs.row.Row.padded.Given as goal
 
 -- the groups so far and the zeros that are left make the row

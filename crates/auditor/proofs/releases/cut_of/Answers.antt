@@ -1,5 +1,0 @@
-use Rattle.auditor.proofs.Cuts.{cut_by_search}
-use Rattle.auditor.proofs.releases.cut_of.Goals as goal
-
-pub returns : goal.returns
-returns g c = cut_by_search (g.S.Lines.journals c.args.source.now) c.args.skew c.args.piece.now _ c.least_cut.result c.in_ok-lease.ensures c.least_cut.ensures

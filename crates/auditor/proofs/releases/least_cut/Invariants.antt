@@ -1,6 +1,0 @@
-use Rattle.auditor.specs.Refusals.{CutsLease}
-use Rattle.auditor.proofs.Least.{IsLeastOf}
-use Rattle.auditor.proofs.releases.least_cut.Given as goal
-
-abbrev pub invariant-loop-index : goal.invariant-loop-index
-invariant-loop-index g l = IsLeastOf (CutsLease (g.S.Lines.journals l.source) l.skew l.piece l.lease) (g.S.LineSource.given l.source l.lease.prefix) l.index l.least

@@ -1,0 +1,107 @@
+//! Parsing a message, whatever its identifiers are.
+
+ghost use Rattle.std.specs.Prelude.{◌≡◌, ◌≤◌, Some, None};
+ghost use Rattle.dhcp6_pd.specs.Answers.{Gives};
+ghost use Rattle.dhcp6_pd.specs.Faults.{kind_of, client_in, message_in};
+
+use crate::client_options::ClientOptions;
+use crate::error::{PdError, PdFault};
+use crate::keeping::keep_all;
+use crate::message::ClientKind;
+use crate::message_lists::{IaPdList, RelayStack};
+use crate::numbers::{MAX_RELAYS, REBIND, RELAY_FORWARD, RELEASE, RENEW, REQUEST, SOLICIT};
+use crate::options::Options;
+use crate::relay_options::RelayOptions;
+use client_id::Duid;
+use std::alloc::Global;
+
+/// A client's message and its relays, whatever its identifiers are: it may name no client, or a server where it
+/// should not, or none, or another one.
+#[derive(Drop)]
+pub struct UntestedMessage {
+    pub relays: RelayStack,
+    pub kind: ClientKind,
+    pub xid: [u8; 3],
+    pub client: Option<Duid>,
+    pub server: Option<Duid>,
+    pub ias: IaPdList,
+}
+
+/// The type of a client's message (RFC 8415, section 7.3), if it is read.
+#[tactic(auto, unfolding(crate::specs::Faults::kind_of))]
+fn kind_of(octet: u8) -> Option<ClientKind>
+    ensures { result ≡ kind_of octet }
+{
+    match octet {
+        SOLICIT => Some(ClientKind::Solicit),
+        REQUEST => Some(ClientKind::Request),
+        RENEW => Some(ClientKind::Renew),
+        REBIND => Some(ClientKind::Rebind),
+        RELEASE => Some(ClientKind::Release),
+        _ => None,
+    }
+}
+
+/// The message of a client (RFC 8415, section 8), with room for so many relays.
+#[tactic(auto, unfolding(crate::specs::Faults::client_in))]
+fn client_in(
+    alloc: Global,
+    kind: ClientKind,
+    octets: &[u8],
+    relays: usize,
+) -> Result<UntestedMessage, PdError>
+    ensures { Gives (λ u. u) result (client_in kind octets.now) }
+{
+    if octets.len() < 4 {
+        return Err(PdError::Fault(PdFault::Short));
+    }
+    let ClientOptions {
+        client,
+        server,
+        relayed: _,
+        interface: _,
+        ias,
+    } = ClientOptions::of(alloc, &octets[4..])?;
+    let mut xid = [0u8; 3];
+    xid.copy_from_slice(&octets[1..4]);
+    Ok(UntestedMessage {
+        relays: RelayStack::with_room(alloc, relays)?,
+        kind,
+        xid,
+        client,
+        server,
+        ias,
+    })
+}
+
+/// The message in these octets, which at most `left` relays hold (RFC 8415, section 9).
+#[tactic(auto, unfolding(crate::specs::Faults::message_in, crate::specs::Faults::relay_in))]
+pub fn message_in(alloc: Global, octets: &[u8], left: usize) -> Result<UntestedMessage, PdError>
+    requires { left ≤ MAX_RELAYS }
+    ensures { Gives (λ u. u) result (message_in left octets.now) }
+{
+    let Some(first) = octets.first() else {
+        return Err(PdError::Fault(PdFault::Short));
+    };
+    if *first != RELAY_FORWARD {
+        return match kind_of(*first) {
+            Some(kind) => client_in(alloc, kind, octets, MAX_RELAYS - left),
+            None => Err(PdError::Fault(PdFault::Ignored)),
+        };
+    }
+    if left == 0 {
+        return Err(PdError::Fault(PdFault::TooDeep));
+    }
+    if octets.len() < 34 {
+        return Err(PdError::Fault(PdFault::Short));
+    }
+    let mut options = Options::new(&octets[34..]);
+    let mut kept = RelayOptions::none();
+    let Some(inner) = kept.to_message(alloc, &mut options)? else {
+        return Err(PdError::Fault(PdFault::Short));
+    };
+    let mut message = message_in(alloc, inner, left - 1)?;
+    keep_all(&mut kept, alloc, options)?;
+    message.relays.push(kept.into_relay(octets))?;
+    Ok(message)
+}
