@@ -21,9 +21,11 @@ status_of _ = 1
 -- the line and the status of the verdict on journal A, journal B and the certificate, one after the other
 abbrev pub IsAnswer : List ℕ → ℕ → List ℕ → ℕ → Type 0
 IsAnswer input skew line status =
-    (v : Verdict) × IsVerdictOfTexts (first_text input) (first_text (text_behind input)) (text_behind (text_behind input)) skew v
+    (v : Verdict)
+    × IsVerdictOfTexts (first_text input) (first_text (text_behind input)) (text_behind (text_behind input)) skew v
     × (line ≡ verdict_line v) × (status ≡ status_of v)
 
 -- where it is known what the reader had to give, the answer to all of that was written, behind what the writer held
 abbrev pub IsAnswered : ℕ → Option (List ℕ) → Option (List ℕ) → Option (List ℕ) → ℕ → Type 0
-IsAnswered skew input held written status = IfSome input (λ octets. (line : List ℕ) × IsAnswer octets skew line status × Appends held written line)
+IsAnswered skew input held written status =
+    IfSome input (λ octets. (line : List ℕ) × IsAnswer octets skew line status × Appends held written line)

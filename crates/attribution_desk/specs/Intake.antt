@@ -24,8 +24,8 @@ pub record GoesOn (input line : List ℕ) : Type 0 where
   pub unbroken : Lacks 10 line
   pub alike : (more : List ℕ) → text_length (input ++ more) + length line ≡ length input + text_length (line ++ more)
 
--- The intake of this side's journal has taken its text, the first of the input, which has ended or else goes on in the line
--- that begins so.
+-- The intake of this side's journal has taken its text, the first of the input, which has ended or else goes on in the
+-- line that begins so.
 pub record HasTakenFirst (side : Role) (intake : JournalIntake) (input : List ℕ) : Type 0 where
   pub read : HasParsed (journal_of_side side) intake.reader (first_text input)
   pub stands : MatchOption intake.line (HasEnded input) (λ line. GoesOn input line.items)

@@ -12,7 +12,10 @@ audit_app = with_rule (new_app (codes "audit")) (option_rule (codes "skew-ms"))
 
 -- a subcommand has to be named
 abbrev pub bare : App
-bare = record { top = record (new_app (codes "desk_cli")).top { disable_help_subcommand = true; subcommand_required = true }; subs = [] }
+bare = record {
+  top = record (new_app (codes "desk_cli")).top { disable_help_subcommand = true; subcommand_required = true };
+  subs = [];
+}
 
 abbrev pub desk : App
 desk = with_subcommand bare audit_app.top

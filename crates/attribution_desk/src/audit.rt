@@ -36,7 +36,8 @@ fn judge_all<R: Read>(
     skew: Skew,
 ) -> Result<Answer, DeskError>
     requires { 0 < length buffer.old }
-    ensures { IfOk result (λ answer. IfSome (R.remaining reader.old) (λ input. IsAnswer input skew answer.line.items answer.status)) }
+    ensures { IfOk result
+        (λ answer. IfSome (R.remaining reader.old) (λ input. IsAnswer input skew answer.line.items answer.status)) }
 {
     let mut intake = Intake::new(alloc);
     for _ in 0..MAX_READS {
@@ -87,7 +88,8 @@ pub fn run<R: Read, W: Write>(
     reader: &mut R,
     writer: &mut W,
 ) -> Result<u8, DeskError>
-    ensures { (skew : ℕ) → command.now ≡ Command.Audit skew → IfOk result (IsAnswered skew (R.remaining reader.old) (W.contents writer.old) (W.contents writer.new)) }
+    ensures { (skew : ℕ) → command.now ≡ Command.Audit skew
+        → IfOk result (IsAnswered skew (R.remaining reader.old) (W.contents writer.old) (W.contents writer.new)) }
 {
     match command {
         Command::Audit { skew } => answer_all(alloc, *skew, reader, writer),

@@ -1,7 +1,8 @@
 //! Command words, as clap finds them.
 
 ghost use Rattle.std.specs.Prelude.{◌≡◌, ℕ, [], IfOk, IfSome, IsErrOf, Some, None, true, false, map, string_bytes};
-ghost use Rattle.clap.specs.Words.{app_of, rule_of, first_of, rows_of, found_of, subcommand_of, subcommand_rows_of, takes, fault_of, kind_of};
+ghost use Rattle.clap.specs.Words.{app_of, rule_of, first_of, rows_of, found_of, subcommand_of, subcommand_rows_of};
+ghost use Rattle.clap.specs.Words.{takes, fault_of, kind_of};
 ghost use Rattle.attribution_desk.specs.Words.{option_rule, desk};
 ghost use Rattle.attribution_desk.specs.Given.{IsSkewOf, IsGiven, IsNoCommand};
 

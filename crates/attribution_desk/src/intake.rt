@@ -37,7 +37,8 @@ impl Intake {
     /// Takes the next chunk of the input, which may end anywhere. A journal's fault is kept, and what follows is
     /// still taken. `Memory` where a growth was refused.
     pub(crate) fn feed(self, chunk: &[u8]) -> Result<Intake, DeskError>
-        ensures taken { IfOk result (λ intake. (input : List ℕ) → HasTaken self input → HasTaken intake (input ++ chunk.now)) }
+        ensures taken { IfOk result
+            (λ intake. (input : List ℕ) → HasTaken self input → HasTaken intake (input ++ chunk.now)) }
         ensures refused { IfErr result (λ e. e ≡ DeskError.Memory) }
     {
         let mut intake = self;
@@ -52,7 +53,8 @@ impl Intake {
     pub(crate) fn answer(self, alloc: Global, skew: Skew) -> Result<Answer, DeskError>
         // What was made by `new` and `feed` has taken some input.
         requires { (input : List ℕ) × HasTaken self input }
-        ensures answer { IfOk result (λ answer. (input : List ℕ) → HasTaken self input → IsAnswer input skew answer.line.items answer.status) }
+        ensures answer { IfOk result
+            (λ answer. (input : List ℕ) → HasTaken self input → IsAnswer input skew answer.line.items answer.status) }
         ensures refused { IfErr result (λ e. e ≡ DeskError.Memory) }
     {
         text_gives_what_it_spells();

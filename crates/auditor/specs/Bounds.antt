@@ -35,10 +35,12 @@ abbrev pub IsWrittenFrom : Journals → List Ref → Ref → ℕ → ℕ → Typ
 IsWrittenFrom js chain at skew moment = (x : ℕ) × WrittenFrom js chain at x × (moment + skew ≤ x)
 
 abbrev pub IsOver : Journals → List Ref → Ref → ℕ → ℕ → ℕ → Type 0
-IsOver js chain grant valid skew moment = (valid ≢ infinity) × ((x : ℕ) × WrittenBy js chain grant x × (x + skew + 1000 * valid ≤ moment))
+IsOver js chain grant valid skew moment =
+    (valid ≢ infinity) × ((x : ℕ) × WrittenBy js chain grant x × (x + skew + 1000 * valid ≤ moment))
 
 abbrev pub IsLasting : Journals → List Ref → Ref → ℕ → ℕ → ℕ → Type 0
-IsLasting js chain grant valid skew moment = (x : ℕ) × WrittenFrom js chain grant x × ((valid ≡ infinity) ⊎ (moment + skew ≤ x + 1000 * valid))
+IsLasting js chain grant valid skew moment =
+    (x : ℕ) × WrittenFrom js chain grant x × ((valid ≡ infinity) ⊎ (moment + skew ≤ x + 1000 * valid))
 
 -- the lease is the holder's, of a prefix round the one asked of
 abbrev pub IsHolders : Lease → Certificate → Type 0
@@ -50,4 +52,5 @@ IsLeaseOf g client iaid prefix = (client ≡ g.client) × (iaid ≡ g.iaid) × (
 
 -- the lease is valid from the piece's beginning to its end
 abbrev pub IsValidThroughout : Journals → Piece → Lease → ℕ → Type 0
-IsValidThroughout js p g skew = IsWrittenBy js p.latest p.grant skew p.from × IsLasting js p.earliest p.grant g.valid skew p.to
+IsValidThroughout js p g skew =
+    IsWrittenBy js p.latest p.grant skew p.from × IsLasting js p.earliest p.grant g.valid skew p.to

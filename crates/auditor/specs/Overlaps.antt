@@ -20,7 +20,9 @@ concerns p _ = false
 abbrev pub overlaps_from : Prefix → Role → ℕ → List Line → List Ref
 overlaps_from p side number [] = []
 overlaps_from p side number (l ∷ lines) =
-    if concerns p l.event then record { side = side; number = number } ∷ overlaps_from p side (number + 1) lines else overlaps_from p side (number + 1) lines
+    if concerns p l.event
+    then record { side = side; number = number } ∷ overlaps_from p side (number + 1) lines
+    else overlaps_from p side (number + 1) lines
 
 -- those of the primary and then those of the secondary
 abbrev pub overlaps_of : Journals → Prefix → List Ref

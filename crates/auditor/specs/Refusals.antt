@@ -33,7 +33,9 @@ CutsLeaseShort js skew p g r = GivesBack js r g × (Discharges js skew p r → �
 
 -- n counts, from 1, the first piece that is cut short, and r is the least release that does
 abbrev pub IsCutShortAt : Journals → ℕ → Certificate → ℕ × Ref → Type 0
-IsCutShortAt js skew c (n, r) = (k : ℕ) × (p : Piece) × (n ≡ k + 1) × (slice_get c.pieces k ≡ Some p) × HoldsBefore (IsDischarged js skew) c.pieces k × IsLeast (CutsShort js skew p) r
+IsCutShortAt js skew c (n, r) =
+    (k : ℕ) × (p : Piece) × (n ≡ k + 1) × (slice_get c.pieces k ≡ Some p)
+    × HoldsBefore (IsDischarged js skew) c.pieces k × IsLeast (CutsShort js skew p) r
 
 -- the lease is another client's, of a prefix that overlaps the one asked of
 abbrev pub IsOthers : Lease → Certificate → Type 0

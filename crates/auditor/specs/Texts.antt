@@ -31,12 +31,14 @@ IsVerdictBehindA a (Ok b) skew claim v = IsVerdictOfClaim (journals_of a b) skew
 IsVerdictBehindA a (Err fault) skew claim v = v ≡ Journal Secondary fault
 
 -- the faults of A's text first
-abbrev pub IsVerdictOfParsed : Result Lines JournalFault → Result Lines JournalFault → ℕ → Result Claim CertificateFault → Verdict → Type 0
+abbrev pub IsVerdictOfParsed : Result Lines JournalFault → Result Lines JournalFault → ℕ → Result Claim CertificateFault
+    → Verdict → Type 0
 IsVerdictOfParsed (Ok a) b skew claim v = IsVerdictBehindA a b skew claim v
 IsVerdictOfParsed (Err fault) b skew claim v = v ≡ Journal Primary fault
 
 abbrev pub IsVerdictOfTexts : (a b certificate : List ℕ) → ℕ → Verdict → Type 0
-IsVerdictOfTexts a b certificate skew v = IsVerdictOfParsed (journal_of_side Primary a) (journal_of_side Secondary b) skew (certificate_of certificate) v
+IsVerdictOfTexts a b certificate skew v =
+    IsVerdictOfParsed (journal_of_side Primary a) (journal_of_side Secondary b) skew (certificate_of certificate) v
 
 -- the text spells this side's journal
 pub record SpellsJournal (side : Role) (text : List ℕ) (j : Lines) : Type 0 where
@@ -50,7 +52,8 @@ pub record SpellsCertificate (text : List ℕ) (claim : Claim) : Type 0 where
 
 -- the certificate that the text spells is true in every run that leaves the journals that parsing gave
 abbrev pub ParsedIsTrueInEveryRun : Result Lines JournalFault → Result Lines JournalFault → List ℕ → ℕ → Type 0
-ParsedIsTrueInEveryRun a b certificate skew = (ja jb : Lines) (claim : Claim) → a ≡ Ok ja → b ≡ Ok jb → SpellsCertificate certificate claim
+ParsedIsTrueInEveryRun a b certificate skew =
+    (ja jb : Lines) (claim : Claim) → a ≡ Ok ja → b ≡ Ok jb → SpellsCertificate certificate claim
     → IsTrueInEveryRun IsLegal (journals_of ja jb) skew claim
 
 -- the certificate that the third text spells is true in every run that leaves the journals that the first two spell

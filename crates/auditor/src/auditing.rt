@@ -80,7 +80,8 @@ pub fn audit<S: LineSource>(source: &S, certificate: &Certificate, skew: Skew) -
     ensures verdict { IsVerdict (S.journals source.now) skew certificate.now result }
     // What is accepted is true in every run of the pair that leaves the source's journals, with each clock within
     // the skew of true time.
-    ensures headline { result ≡ Verdict.Accepted → IsTrueInEveryRun IsLegal (S.journals source.now) skew certificate.now }
+    ensures headline { result ≡ Verdict.Accepted
+        → IsTrueInEveryRun IsLegal (S.journals source.now) skew certificate.now }
 {
     judgment(source, certificate, skew)
 }

@@ -50,8 +50,7 @@ fn is_named(certificate: &Certificate, at: Ref) -> bool
 fn is_foreign(lease: &Lease, certificate: &Certificate) -> bool
     ensures { IsTrue result ↔ IsOthers lease.now certificate.now }
 {
-    lease.client != certificate.holder
-        && lease.prefix.overlaps(&certificate.prefix)
+    lease.client != certificate.holder && lease.prefix.overlaps(&certificate.prefix)
 }
 
 /// Whether the line grants another client a prefix that overlaps the one asked of, and no foreign entry names it.
@@ -66,7 +65,8 @@ fn is_uncovered<L: Lines>(lines: &L, certificate: &Certificate, at: Ref) -> bool
 
 /// The least line that grants another client a prefix that overlaps the one asked of, and that no foreign entry names.
 pub fn least_uncovered<S: LineSource>(source: &S, certificate: &Certificate) -> Option<Ref>
-    ensures { MatchOption result (IsCovered (S.journals source.now) certificate.now) (IsLeast (IsUncovered (S.journals source.now) certificate.now)) }
+    ensures { MatchOption result (IsCovered (S.journals source.now) certificate.now)
+        (IsLeast (IsUncovered (S.journals source.now) certificate.now)) }
 {
     let mut least: Option<Ref> = None;
     let count = source.overlap_count(&certificate.prefix);
@@ -85,7 +85,8 @@ pub fn first_unreasoned<S: LineSource>(
     certificate: &Certificate,
     skew: Skew,
 ) -> Option<Ref>
-    ensures { MatchOption result (AreReasoned (S.journals source.now) skew certificate.now) (IsUnreasoned (S.journals source.now) skew certificate.now) }
+    ensures { MatchOption result (AreReasoned (S.journals source.now) skew certificate.now)
+        (IsUnreasoned (S.journals source.now) skew certificate.now) }
 {
     for entry in certificate.foreign.as_slice() {
         if !reason_holds(source, certificate, entry, skew) {

@@ -3,7 +3,8 @@
 ghost use Rattle.std.specs.Prelude.{◌≡◌, ◌↔◌, ◌*◌, IsTrue, pos};
 ghost use Rattle.attribution.specs.Acceptance.{GivesBack, IsOutside, IsGranted, ReasonHolds};
 ghost use Rattle.attribution.specs.Tests.{lease_of};
-ghost use Rattle.auditor.specs.Bounds.{IsLatestAt, IsEarliestAt, LastsTo, EndsBy, IsWrittenBy, IsWrittenFrom, IsOver, IsLasting, IsHolders, IsLeaseOf, IsValidThroughout};
+ghost use Rattle.auditor.specs.Bounds.{IsLatestAt, IsEarliestAt, LastsTo, EndsBy, IsWrittenBy, IsWrittenFrom, IsOver};
+ghost use Rattle.auditor.specs.Bounds.{IsLasting, IsHolders, IsLeaseOf, IsValidThroughout};
 
 use crate::source::LineSource;
 use causal_order::{
@@ -195,7 +196,8 @@ fn is_outside<L: Lines>(
     lease: &Lease,
     skew: Skew,
 ) -> bool
-    ensures { IsTrue result ↔ IsOutside (L.journals lines.now) skew foreign.now.grant lease.now certificate.now.from certificate.now.to foreign.now.reason }
+    ensures { IsTrue result ↔ IsOutside (L.journals lines.now) skew foreign.now.grant lease.now
+        certificate.now.from certificate.now.to foreign.now.reason }
 {
     match &foreign.reason {
         Reason::Early(chain) => is_over(lines, chain, foreign.grant, lease, skew, certificate.from),

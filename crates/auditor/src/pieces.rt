@@ -32,7 +32,8 @@ pub fn first_gap(certificate: &Certificate) -> Option<u64>
 
 /// The number, from 1, of the first piece that its grant doesn't carry.
 pub fn first_ungranted<L: Lines>(lines: &L, certificate: &Certificate, skew: Skew) -> Option<u64>
-    ensures { MatchOption result (AreGranted (L.journals lines.now) skew certificate.now) (IsUngranted (L.journals lines.now) skew certificate.now) }
+    ensures { MatchOption result (AreGranted (L.journals lines.now) skew certificate.now)
+        (IsUngranted (L.journals lines.now) skew certificate.now) }
 {
     for (index, piece) in certificate.pieces.as_slice().iter().enumerate() {
         if !is_granted(lines, certificate, piece, skew) {

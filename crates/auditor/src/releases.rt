@@ -62,7 +62,9 @@ fn overlaps_itself(prefix: &Prefix)
 
 /// The least line that gives the lease of the piece's grant back and that no clear entry discharges.
 fn least_cutting<S: LineSource>(source: &S, piece: &Piece, lease: &Lease, skew: Skew) -> Option<Ref>
-    ensures { MatchOption result ((r : RefValue) → CutsLeaseShort (S.journals source.now) skew piece.now lease.now r → ⊥) (IsLeast (CutsLeaseShort (S.journals source.now) skew piece.now lease.now)) }
+    ensures { MatchOption result
+        ((r : RefValue) → CutsLeaseShort (S.journals source.now) skew piece.now lease.now r → ⊥)
+        (IsLeast (CutsLeaseShort (S.journals source.now) skew piece.now lease.now)) }
 {
     overlaps_itself(&lease.prefix);
     let mut least: Option<Ref> = None;
@@ -79,7 +81,8 @@ fn least_cutting<S: LineSource>(source: &S, piece: &Piece, lease: &Lease, skew: 
 /// The least release that cuts the piece short.
 #[tactic(auto, using(crate::proofs::ShortCuts::discharged_of_none))]
 fn cutting_release<S: LineSource>(source: &S, piece: &Piece, skew: Skew) -> Option<Ref>
-    ensures { MatchOption result (IsDischarged (S.journals source.now) skew piece.now) (IsLeast (CutsShort (S.journals source.now) skew piece.now)) }
+    ensures { MatchOption result (IsDischarged (S.journals source.now) skew piece.now)
+        (IsLeast (CutsShort (S.journals source.now) skew piece.now)) }
 {
     let lease = lease_at(source, piece.grant)?;
     least_cutting(source, piece, &lease, skew)
@@ -92,7 +95,8 @@ pub fn first_cut_short<S: LineSource>(
     certificate: &Certificate,
     skew: Skew,
 ) -> Option<(u64, Ref)>
-    ensures { MatchOption result (AreDischarged (S.journals source.now) skew certificate.now) (IsCutShortAt (S.journals source.now) skew certificate.now) }
+    ensures { MatchOption result (AreDischarged (S.journals source.now) skew certificate.now)
+        (IsCutShortAt (S.journals source.now) skew certificate.now) }
 {
     for (index, piece) in certificate.pieces.as_slice().iter().enumerate() {
         if let Some(release) = cutting_release(source, piece, skew) {

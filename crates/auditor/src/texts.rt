@@ -5,7 +5,8 @@ ghost use Rattle.std.specs.Result.{ForOk};
 ghost use Rattle.journal_text.specs.Faults.{journal_of_side};
 ghost use Rattle.certificate.specs.Faults.{certificate_of};
 ghost use Rattle.journal_text.specs.Closed.{IsClosed};
-ghost use Rattle.auditor.specs.Texts.{IsVerdictOfParsed, IsVerdictOfTexts, ParsedIsTrueInEveryRun, TextsAreTrueInEveryRun};
+ghost use Rattle.auditor.specs.Texts.{IsVerdictOfParsed, IsVerdictOfTexts, ParsedIsTrueInEveryRun};
+ghost use Rattle.auditor.specs.Texts.{TextsAreTrueInEveryRun};
 
 use crate::auditing::audit;
 use crate::plain::PlainSource;

@@ -76,7 +76,8 @@ pub fn decode(alloc: Global, octets: &[u8], own: &Duid) -> Result<ClientMessage,
     // What is spelled so is read, unless memory runs out.
     ensures only { (m : ClientMessageValue) → Spells own.now octets.now m → Gives (λ x. x) result (Ok m) }
     // What is cut, does not fit or stands too often makes no message.
-    ensures malformed { (fault : PdFaultValue) → IsOfForm fault → IsErrOf result (PdError.Fault fault) → IsMalformed octets.now }
+    ensures malformed { (fault : PdFaultValue) → IsOfForm fault → IsErrOf result (PdError.Fault fault)
+        → IsMalformed octets.now }
     // The innermost message is of a type that is not read, or one relay too deep.
     ensures ignored { Refuses result PdFault.Ignored (IsOfOtherType MAX_RELAYS octets.now) }
     ensures too_deep { Refuses result PdFault.TooDeep (IsDeeper MAX_RELAYS octets.now) }

@@ -1,6 +1,7 @@
 -- For bodies only: the octets of Frames.antt taken apart from the front, as the private functions do it. A field
 -- is a value and the octets behind it, or nothing.
-use Rattle.std.specs.Prelude.{◌≡◌, ℕ, ◌^◌, ◌==◌, Bool, true, false, ◌&&◌, List, [], ◌∷◌, length, take, drop, Option, Some, None, option_map, find, Result, Ok, Err, nat_lt, nat_le, if◌then◌else◌}
+use Rattle.std.specs.Prelude.{◌≡◌, ℕ, ◌^◌, ◌==◌, Bool, true, false, ◌&&◌, List, [], ◌∷◌, length, take, drop, Option}
+use Rattle.std.specs.Prelude.{Some, None, option_map, find, Result, Ok, Err, nat_lt, nat_le, if◌then◌else◌}
 use Rattle.std.specs.Int.{Width, w32, w64, w128, byte_len, from_be_bytes}
 use Rattle.text_fields.specs.Parsing.{◌>>=◌, within}
 use Rattle.client_id.specs.Duid.{duid_in, found_duid}
@@ -12,9 +13,13 @@ use Rattle.binding_rules.specs.declared.update.BindReply.{BindReply}
 use Rattle.failover_message.specs.declared.error.LinkError.{LinkError}
 use Rattle.failover_message.specs.declared.error.LinkError.TheVariants as errors
 use Rattle.failover_message.specs.declared.frame.FrameKind.{FrameKind}
-use Rattle.failover_message.specs.declared.frame.FrameKind.TheVariants.{BindingUpdate, BindingReply, PoolRequest, PoolResponse, UpdateRequest, UpdateRequestAll, UpdateDone, Connect, ConnectReply, Disconnect, State, Contact}
+use Rattle.failover_message.specs.declared.frame.FrameKind.TheVariants.{BindingUpdate, BindingReply, PoolRequest}
+use Rattle.failover_message.specs.declared.frame.FrameKind.TheVariants.{PoolResponse, UpdateRequest, UpdateRequestAll}
+use Rattle.failover_message.specs.declared.frame.FrameKind.TheVariants.{UpdateDone, Connect, ConnectReply, Disconnect}
+use Rattle.failover_message.specs.declared.frame.FrameKind.TheVariants.{State, Contact}
 use Rattle.failover_message.specs.declared.frame.Frame.{Frame}
-use Rattle.failover_message.specs.Frames.{status_code, acknowledgement_code, role_code, state_code, is_numbered, is_length}
+use Rattle.failover_message.specs.Frames.{status_code, acknowledgement_code, role_code, state_code, is_numbered}
+use Rattle.failover_message.specs.Frames.{is_length}
 use Rattle.failover_message.specs.declared.codes.TheConstants.{STATUSES, ACKNOWLEDGEMENTS, ROLES, STATES}
 use Rattle.binding_rules.specs.Messages.{has_client, latest_end}
 

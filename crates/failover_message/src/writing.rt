@@ -2,7 +2,10 @@
 
 ghost use Rattle.std.specs.Prelude.{◌≡◌, ◌≤◌, ◌++◌, ◌∷◌, [], length, OnOk, IfOk, IfErr};
 ghost use Rattle.std.specs.Int.{w32, w64, w128};
-ghost use Rattle.failover_message.specs.Frames.{status_code, acknowledgement_code, role_code, state_code, kind_code, number_octets, count_octets, prefix_octets, client_octets, update_octets, reply_octets, greeting_octets, body_octets, content_octets, frame_octets};
+ghost use Rattle.failover_message.specs.Frames.{status_code, acknowledgement_code, role_code, state_code, kind_code};
+ghost use Rattle.failover_message.specs.Frames.{number_octets, count_octets, prefix_octets, client_octets};
+ghost use Rattle.failover_message.specs.Frames.{update_octets, reply_octets, greeting_octets, body_octets};
+ghost use Rattle.failover_message.specs.Frames.{content_octets, frame_octets};
 
 use crate::codes::{acknowledgement_code, role_code, state_code, status_code};
 use crate::error::LinkError;

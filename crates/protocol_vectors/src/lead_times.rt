@@ -34,12 +34,7 @@ fn rounds_a_lifetime_down(rt: HostRuntime) -> Result<(), Fail> {
 
 #[test]
 fn holds_a_grant_for_ended(rt: HostRuntime) -> Result<(), Fail> {
-    let end = own_end(
-        Reading::new(10_000)?,
-        HOUR,
-        Skew::new(2000)?,
-        Transit::ZERO,
-    );
+    let end = own_end(Reading::new(10_000)?, HOUR, Skew::new(2000)?, Transit::ZERO);
     assert_eq!(rt; end.milliseconds(), 3_614_000);
     assert!(rt; !ended(Reading::new(3_613_999)?, end));
     assert!(rt; ended(Reading::new(3_614_000)?, end));
@@ -61,7 +56,10 @@ fn sums_the_greatest_values(rt: HostRuntime) -> Result<(), Fail> {
 
 #[test]
 fn waits_for_answers_under_way(rt: HostRuntime) -> Result<(), Fail> {
-    assert_eq!(rt; Transit::new(3_600_001), Err(LeadTimeError::TransitTooLarge));
+    assert_eq!(rt;
+        Transit::new(3_600_001),
+        Err(LeadTimeError::TransitTooLarge)
+    );
     assert_eq!(rt; Transit::new(3_600_000)?.milliseconds(), 3_600_000);
     let transit = Transit::new(500)?;
     let end = own_end(Reading::new(10_000)?, HOUR, Skew::new(2000)?, transit);
