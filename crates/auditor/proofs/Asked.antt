@@ -1,6 +1,6 @@
 -- Conditions, asked from the front.
-use Rattle.std.specs.Prelude.{◌≡◌, ℕ, ◌+◌, ◌<◌, ◌≤◌, List, [], ◌∷◌, length, drop}
-use Rattle.std.proofs.Common.{get_or, add-one, arith, inl, inr, refl, sym, subst, drop-cons}
+use Rattle.std.specs.Prelude.{ℕ, ◌+◌, ◌<◌, ◌≤◌, List, length, drop}
+use Rattle.std.proofs.Common.{get_or, add-one, inl, inr, refl, drop-cons}
 use Rattle.std.proofs.lemmas.List.{drop_all}
 use Rattle.causal_order.specs.Journals.{Journals}
 use Rattle.claims.specs.declared.certificate.Certificate.{Certificate}

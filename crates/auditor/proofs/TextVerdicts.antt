@@ -1,12 +1,9 @@
 -- What is accepted of texts is accepted of what they spell.
-use Rattle.std.proofs.Common.{◌≡◌, ℕ, zero, suc, ◌+◌, ◌<◌, List, [], ◌∷◌, length, Some, Result, Ok, ap, subst, ◌∙◌, arith}
-use Rattle.std.specs.Prelude.{slice_get, IsTrue, ◌↔◌, IfOk}
+use Rattle.std.proofs.Common.{◌≡◌, ℕ, List, Result, Ok, subst, ◌∙◌}
+use Rattle.std.specs.Prelude.{IfOk}
 use Rattle.binding_rules.specs.declared.role.Role.TheVariants.{Primary, Secondary}
 use Rattle.journal_lines.specs.declared.fault.JournalFault.{JournalFault}
-use Rattle.journal_lines.specs.declared.line.Line.{Line}
 use Rattle.journal_lines.specs.declared.line.Journal.{Journal as Lines}
-use Rattle.journal_lines.specs.Close.{is_close}
-use Rattle.journal_text.specs.Spelling.{EndInClose, IsWritten as IsWrittenJournal}
 use Rattle.journal_text.specs.Faults.{journal_of_side}
 use Rattle.journal_text.specs.Laws.{SideGivesWhatItSpells}
 use Rattle.claims.specs.declared.certificate.Certificate.{Certificate as Claim}
@@ -17,12 +14,10 @@ use Rattle.attribution.specs.declared.verdict.Verdict.{Verdict}
 use Rattle.attribution.specs.declared.verdict.Verdict.TheVariants.{Accepted}
 use Rattle.attribution.specs.FirstRefusal.{IsVerdict}
 use Rattle.attribution.specs.Legal.{IsLegal}
-use Rattle.attribution.proofs.Deciding.{decides_close}
 use Rattle.attribution.proofs.Refusals.{accepted_from}
 use Rattle.attribution.proofs.Runs.{headline}
 use Rattle.attribution.proofs.Serials.{legal_once}
 use Rattle.auditor.specs.declared.texts.AuditError.{AuditError}
-use Rattle.journal_text.specs.Closed.{IsClosed}
 use Rattle.auditor.specs.Texts.{journals_of, IsVerdictOfParsed, ParsedIsTrueInEveryRun, TextsAreTrueInEveryRun}
 
 -- ---- the headline over texts

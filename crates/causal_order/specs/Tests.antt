@@ -4,8 +4,6 @@ use Rattle.std.specs.Prelude.{Option, Some, None}
 use Rattle.std.specs.Str.{bytes_eq}
 use Rattle.prefix_range.specs.Prefix.{Prefix}
 use Rattle.binding_rules.specs.Role.{partner_of, is_side}
-use Rattle.binding_rules.specs.declared.role.Role.{Role}
-use Rattle.binding_rules.specs.declared.role.Role.TheVariants.{Primary, Secondary}
 use Rattle.binding_rules.specs.declared.update.Status.{Status}
 use Rattle.binding_rules.specs.declared.update.Status.TheVariants.{Active, Expired, Released, Backup, Free}
 use Rattle.binding_rules.specs.declared.update.Update.{Update}

@@ -1,7 +1,5 @@
-use Rattle.std.proofs.Common.{◌≡◌, sym, subst, refl, true, map, string_bytes, []}
-use Rattle.std.specs.Prelude.{IfOk}
-use Rattle.clap.specs.Words.{App, takes, fault_of, is_simple_and_free}
-use Rattle.attribution_desk.specs.Words.{desk}
+use Rattle.std.proofs.Common.{◌≡◌, sym, subst, true, map, string_bytes}
+use Rattle.clap.specs.Words.{App, takes}
 use Rattle.attribution_desk.proofs.command.command_of.Goals as goal
 
 pub returns-in-Err-clause-refused : goal.returns-in-Err-clause-refused
