@@ -3,7 +3,7 @@ use Rattle.std.specs.Prelude.{◌≡◌, ℕ, ◌^◌, ◌<◌, ◌≤◌, Bool,
 use Rattle.client_id.specs.Duid.{IsDuid}
 use Rattle.prefix_range.specs.Prefix.{IsPrefix}
 use Rattle.binding_rules.specs.declared.update.Status.{Status}
-use Rattle.binding_rules.specs.declared.update.Status.TheVariants.{Active, Expired, Released, Backup, Free}
+use Rattle.binding_rules.specs.declared.update.Status.TheVariants.{Active, Expired, Released, Backup, Free, Seized}
 use Rattle.binding_rules.specs.declared.update.Update.{Update}
 use Rattle.binding_rules.specs.declared.update.BindReply.{BindReply}
 use Rattle.binding_rules.specs.declared.message.Body.{Body}
@@ -17,6 +17,7 @@ has_client Expired = true
 has_client Released = true
 has_client Backup = false
 has_client Free = false
+has_client Seized = false
 
 -- the latest end that an update tells: none is told unless the unit is active
 abbrev pub latest_end : Status → ℕ

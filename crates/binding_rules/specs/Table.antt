@@ -1,7 +1,7 @@
 -- The binding table: which updates a server accepts, and what they make of its unit. The names are those of RFC 8156;
 -- the table is this project's own.
 use Rattle.std.specs.Prelude.{ℕ, Bool, true, false, ◌+◌, ◌&&◌, ◌||◌, ◌==◌, nat_le, max, Option, Some, None, List}
-use Rattle.std.specs.Prelude.{if◌then◌else◌}
+use Rattle.std.specs.Prelude.{not, if◌then◌else◌}
 use Rattle.binding_rules.specs.declared.role.Role.{Role}
 use Rattle.binding_rules.specs.declared.role.Role.TheVariants.{Primary, Secondary}
 use Rattle.binding_rules.specs.declared.unit.UnitStatus.{UnitStatus}
@@ -10,7 +10,7 @@ use Rattle.binding_rules.specs.declared.unit.Unit.{Unit as UnitValue}
 use Rattle.binding_rules.specs.declared.update.Status.{Status}
 use Rattle.binding_rules.specs.declared.update.Status.TheVariants.{Active as ActiveDue, Expired as ExpiredDue}
 use Rattle.binding_rules.specs.declared.update.Status.TheVariants.{Released as ReleasedDue, Backup as BackupDue}
-use Rattle.binding_rules.specs.declared.update.Status.TheVariants.{Free as FreeDue}
+use Rattle.binding_rules.specs.declared.update.Status.TheVariants.{Free as FreeDue, Seized as SeizedDue}
 use Rattle.binding_rules.specs.declared.update.Update.{Update}
 use Rattle.binding_rules.specs.declared.update.Acknowledgement.{Acknowledgement}
 use Rattle.binding_rules.specs.declared.update.Acknowledgement.TheVariants.{Accept as AcceptReply}
@@ -20,21 +20,22 @@ use Rattle.binding_rules.specs.declared.taking.Outcome.TheVariants.{Accept, Reje
 use Rattle.binding_rules.specs.Unit.{same_binding, freed}
 
 -- What an update says that the unit is: of an active, expired or released one, whose.
-abbrev pub of_client : Status → List ℕ → ℕ → UnitStatus
-of_client ActiveDue client iaid = Active (record { client = client; iaid = iaid })
-of_client ExpiredDue client iaid = Expired (record { client = client; iaid = iaid })
-of_client ReleasedDue client iaid = Released (record { client = client; iaid = iaid })
-of_client BackupDue client iaid = FreeBackup
-of_client FreeDue client iaid = Free
+abbrev pub of_client : Status → List ℕ → ℕ → Option UnitStatus
+of_client ActiveDue client iaid = Some (Active (record { client = client; iaid = iaid }))
+of_client ExpiredDue client iaid = Some (Expired (record { client = client; iaid = iaid }))
+of_client ReleasedDue client iaid = Some (Released (record { client = client; iaid = iaid }))
+of_client BackupDue client iaid = Some FreeBackup
+of_client FreeDue client iaid = Some Free
+of_client SeizedDue client iaid = None
 
 abbrev pub of_nobody : Status → Option UnitStatus
 of_nobody BackupDue = Some FreeBackup
 of_nobody FreeDue = Some Free
 of_nobody _ = None
 
--- nothing where it should name a client and doesn't
+-- nothing where it should name a client and doesn't, and where the unit was seized: whose it is then, the role says
 abbrev pub said_by : Update → Option (List ℕ) → Option UnitStatus
-said_by m (Some client) = Some (of_client m.status client m.iaid)
+said_by m (Some client) = of_client m.status client m.iaid
 said_by m None = of_nobody m.status
 
 abbrev pub said : Update → Option UnitStatus
@@ -76,8 +77,14 @@ abbrev pub accepts_said : Role → UnitValue → ℕ → Update → Option UnitS
 accepts_said role u now m (Some s) = accepts role u now m s u.status
 accepts_said role u now m None = false
 
-abbrev pub is_accepted : Role → UnitValue → ℕ → Update → Bool
-is_accepted role u now m = accepts_said role u now m (said m)
+-- that a unit was seized is accepted where the receiver waits
+abbrev pub accepts_by : Status → Role → UnitValue → ℕ → Bool → Update → Bool
+accepts_by SeizedDue role u now waiting m = waiting
+accepts_by _ role u now waiting m = accepts_said role u now m (said m)
+
+-- a unit that the receiver seized takes no update
+abbrev pub is_accepted : Role → UnitValue → ℕ → Bool → Update → Bool
+is_accepted role u now waiting m = not u.marked && accepts_by m.status role u now waiting m
 
 -- a due change to active stays, any other is removed
 abbrev pub kept_due : Option Status → Option Status
@@ -92,6 +99,20 @@ becomes u m (Released k) = freed u
 becomes u m FreeBackup = record u { status = FreeBackup }
 becomes u m Free = freed u
 
+abbrev pub becomes_said : UnitValue → Update → Option UnitStatus → UnitValue
+becomes_said u m (Some s) = becomes u m s
+becomes_said u m None = u
+
+-- free for the other server to give
+abbrev pub partners_pool : Role → UnitStatus
+partners_pool Primary = FreeBackup
+partners_pool Secondary = Free
+
+-- the unit once the update is accepted, its counters and its reply apart
+abbrev pub taken_by : Status → Role → UnitValue → Update → UnitValue
+taken_by SeizedDue role u m = record (freed u) { status = partners_pool role }
+taken_by _ role u m = becomes_said u m (said m)
+
 -- the unit with the reply to an update: of the update's count, with the unit's counters
 abbrev pub answered : UnitValue → Update → Acknowledgement → UnitValue
 answered u m how =
@@ -104,17 +125,16 @@ answered u m how =
 abbrev pub counted : UnitValue → Update → UnitValue
 counted u m = record u { mine = u.mine + 1; seen = m.mine }
 
-abbrev pub accepted_as : UnitValue → Update → Option UnitStatus → UnitValue
-accepted_as u m (Some s) = answered (counted (becomes u m s) m) m AcceptReply
-accepted_as u m None = u
-
-abbrev pub accepted : UnitValue → Update → UnitValue
-accepted u m = accepted_as u m (said m)
+abbrev pub accepted : Role → UnitValue → Update → UnitValue
+accepted role u m = answered (counted (taken_by m.status role u m) m) m AcceptReply
 
 -- What is not newer than what was seen is dropped, and changes nothing. What is rejected changes the reply alone.
-abbrev pub outcome_of : Role → UnitValue → ℕ → Update → Outcome
-outcome_of role u now m = if nat_le m.mine u.seen then Drop else (if is_accepted role u now m then Accept else Reject)
+abbrev pub outcome_of : Role → UnitValue → ℕ → Bool → Update → Outcome
+outcome_of role u now waiting m =
+    if nat_le m.mine u.seen then Drop else (if is_accepted role u now waiting m then Accept else Reject)
 
-abbrev pub after_update : Role → UnitValue → ℕ → Update → UnitValue
-after_update role u now m =
-    if nat_le m.mine u.seen then u else (if is_accepted role u now m then accepted u m else answered u m RejectReply)
+abbrev pub after_update : Role → UnitValue → ℕ → Bool → Update → UnitValue
+after_update role u now waiting m =
+    if nat_le m.mine u.seen
+    then u
+    else (if is_accepted role u now waiting m then accepted role u m else answered u m RejectReply)

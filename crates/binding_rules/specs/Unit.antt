@@ -35,9 +35,10 @@ fresh =
       told = 0;
       due = None;
       pending = None;
+      marked = false;
     }
 
--- a unit that is free again: its counters and its pending reply stay
+-- a unit that is free again: its counters, its pending reply and its mark stay
 abbrev pub freed : UnitValue → UnitValue
 freed u =
     record {
@@ -50,6 +51,7 @@ freed u =
       told = 0;
       due = None;
       pending = u.pending;
+      marked = u.marked;
     }
 
 -- whether a unit is delegated under this binding

@@ -1,12 +1,13 @@
 //! The rules of one delegable unit, and what the two servers of a pair tell each other.
 //!
 //! A [`Unit`] is what a server knows of one prefix that it may delegate. `take_update` is the binding table: what a
-//! server makes of its partner's update. `take_reply` settles its own due change. `grantable` and `renewable` say who
-//! may give it. The messages ([`PartnerMessage`], [`Body`], [`Update`], [`BindReply`]) are values here; their octets
-//! and words belong to other crates. The table is specs/Table, replies specs/Reply, what may be said specs/Messages.
+//! server makes of its partner's update. `take_reply` settles its own due change, or the mark of a unit that it
+//! seized. `grantable` and `renewable` say who may give it. The messages ([`PartnerMessage`], [`Body`], [`Update`],
+//! [`BindReply`]) are values here; their octets and words belong to other crates. The table is specs/Table, replies
+//! specs/Reply, what may be said specs/Messages.
 //!
 //! ```text
-//! let (outcome, unit) = take_update(Role::Secondary, &unit, now, &update);
+//! let (outcome, unit) = take_update(Role::Secondary, &unit, now, waiting, &update);
 //! let may_give = grantable(Role::Secondary, &unit);
 //! ```
 #![tactic(auto)]

@@ -8,7 +8,8 @@ use crate::unit::{Binding, Unit, UnitStatus};
 use crate::update::{Status, Update};
 use lead_time::Reading;
 
-/// What an update says that the unit is: `None` where it should name a client and doesn't.
+/// What an update says that the unit is: `None` where it should name a client and doesn't, and where the unit was
+/// seized.
 pub(crate) fn said(update: &Update) -> Option<UnitStatus>
     ensures { result ≡ said update.now }
 {
@@ -24,6 +25,7 @@ pub(crate) fn said(update: &Update) -> Option<UnitStatus>
                 Status::Released => Some(UnitStatus::Released(binding)),
                 Status::Backup => Some(UnitStatus::FreeBackup),
                 Status::Free => Some(UnitStatus::Free),
+                Status::Seized => None,
             }
         }
         None => match update.status {
@@ -60,10 +62,22 @@ fn accepts(role: Role, unit: &Unit, now: Reading, update: &Update, said: &UnitSt
     }
 }
 
-/// Whether a server in this role accepts the update of its unit at this reading.
-pub(crate) fn is_accepted(role: Role, unit: &Unit, now: Reading, update: &Update) -> bool
-    ensures { result ≡ is_accepted role unit.now now update.now }
+/// Whether a server in this role, which waits or doesn't, accepts the update of its unit at this reading.
+pub(crate) fn is_accepted(
+    role: Role,
+    unit: &Unit,
+    now: Reading,
+    waiting: bool,
+    update: &Update,
+) -> bool
+    ensures { result ≡ is_accepted role unit.now now waiting update.now }
 {
+    if unit.marked {
+        return false;
+    }
+    if update.status == Status::Seized {
+        return waiting;
+    }
     match said(update) {
         Some(status) => accepts(role, unit, now, update, &status),
         None => false,

@@ -1,9 +1,10 @@
 //! What a server makes of its partner's messages.
 
-ghost use Rattle.std.specs.Prelude.{◌≡◌, ◌+◌, ◌^◌, ◌<◌, IfSome};
+ghost use Rattle.std.specs.Prelude.{◌≡◌, ◌+◌, ◌^◌, ◌<◌, IfSome, true, false};
 ghost use Rattle.binding_rules.specs.Unit.{freed};
-ghost use Rattle.binding_rules.specs.Table.{kept_due, becomes, counted, answered, accepted, after_update, outcome_of};
-ghost use Rattle.binding_rules.specs.Reply.{counts, settled, after_reply};
+ghost use Rattle.binding_rules.specs.Table.{kept_due, becomes, partners_pool, taken_by, counted, answered, accepted};
+ghost use Rattle.binding_rules.specs.Table.{after_update, outcome_of};
+ghost use Rattle.binding_rules.specs.Reply.{counts, settled, count_unmarked, unmarked, after_reply};
 
 use crate::role::Role;
 use crate::table::{is_accepted, said};
@@ -29,7 +30,7 @@ fn kept_due(due: Option<Status>) -> Option<Status>
     }
 }
 
-/// What the unit becomes by an accepted update, its counters and its reply apart.
+/// What the unit becomes by what an accepted update says, its counters and its reply apart.
 fn becomes(unit: &Unit, update: &Update, said: &UnitStatus) -> Unit
     ensures { result ≡ becomes unit.now update.now said.now }
 {
@@ -45,6 +46,33 @@ fn becomes(unit: &Unit, update: &Update, said: &UnitStatus) -> Unit
             ..*unit
         },
         _ => unit.freed(),
+    }
+}
+
+/// Free for the other server to give.
+fn partners_pool(role: Role) -> UnitStatus
+    ensures { result ≡ partners_pool role }
+{
+    match role {
+        Role::Primary => UnitStatus::FreeBackup,
+        Role::Secondary => UnitStatus::Free,
+    }
+}
+
+/// The unit after an accepted update, its counters and its reply apart.
+fn taken(role: Role, unit: &Unit, update: &Update) -> Unit
+    ensures unit { result ≡ taken_by update.now.status role unit.now update.now }
+    ensures mine { result.mine ≡ unit.now.mine }
+{
+    if update.status == Status::Seized {
+        return Unit {
+            status: partners_pool(role),
+            ..unit.freed()
+        };
+    }
+    match said(update) {
+        Some(status) => becomes(unit, update, &status),
+        None => *unit,
     }
 }
 
@@ -66,30 +94,33 @@ fn answered(unit: &Unit, update: &Update, acknowledgement: Acknowledgement) -> U
 }
 
 /// The unit after an update that is accepted.
-fn accepted(unit: &Unit, update: &Update) -> Unit
+fn accepted(role: Role, unit: &Unit, update: &Update) -> Unit
     requires { unit.now.mine < 2 ^ 49 }
-    ensures { result ≡ accepted unit.now update.now }
+    ensures unit { result ≡ accepted role unit.now update.now }
+    ensures counted { (result.seen ≡ update.now.mine) × (result.mine ≡ unit.now.mine + 1) }
 {
-    match said(update) {
-        Some(status) => {
-            let unit = becomes(unit, update, &status);
-            let counted = Unit {
-                mine: unit.mine.next(),
-                seen: update.mine,
-                ..unit
-            };
-            answered(&counted, update, Acknowledgement::Accept)
-        }
-        None => *unit,
-    }
+    let unit = taken(role, unit, update);
+    let counted = Unit {
+        mine: unit.mine.next(),
+        seen: update.mine,
+        ..unit
+    };
+    answered(&counted, update, Acknowledgement::Accept)
 }
 
-/// What a server in this role makes at this reading of an update of its unit, and the unit afterwards. The update's
-/// term is the server's, and its prefix the unit's.
-pub fn take_update(role: Role, unit: &Unit, now: Reading, update: &Update) -> (Outcome, Unit)
+/// What a server in this role makes at this reading of an update of its unit, and the unit afterwards. `waiting` says
+/// whether the server waits for its partner since a restart. The update's term is the server's, and its prefix the
+/// unit's.
+pub fn take_update(
+    role: Role,
+    unit: &Unit,
+    now: Reading,
+    waiting: bool,
+    update: &Update,
+) -> (Outcome, Unit)
     requires { unit.now.mine < 2 ^ 49 }
-    ensures outcome { result.0 ≡ outcome_of role unit.now now update.now }
-    ensures unit { result.1 ≡ after_update role unit.now now update.now }
+    ensures outcome { result.0 ≡ outcome_of role unit.now now waiting update.now }
+    ensures unit { result.1 ≡ after_update role unit.now now waiting update.now }
     // What is dropped changes nothing, what is rejected the reply alone, and what is accepted counts and is seen.
     ensures dropped { result.0 ≡ Outcome.Drop → result.1 ≡ unit.now }
     ensures rejected { result.0 ≡ Outcome.Reject → record result.1 { pending = unit.now.pending } ≡ unit.now }
@@ -99,8 +130,8 @@ pub fn take_update(role: Role, unit: &Unit, now: Reading, update: &Update) -> (O
     if update.mine <= unit.seen {
         return (Outcome::Drop, *unit);
     }
-    if is_accepted(role, unit, now, update) {
-        (Outcome::Accept, accepted(unit, update))
+    if is_accepted(role, unit, now, waiting, update) {
+        (Outcome::Accept, accepted(role, unit, update))
     } else {
         (
             Outcome::Reject,
@@ -127,27 +158,54 @@ fn settled(unit: &Unit, due: Status) -> Unit
             due: None,
             ..*unit
         },
-        Status::Backup => Unit { due: None, ..*unit },
+        Status::Backup | Status::Seized => Unit { due: None, ..*unit },
         _ => unit.freed(),
     }
 }
 
-/// The unit after a reply; `None` where the reply is dropped: no change is due, or it rejects, answers another
-/// change than the last, or isn't newer than what was taken before. The reply's term is the server's, and its
-/// prefix the unit's.
-pub fn take_reply(unit: &Unit, reply: &BindReply) -> Option<Unit>
-    ensures unit { result ≡ after_reply unit.now reply.now }
-    // What is taken is newer, settles the due change, and is no change of the unit's own.
-    ensures settled { IfSome result
-        (λ u. (unit.now.seen < reply.now.mine) × (u.seen ≡ reply.now.mine) × (u.mine ≡ unit.now.mine)
-        × (u.due ≡ None)) }
+/// The unit once the partner acknowledged that it was seized.
+fn unmarked(unit: &Unit, reply: &BindReply) -> Unit
+    requires { unit.now.mine < 2 ^ 49 }
+    ensures { result ≡ unmarked unit.now reply.now }
 {
-    let due = unit.due?;
+    Unit {
+        mine: match unit.due {
+            Some(_) => unit.mine.next(),
+            None => unit.mine,
+        },
+        seen: reply.mine,
+        marked: false,
+        ..*unit
+    }
+}
+
+/// The unit after a reply; `None` where the reply is dropped: no change is due and the unit isn't marked, or it rejects,
+/// answers another change than the last, or isn't newer than what was taken before. The reply's term is the server's,
+/// and its prefix the unit's.
+pub fn take_reply(unit: &Unit, reply: &BindReply) -> Option<Unit>
+    requires { unit.now.marked ≡ true → unit.now.mine < 2 ^ 49 }
+    ensures unit { result ≡ after_reply unit.now reply.now }
+    // What is taken is newer. It removes the mark, or else settles the due change.
+    ensures seen { IfSome result (λ u. (unit.now.seen < reply.now.mine) × (u.seen ≡ reply.now.mine)) }
+    ensures unmarked { unit.now.marked ≡ true → IfSome result (λ u. record u {
+      mine = unit.now.mine;
+      seen = unit.now.seen;
+      marked = true;
+    } ≡ unit.now) }
+    ensures settled { unit.now.marked ≡ false → IfSome result (λ u. (u.mine ≡ unit.now.mine) × (u.due ≡ None)) }
+{
+    if !unit.marked {
+        let due = unit.due?;
+        if !counts(unit, reply) {
+            return None;
+        }
+        return Some(Unit {
+            seen: reply.mine,
+            ..settled(unit, due)
+        });
+    }
     if !counts(unit, reply) {
         return None;
     }
-    Some(Unit {
-        seen: reply.mine,
-        ..settled(unit, due)
-    })
+    Some(unmarked(unit, reply))
 }

@@ -65,6 +65,8 @@ pub struct Unit {
     pub due: Option<Status>,
     /// The reply that is yet to be sent.
     pub pending: Option<BindReply>,
+    /// Whether this server seized the unit, and the partner has yet to acknowledge it.
+    pub marked: bool,
 }
 
 impl Unit {
@@ -84,10 +86,12 @@ impl Unit {
             told: never,
             due: None,
             pending: None,
+            marked: false,
         }
     }
 
-    /// The unit once it is free again: no client, no ends, no due change. Its counters and its pending reply stay.
+    /// The unit once it is free again: no client, no ends, no due change. Its counters, its pending reply and its
+    /// mark stay.
     pub fn freed(&self) -> Unit
         ensures { result ≡ freed self.now }
     {
@@ -95,6 +99,7 @@ impl Unit {
             mine: self.mine,
             seen: self.seen,
             pending: self.pending,
+            marked: self.marked,
             ..Unit::fresh()
         }
     }

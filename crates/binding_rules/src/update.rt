@@ -21,6 +21,8 @@ pub enum Status {
     Backup,
     /// The primary's to give.
     Free,
+    /// The sender's to give: it took the unit over while its partner was down.
+    Seized,
 }
 
 impl Status {
@@ -30,7 +32,7 @@ impl Status {
     {
         match self {
             Status::Active | Status::Expired | Status::Released => true,
-            Status::Backup | Status::Free => false,
+            Status::Backup | Status::Free | Status::Seized => false,
         }
     }
 

@@ -7,7 +7,7 @@ use Rattle.std.proofs.lemmas.Bool.Decides.{Decides-eqb, Decides-and, Decides-lik
 use Rattle.std.proofs.lemmas.Slice.Eq.{bytes_eq-Decides}
 use Rattle.prefix_range.specs.Prefix.{Prefix}
 use Rattle.binding_rules.specs.declared.update.Status.{Status}
-use Rattle.binding_rules.specs.declared.update.Status.TheVariants.{Active, Expired, Released, Backup, Free}
+use Rattle.binding_rules.specs.declared.update.Status.TheVariants.{Active, Expired, Released, Backup, Free, Seized}
 use Rattle.binding_rules.specs.declared.update.Update.{Update}
 use Rattle.binding_rules.specs.declared.update.Acknowledgement.{Acknowledgement}
 use Rattle.binding_rules.specs.declared.update.Acknowledgement.TheVariants.{Accept, Reject}
@@ -23,6 +23,7 @@ status_is Expired Expired h = refl
 status_is Released Released h = refl
 status_is Backup Backup h = refl
 status_is Free Free h = refl
+status_is Seized Seized h = refl
 status_is _ _ h = cc
 
 status_same : (s : Status) → same_status s s ≡ true
@@ -31,6 +32,7 @@ status_same Expired = refl
 status_same Released = refl
 status_same Backup = refl
 status_same Free = refl
+status_same Seized = refl
 
 pub decides_status : (s t : Status) → Decides (same_status s t) (s ≡ t)
 decides_status s t = (status_is s t, λ e. subst (λ x. same_status s x ≡ true) e (status_same s))

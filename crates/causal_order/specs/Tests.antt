@@ -5,7 +5,7 @@ use Rattle.std.specs.Str.{bytes_eq}
 use Rattle.prefix_range.specs.Prefix.{Prefix}
 use Rattle.binding_rules.specs.Role.{partner_of, is_side}
 use Rattle.binding_rules.specs.declared.update.Status.{Status}
-use Rattle.binding_rules.specs.declared.update.Status.TheVariants.{Active, Expired, Released, Backup, Free}
+use Rattle.binding_rules.specs.declared.update.Status.TheVariants.{Active, Expired, Released, Backup, Free, Seized}
 use Rattle.binding_rules.specs.declared.update.Update.{Update}
 use Rattle.binding_rules.specs.declared.update.Acknowledgement.{Acknowledgement}
 use Rattle.binding_rules.specs.declared.update.Acknowledgement.TheVariants.{Accept, Reject}
@@ -42,6 +42,7 @@ same_status Expired Expired = true
 same_status Released Released = true
 same_status Backup Backup = true
 same_status Free Free = true
+same_status Seized Seized = true
 same_status _ _ = false
 
 abbrev pub same_prefix : Prefix → Prefix → Bool

@@ -6,7 +6,7 @@ use Rattle.text_fields.proofs.Steps.{bind_some, some_is}
 use Rattle.prefix_range.specs.Prefix.{Prefix, IsPrefix}
 use Rattle.binding_rules.specs.declared.role.Role.{Role}
 use Rattle.binding_rules.specs.declared.update.Status.{Status}
-use Rattle.binding_rules.specs.declared.update.Status.TheVariants.{Active, Expired, Released, Backup, Free}
+use Rattle.binding_rules.specs.declared.update.Status.TheVariants.{Active, Expired, Released, Backup, Free, Seized}
 use Rattle.binding_rules.specs.declared.update.Update.{Update}
 use Rattle.binding_rules.specs.declared.update.BindReply.{BindReply}
 use Rattle.failover_message.specs.declared.codes.TheConstants.{STATUSES, ACKNOWLEDGEMENTS, ROLES}
@@ -50,6 +50,7 @@ end_fits Expired = omega arith
 end_fits Released = omega arith
 end_fits Backup = omega arith
 end_fits Free = omega arith
+end_fits Seized = omega arith
 
 abbrev pub IsUpdateOf : List ℕ → Update × List ℕ → Type 0
 IsUpdateOf bytes x = Takes bytes (update_octets x.0) x.1 × IsUpdate x.0

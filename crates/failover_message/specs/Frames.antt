@@ -7,7 +7,7 @@ use Rattle.prefix_range.specs.Prefix.{Prefix}
 use Rattle.binding_rules.specs.declared.role.Role.{Role}
 use Rattle.binding_rules.specs.declared.role.Role.TheVariants.{Primary, Secondary}
 use Rattle.binding_rules.specs.declared.update.Status.{Status}
-use Rattle.binding_rules.specs.declared.update.Status.TheVariants.{Active, Expired, Released, Backup, Free}
+use Rattle.binding_rules.specs.declared.update.Status.TheVariants.{Active, Expired, Released, Backup, Free, Seized}
 use Rattle.binding_rules.specs.declared.update.Acknowledgement.{Acknowledgement}
 use Rattle.binding_rules.specs.declared.update.Acknowledgement.TheVariants.{Accept, Reject}
 use Rattle.binding_rules.specs.declared.update.Update.{Update}
@@ -31,6 +31,7 @@ status_code Expired = 2
 status_code Released = 3
 status_code Backup = 4
 status_code Free = 5
+status_code Seized = 6
 
 abbrev pub acknowledgement_code : Acknowledgement → ℕ
 acknowledgement_code Accept = 1

@@ -9,12 +9,13 @@ use crate::octets::Octets;
 use binding_rules::{Acknowledgement, Role, ServerState, Status};
 
 /// Whatever a unit may have become.
-const STATUSES: [Status; 5] = [
+const STATUSES: [Status; 6] = [
     Status::Active,
     Status::Expired,
     Status::Released,
     Status::Backup,
     Status::Free,
+    Status::Seized,
 ];
 
 /// Whatever a reply may say.
@@ -40,6 +41,7 @@ pub fn status_code(status: Status) -> u8
         Status::Released => 3,
         Status::Backup => 4,
         Status::Free => 5,
+        Status::Seized => 6,
     }
 }
 

@@ -8,6 +8,7 @@ use binding_rules::{
 use client_id::{Duid, Iaid};
 use lead_time::{End, Reading};
 use prefix_range::read_canonical;
+use std::process::Abort;
 use std::test::Fail;
 
 const CLIENT: &[u8] = b"00030001020000000001";
@@ -31,34 +32,43 @@ enum Row {
     PastOrSeen,
     /// The secondary's where the update has seen the last change here, else rejected.
     Seen,
+    /// The partner's to give where the receiver waits for it, else rejected.
+    Waits,
 }
 
-use Row::{Active, Free, No, Past, PastOrSeen, Seen};
+use Row::{Active, Free, No, Past, PastOrSeen, Seen, Waits};
 
 /// The updates, each a column.
-const UPDATES: [Status; 5] = [
+const UPDATES: [Status; 6] = [
     Status::Active,
     Status::Expired,
     Status::Released,
     Status::Backup,
     Status::Free,
+    Status::Seized,
 ];
 
 /// Of a unit that is active for the update's client, active for another, expired of either, released of either: the
 /// same at both servers.
-const HELD: [[Row; 5]; 6] = [
-    [Active, Past, PastOrSeen, No, No],
-    [No, No, No, No, No],
-    [No, Free, Free, No, No],
-    [No, Free, Free, No, No],
-    [No, Free, Free, No, No],
-    [No, Free, Free, No, No],
+const HELD: [[Row; 6]; 6] = [
+    [Active, Past, PastOrSeen, No, No, Waits],
+    [No, No, No, No, No, Waits],
+    [No, Free, Free, No, No, Waits],
+    [No, Free, Free, No, No, Waits],
+    [No, Free, Free, No, No, Waits],
+    [No, Free, Free, No, No, Waits],
 ];
 
 /// Of a unit that is free, or the secondary's.
-const AT_PRIMARY: [[Row; 5]; 2] = [[No, No, No, No, No], [Active, Free, Free, No, No]];
+const AT_PRIMARY: [[Row; 6]; 2] = [
+    [No, No, No, No, No, Waits],
+    [Active, Free, Free, No, No, Waits],
+];
 
-const AT_SECONDARY: [[Row; 5]; 2] = [[Active, Free, Free, Seen, Free], [No, No, No, No, Free]];
+const AT_SECONDARY: [[Row; 6]; 2] = [
+    [Active, Free, Free, Seen, Free, Waits],
+    [No, No, No, No, Free, Waits],
+];
 
 /// What a receiver knows and is told, beside what its unit is.
 #[derive(Clone, Copy)]
@@ -69,6 +79,8 @@ struct Setting {
     past: bool,
     /// Whether the update has seen the receiver's last change, not the one before.
     seen: bool,
+    waiting: bool,
+    marked: bool,
 }
 
 fn count(number: u64) -> Result<Counter, Fail> {
@@ -95,7 +107,7 @@ fn held() -> Result<[UnitStatus; 6], Fail> {
 }
 
 /// The receiver's unit: four changes of its own, two of the partner's seen.
-fn unit_of(status: UnitStatus, due: Option<Status>) -> Result<Unit, Fail> {
+fn unit_of(status: UnitStatus, due: Option<Status>, marked: bool) -> Result<Unit, Fail> {
     Ok(Unit {
         status,
         mine: count(4)?,
@@ -106,6 +118,7 @@ fn unit_of(status: UnitStatus, due: Option<Status>) -> Result<Unit, Fail> {
         told: End::new(15_000)?,
         due,
         pending: None,
+        marked,
     })
 }
 
@@ -113,7 +126,7 @@ fn unit_of(status: UnitStatus, due: Option<Status>) -> Result<Unit, Fail> {
 fn update_of(status: Status, seen: bool) -> Result<Update, Fail> {
     let client = binding(CLIENT)?;
     let (iaid, client) = match status {
-        Status::Backup | Status::Free => (Iaid(0), None),
+        Status::Backup | Status::Free | Status::Seized => (Iaid(0), None),
         _ => (client.iaid, Some(client.client)),
     };
     Ok(Update {
@@ -165,8 +178,21 @@ fn wanted(
         PastOrSeen => setting.past || setting.seen,
         _ => false,
     };
+    if setting.marked {
+        return Ok((Outcome::Reject, rejected));
+    }
     if is_free {
         return accepted(Unit::fresh());
+    }
+    if row == Waits && setting.waiting {
+        return accepted(Unit {
+            status: if setting.role == Role::Primary {
+                UnitStatus::FreeBackup
+            } else {
+                UnitStatus::Free
+            },
+            ..Unit::fresh()
+        });
     }
     if row == Active {
         return accepted(Unit {
@@ -189,7 +215,7 @@ fn wanted(
 fn taken(setting: Setting, unit: &Unit, update: &Update) -> Result<(Outcome, Unit), Fail> {
     let now = Reading::new(if setting.past { 20_000 } else { 19_999 })?;
     let taken = if unit.mine.number() < Counter::MAX {
-        Some(take_update(setting.role, unit, now, update))
+        Some(take_update(setting.role, unit, now, setting.waiting, update))
     } else {
         None
     };
@@ -200,13 +226,13 @@ fn taken(setting: Setting, unit: &Unit, update: &Update) -> Result<(Outcome, Uni
 fn rows_that_hold(
     setting: Setting,
     states: &[UnitStatus],
-    table: &[[Row; 5]],
+    table: &[[Row; 6]],
 ) -> Result<u32, Fail> {
     let rejection = reply(Acknowledgement::Reject, 4, 2)?;
     let mut held: u32 = 0;
     for (status, rows) in states.iter().zip(table) {
         for (told, row) in UPDATES.iter().zip(rows) {
-            let before = unit_of(*status, setting.due)?;
+            let before = unit_of(*status, setting.due, setting.marked)?;
             let update = update_of(*told, setting.seen)?;
             if taken(setting, &before, &update)? == wanted(*row, setting, &before, &rejection)? {
                 held = held.saturating_add(1);
@@ -216,24 +242,52 @@ fn rows_that_hold(
     Ok(held)
 }
 
+/// Whether each row of both tables holds at this server in this setting.
+fn tables_hold(setting: Setting) -> Result<bool, Fail> {
+    let free = [UnitStatus::Free, UnitStatus::FreeBackup];
+    let table = if setting.role == Role::Primary {
+        AT_PRIMARY
+    } else {
+        AT_SECONDARY
+    };
+    Ok(
+        rows_that_hold(setting, &free, &table)? == 12
+            && rows_that_hold(setting, &held()?, &HELD)? == 36,
+    )
+}
+
+/// Each setting of a server in this role: of three due changes, and yes or no of the rest.
+fn check_settings(rt: &impl Abort, role: Role, waiting: bool, marked: bool) -> Result<(), Fail> {
+    for due in [None, Some(Status::Active), Some(Status::Released)] {
+        for (past, seen) in [(false, false), (false, true), (true, false), (true, true)] {
+            let setting = Setting {
+                role,
+                due,
+                past,
+                seen,
+                waiting,
+                marked,
+            };
+            assert!(rt; tables_hold(setting)?);
+        }
+    }
+    Ok(())
+}
+
 #[test]
 fn answers_each_row_of_the_table(rt: HostRuntime) -> Result<(), Fail> {
-    for (role, table) in [(Role::Primary, AT_PRIMARY), (Role::Secondary, AT_SECONDARY)] {
-        for due in [None, Some(Status::Active), Some(Status::Released)] {
-            for past in [false, true] {
-                for seen in [false, true] {
-                    let setting = Setting {
-                        role,
-                        due,
-                        past,
-                        seen,
-                    };
-                    let free = [UnitStatus::Free, UnitStatus::FreeBackup];
-                    assert_eq!(rt; rows_that_hold(setting, &free, &table)?, 10);
-                    assert_eq!(rt; rows_that_hold(setting, &held()?, &HELD)?, 30);
-                }
-            }
-        }
+    for role in [Role::Primary, Role::Secondary] {
+        check_settings(&rt, role, false, false)?;
+        check_settings(&rt, role, true, false)?;
+    }
+    Ok(())
+}
+
+#[test]
+fn rejects_each_update_of_a_unit_that_it_seized(rt: HostRuntime) -> Result<(), Fail> {
+    for role in [Role::Primary, Role::Secondary] {
+        check_settings(&rt, role, false, true)?;
+        check_settings(&rt, role, true, true)?;
     }
     Ok(())
 }
@@ -246,8 +300,10 @@ fn keeps_the_greater_end_that_was_told(rt: HostRuntime) -> Result<(), Fail> {
         due: None,
         past: false,
         seen: false,
+        waiting: false,
+        marked: false,
     };
-    let before = unit_of(UnitStatus::Active(client), None)?;
+    let before = unit_of(UnitStatus::Active(client), None, false)?;
     let earlier = Update {
         end: End::new(10_000)?,
         ..update_of(Status::Active, false)?

@@ -34,7 +34,17 @@ fn binding(client: &[u8], iaid: u32) -> Result<Binding, Fail> {
 /// `take_update`, of a unit whose counter can rise.
 fn take(role: Role, unit: &Unit, now: Reading, update: &Update) -> Result<(Outcome, Unit), Fail> {
     let taken = if unit.mine.number() < Counter::MAX {
-        Some(take_update(role, unit, now, update))
+        Some(take_update(role, unit, now, false, update))
+    } else {
+        None
+    };
+    Ok(taken.ok_or("a counter that can rise")?)
+}
+
+/// `take_reply`, of a unit whose counter can rise.
+fn answer(unit: &Unit, reply: &BindReply) -> Result<Option<Unit>, Fail> {
+    let taken = if unit.mine.number() < Counter::MAX {
+        Some(take_reply(unit, reply))
     } else {
         None
     };
@@ -103,7 +113,7 @@ fn settle(
     };
     let taker = accepted.ok_or("an accepted update")?;
     let reply = taker.pending.ok_or("a reply")?;
-    let giver = take_reply(giver, &reply).ok_or("a reply that counts")?;
+    let giver = answer(giver, &reply)?.ok_or("a reply that counts")?;
     Ok((giver, taker))
 }
 
@@ -342,28 +352,67 @@ fn drops_replies_that_settle_nothing(rt: HostRuntime) -> Result<(), Fail> {
     let prefix = read_canonical(LAST_UNIT)?;
     let unit = given(binding(CLIENT, 1)?, 10_000)?;
     let reply = accepting(prefix, 1, 1, 1)?;
-    assert!(rt; take_reply(&unit, &reply).is_some());
-    assert_eq!(rt; take_reply(&Unit { due: None, ..unit }, &reply), None);
+    assert!(rt; answer(&unit, &reply)?.is_some());
+    assert_eq!(rt; answer(&Unit { due: None, ..unit }, &reply)?, None);
     assert_eq!(rt;
-        take_reply(
+        answer(
             &unit,
             &BindReply {
                 acknowledgement: Acknowledgement::Reject,
                 ..reply
             }
-        ),
+        )?,
         None
     );
-    assert_eq!(rt; take_reply(&unit, &accepting(prefix, 2, 1, 1)?), None);
+    assert_eq!(rt; answer(&unit, &accepting(prefix, 2, 1, 1)?)?, None);
     assert_eq!(rt;
-        take_reply(
+        answer(
             &Unit {
                 seen: count(1)?,
                 ..unit
             },
             &reply
-        ),
+        )?,
         None
     );
+    Ok(())
+}
+
+/// A unit that the primary took over at its third change, its second of the secondary's seen.
+fn seized() -> Result<Unit, Fail> {
+    Ok(Unit {
+        mine: count(3)?,
+        seen: count(2)?,
+        marked: true,
+        ..Unit::fresh()
+    })
+}
+
+#[test]
+fn a_reply_removes_the_mark(rt: HostRuntime) -> Result<(), Fail> {
+    let prefix = read_canonical(LAST_UNIT)?;
+    let unit = seized()?;
+    let reply = accepting(prefix, 3, 3, 3)?;
+    let plain = Unit {
+        seen: count(3)?,
+        marked: false,
+        ..unit
+    };
+    assert_eq!(rt; answer(&unit, &reply)?, Some(plain));
+    let given = Unit {
+        due: Some(Status::Active),
+        ..unit
+    };
+    // The grant that is due beside the mark counts anew.
+    assert_eq!(rt;
+        answer(&given, &reply)?,
+        Some(Unit {
+            mine: count(4)?,
+            due: Some(Status::Active),
+            ..plain
+        })
+    );
+    assert_eq!(rt; answer(&unit, &accepting(prefix, 2, 3, 3)?)?, None);
+    assert_eq!(rt; answer(&unit, &accepting(prefix, 3, 2, 3)?)?, None);
     Ok(())
 }

@@ -64,12 +64,13 @@ const OF_NOBODY: (&[u8], &[u8]) = (
 
 #[test]
 fn codes_statuses(rt: HostRuntime) -> Result<(), Fail> {
-    let cases: [(&[u8], (&[u8], &[u8]), Status); 5] = [
+    let cases: [(&[u8], (&[u8], &[u8]), Status); 6] = [
         (b"01", OF_A_CLIENT, Status::Active),
         (b"02", OF_A_CLIENT, Status::Expired),
         (b"03", OF_A_CLIENT, Status::Released),
         (b"04", OF_NOBODY, Status::Backup),
         (b"05", OF_NOBODY, Status::Free),
+        (b"06", OF_NOBODY, Status::Seized),
     ];
     for (code, (before, behind), status) in cases {
         let text = with_code(rt.alloc(), before, code, behind)?;
