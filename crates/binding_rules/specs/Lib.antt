@@ -4,3 +4,4 @@ pub mod Giving
 pub mod Table
 pub mod Reply
 pub mod Messages
+pub mod Statuses

@@ -15,6 +15,7 @@ use Rattle.binding_rules.specs.declared.update.BindReply.{BindReply}
 use Rattle.binding_rules.specs.declared.message.Body.{Body}
 use Rattle.binding_rules.specs.declared.message.Body.TheVariants.{Update as Updates, Reply, Contact}
 use Rattle.binding_rules.specs.declared.message.PartnerMessage.{PartnerMessage}
+use Rattle.binding_rules.specs.Statuses.{by_status}
 use Rattle.causal_order.specs.Tests.{same_status, same_prefix, same_client, same_update, same_acknowledgement, same_reply, same_body, same_message}
 
 status_is : (s t : Status) → same_status s t ≡ true → s ≡ t
@@ -27,12 +28,7 @@ status_is Seized Seized h = refl
 status_is _ _ h = cc
 
 status_same : (s : Status) → same_status s s ≡ true
-status_same Active = refl
-status_same Expired = refl
-status_same Released = refl
-status_same Backup = refl
-status_same Free = refl
-status_same Seized = refl
+status_same = by_status (λ s. same_status s s ≡ true) refl refl refl refl refl refl
 
 pub decides_status : (s t : Status) → Decides (same_status s t) (s ≡ t)
 decides_status s t = (status_is s t, λ e. subst (λ x. same_status s x ≡ true) e (status_same s))

@@ -5,13 +5,12 @@ use Rattle.text_fields.specs.Parsing.{◌>>=◌}
 use Rattle.text_fields.proofs.Steps.{bind_some, some_is}
 use Rattle.prefix_range.specs.Prefix.{Prefix, IsPrefix}
 use Rattle.binding_rules.specs.declared.role.Role.{Role}
-use Rattle.binding_rules.specs.declared.update.Status.{Status}
-use Rattle.binding_rules.specs.declared.update.Status.TheVariants.{Active, Expired, Released, Backup, Free, Seized}
 use Rattle.binding_rules.specs.declared.update.Update.{Update}
 use Rattle.binding_rules.specs.declared.update.BindReply.{BindReply}
 use Rattle.failover_message.specs.declared.codes.TheConstants.{STATUSES, ACKNOWLEDGEMENTS, ROLES}
 use Rattle.failover_message.specs.Frames.{number_octets, count_octets, prefix_octets, client_octets, status_code, acknowledgement_code, role_code, update_octets, reply_octets, greeting_octets}
 use Rattle.binding_rules.specs.Messages.{has_client, latest_end, IsUpdate, IsReply}
+use Rattle.binding_rules.specs.Statuses.{end_fits}
 use Rattle.failover_message.specs.Parsing.{limited_at, count_at, coded_at, prefix_at, holder_at, update_at, reply_at, greeting_at, contact_at}
 use Rattle.failover_message.proofs.FieldLaws.{IsBytes, Takes, Takes-then, limited_takes, limited_again, coded_takes, coded_again}
 use Rattle.failover_message.proofs.CodeLaws.{statuses, acknowledgements, roles}
@@ -43,14 +42,6 @@ pub count_again : (n : ℕ) (rest : List ℕ) → n ≤ 2 ^ 49 → count_at (cou
 count_again n rest le = limited_again (2 ^ 49) n rest le (omega arith)
 
 -- ---- bodies
-
-end_fits : (s : Status) → latest_end s ≤ 2 ^ 49
-end_fits Active = omega arith
-end_fits Expired = omega arith
-end_fits Released = omega arith
-end_fits Backup = omega arith
-end_fits Free = omega arith
-end_fits Seized = omega arith
 
 abbrev pub IsUpdateOf : List ℕ → Update × List ℕ → Type 0
 IsUpdateOf bytes x = Takes bytes (update_octets x.0) x.1 × IsUpdate x.0

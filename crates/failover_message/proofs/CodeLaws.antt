@@ -3,11 +3,11 @@ use Rattle.std.proofs.Common.{◌≡◌, ℕ, eqb, List, Option, Some, None, ref
 use Rattle.std.specs.Option.{option_map}
 use Rattle.std.specs.List.{find}
 use Rattle.binding_rules.specs.declared.role.Role.TheVariants.{Primary, Secondary}
-use Rattle.binding_rules.specs.declared.update.Status.TheVariants.{Active, Expired, Released, Backup, Free, Seized}
 use Rattle.binding_rules.specs.declared.update.Acknowledgement.TheVariants.{Accept, Reject}
 use Rattle.failover_message.specs.declared.codes.TheConstants.{STATUSES, ACKNOWLEDGEMENTS, ROLES, STATES}
 use Rattle.binding_rules.specs.declared.message.ServerState.TheVariants.{Normal, Interrupted, Down}
 use Rattle.text_fields.specs.Parsing.{Moves}
+use Rattle.binding_rules.specs.Statuses.{by_status}
 use Rattle.failover_message.specs.Parsing.{octet_at, coded_at}
 use Rattle.failover_message.specs.Frames.{status_code, acknowledgement_code, role_code, state_code}
 
@@ -16,12 +16,8 @@ abbrev pub IsTable : {A : Type 0} → (A → ℕ) → List A → Type 0
 IsTable {A} code_of values = (a : A) → find (λ value. eqb (code_of value) (code_of a)) values ≡ Some a
 
 pub statuses : IsTable status_code STATUSES
-statuses Active = refl
-statuses Expired = refl
-statuses Released = refl
-statuses Backup = refl
-statuses Free = refl
-statuses Seized = refl
+statuses =
+    by_status (λ s. find (λ value. eqb (status_code value) (status_code s)) STATUSES ≡ Some s) refl refl refl refl refl refl
 
 pub acknowledgements : IsTable acknowledgement_code ACKNOWLEDGEMENTS
 acknowledgements Accept = refl
