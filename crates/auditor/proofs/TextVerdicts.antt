@@ -35,7 +35,7 @@ accepted_parsed spelled a b certificate skew r accepted h ja jb claim ra rb sc =
 pub texts_parsed : SideGivesWhatItSpells → (a b certificate : List ℕ) (skew : ℕ) (ra rb : Result Lines JournalFault) → ra ≡ journal_of_side Primary a → rb ≡ journal_of_side Secondary b
     → ParsedIsTrueInEveryRun ra rb certificate skew → TextsAreTrueInEveryRun a b certificate skew
 texts_parsed spelled a b certificate skew ra rb ea eb h ja jb claim sa sb sc =
-    h ja jb claim (ea ∙ (spelled Primary a ja).1 (sa.written, sa.of_side, sa.spelled)) (eb ∙ (spelled Secondary b jb).1 (sb.written, sb.of_side, sb.spelled)) sc
+    h ja jb claim (ea ∙ (spelled Primary a ja).1 (sa.written, sa.first, sa.spelled)) (eb ∙ (spelled Secondary b jb).1 (sb.written, sb.first, sb.spelled)) sc
 
 -- the verdict on what was read
 pub verdict_of : (a b : Result Lines JournalFault) (certificate : List ℕ) (skew : ℕ) (v : Verdict) (ja jb : Lines) (claim : Claim) (js : Journals)

@@ -4,7 +4,7 @@ use Rattle.binding_rules.specs.declared.role.Role.{Role}
 use Rattle.binding_rules.specs.declared.role.Role.TheVariants.{Primary, Secondary}
 use Rattle.journal_lines.specs.declared.line.Journal.{Journal as Lines}
 use Rattle.journal_lines.specs.declared.fault.JournalFault.{JournalFault}
-use Rattle.journal_text.specs.Spelling.{journal_text, IsWritten as IsWrittenJournal}
+use Rattle.journal_text.specs.Spelling.{journal_text, IsFirstOf, IsWritten as IsWrittenJournal}
 use Rattle.journal_text.specs.Faults.{journal_of_side}
 use Rattle.claims.specs.declared.certificate.Certificate.{Certificate as Claim}
 use Rattle.claims.specs.declared.fault.CertificateFault.{CertificateFault}
@@ -40,10 +40,10 @@ abbrev pub IsVerdictOfTexts : (a b certificate : List ℕ) → ℕ → Verdict �
 IsVerdictOfTexts a b certificate skew v =
     IsVerdictOfParsed (journal_of_side Primary a) (journal_of_side Secondary b) skew (certificate_of certificate) v
 
--- the text spells this side's journal
+-- the text spells the first volume of this side's journal
 pub record SpellsJournal (side : Role) (text : List ℕ) (j : Lines) : Type 0 where
   pub written : IsWrittenJournal j
-  pub of_side : j.role ≡ side
+  pub first : IsFirstOf side j
   pub spelled : text ≡ journal_text j
 
 pub record SpellsCertificate (text : List ℕ) (claim : Claim) : Type 0 where

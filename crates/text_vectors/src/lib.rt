@@ -9,3 +9,5 @@ mod journal_chunks;
 mod journals;
 #[cfg(test)]
 mod prefixes;
+#[cfg(test)]
+mod volumes;

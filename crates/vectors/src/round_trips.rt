@@ -13,7 +13,7 @@ const CERTIFICATE: &str = "pd-certificate 1\n";
 
 fn check_journal(rt: &impl Abort, alloc: Global, text: &str) -> Result<(), Fail> {
     let journal = journal_text::read(alloc, text.as_bytes())?;
-    let written = journal_text::write(alloc, journal.role, journal.lines.as_slice())?;
+    let written = journal_text::write(alloc, journal.role, journal.head, journal.lines.as_slice())?;
     assert_eq!(rt; written.as_slice(), text.as_bytes());
     Ok(())
 }
