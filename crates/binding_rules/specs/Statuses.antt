@@ -5,7 +5,8 @@ use Rattle.binding_rules.specs.declared.update.Status.TheVariants.{Active, Expir
 use Rattle.binding_rules.specs.Messages.{latest_end}
 
 -- each status in turn
-pub by_status : (P : Status → Type 0) → P Active → P Expired → P Released → P Backup → P Free → P Seized → (s : Status) → P s
+pub by_status : (P : Status → Type 0)
+    → P Active → P Expired → P Released → P Backup → P Free → P Seized → (s : Status) → P s
 by_status P active expired released backup free seized Active = active
 by_status P active expired released backup free seized Expired = expired
 by_status P active expired released backup free seized Released = released
@@ -16,4 +17,5 @@ by_status P active expired released backup free seized Seized = seized
 -- no status has an end past the largest reading
 pub end_fits : (s : Status) → latest_end s ≤ 2 ^ 49
 end_fits =
-    by_status (λ s. latest_end s ≤ 2 ^ 49) (omega arith) (omega arith) (omega arith) (omega arith) (omega arith) (omega arith)
+    by_status (λ s. latest_end s ≤ 2 ^ 49)
+    (omega arith) (omega arith) (omega arith) (omega arith) (omega arith) (omega arith)
