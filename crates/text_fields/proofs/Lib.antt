@@ -8,3 +8,4 @@ pub mod OctetLaws
 pub mod WordLaws
 pub mod DigitTests
 pub mod Appending
+pub mod Ahead

@@ -2,7 +2,10 @@
 
 ghost use Rattle.std.specs.Prelude.{◌≡◌, ◌∷◌, ◌↔◌, [], IsTrue, MatchOption};
 ghost use Rattle.text_fields.specs.Cuts.{split};
+ghost use Rattle.text_fields.specs.Number.{number_of};
+ghost use Rattle.text_fields.specs.Parsing.{Moves, first_word};
 
+use crate::number::{number_ahead, number_of};
 use memchr::memchr;
 use std::marker::Model;
 
@@ -61,6 +64,21 @@ impl<'a> Cuts<'a> {
                 self.rest = None;
                 Some(rest)
             }
+        }
+    }
+
+    /// The number that the next cut spells, as `number_of` of `next_cut` finds it.
+    #[tactic(auto, unfolding(crate::specs::Parsing::first_word))]
+    pub fn next_number(&mut self) -> Option<u64>
+        ensures { Moves (λ n. n) result self.new (first_word number_of self.old) }
+    {
+        let rest = self.rest?;
+        match number_ahead(rest, self.stop) {
+            Some((number, behind)) => {
+                self.rest = behind;
+                Some(number)
+            }
+            None => number_of(self.next_cut()?),
         }
     }
 
