@@ -1,11 +1,13 @@
 //! DHCP unique identifiers.
 
-ghost use Rattle.std.specs.Prelude.{◌≡◌, ◌≤◌, ◌↔◌, ℕ, List, length, Ok, IfOk, IfErr, IsErrOf, string_bytes};
+ghost use Rattle.std.specs.Prelude.{◌≡◌, ◌%◌, ◌≤◌, ◌↔◌, ℕ, List, length, replicate, option_map, is_some, Ok, IfOk, IfErr};
+ghost use Rattle.std.specs.Prelude.{IsErrOf, if◌then◌else◌, string_bytes};
 ghost use Rattle.std.specs.Str.{bytes_eq};
 ghost use Rattle.std.specs.Hash as fed;
 ghost use Rattle.std.specs.Cmp.Rules.{comparing, hashing};
 ghost use Rattle.std.proofs.Common.{rules};
-ghost use Rattle.text_fields.specs.Octets.{hex};
+ghost use Rattle.text_fields.specs.Octets.{hex, octets_of};
+ghost use Rattle.text_fields.specs.Parsing.{Finds};
 ghost use Rattle.client_id.specs.Octets.{padded};
 ghost use Rattle.client_id.specs.Duid.{IsDuid, IsHex, duid_in, duid_of};
 
@@ -77,20 +79,49 @@ fn filled(octets: &[u8]) -> [u8; 130]
     bytes
 }
 
-#[tactic(auto, using(crate::proofs::TextLaws::odd_hex, crate::proofs::TextLaws::even_hex, crate::proofs::TextLaws::long_hex, crate::proofs::TextLaws::duid_found))]
+/// Reads the digits into the front of an array of zeros; `None` where one is no digit.
+#[tactic(auto, using(crate::proofs::Filling::filled_front, crate::proofs::Filling::filled_none))]
+fn fill(text: &[u8], bytes: &mut [u8; 130]) -> Option<()>
+    requires zeros { bytes.old ≡ replicate 130 0 }
+    requires even { length text.now % 2 ≡ 0 }
+    requires most { length text.now ≤ 260 }
+    ensures { Finds (λ _. bytes.new) result (option_map padded (octets_of text.now)) }
+{
+    octets_of(text, &mut bytes[..text.len() / 2])?;
+    Some(())
+}
+
+/// The fault of a text whose length is at fault: one of its digits comes first.
+fn fault_of(text: &[u8], length: ClientIdError) -> ClientIdError
+    ensures { result ≡ (if is_some (octets_of text.now) then length else ClientIdError.Hex) }
+{
+    if is_hex(text) {
+        length
+    } else {
+        ClientIdError::Hex
+    }
+}
+
+#[tactic(auto, using(crate::proofs::TextLaws::short_fault, crate::proofs::TextLaws::long_fault, crate::proofs::TextLaws::odd_fault))]
 fn read_hex(text: &[u8]) -> Result<Duid, ClientIdError>
     ensures { result ≡ duid_of text.now }
 {
-    if !is_hex(text) {
+    let len = text.len();
+    if len < 6 {
+        return Err(fault_of(text, ClientIdError::TooShort));
+    }
+    if len > 260 {
+        return Err(fault_of(text, ClientIdError::TooLong));
+    }
+    if len % 2 != 0 {
         return Err(ClientIdError::Hex);
     }
-    if text.len() > 260 {
-        return Err(ClientIdError::TooLong);
-    }
-    let mut buffer = [0u8; 130];
-    let octets = &mut buffer[..text.len() / 2];
-    match octets_of(text, octets) {
-        Some(()) => Duid::from_bytes(octets),
+    let mut bytes = [0u8; 130];
+    match fill(text, &mut bytes) {
+        Some(()) => Ok(Duid {
+            bytes,
+            len: (len / 2) as u8,
+        }),
         None => Err(ClientIdError::Hex),
     }
 }
