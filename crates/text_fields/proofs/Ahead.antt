@@ -58,11 +58,11 @@ grows text i n few h =
 
 -- ---- what was read is a number, and its cut ends there
 
-spelled : (word : List ℕ) (n : ℕ) → digits_of 0 word ≡ Some n → 0 < length word → get_or word 0 0 ≢ 48 → number_of word ≡ Some n
+spelled : (word : List ℕ) (n : ℕ) → digits_of 0 word ≡ Some n → 0 < length word → (1 < length word → get_or word 0 0 ≢ 48) → number_of word ≡ Some n
 unfolding number_of
 spelled [] n e some lead = absurd (omega arith)
 spelled (b ∷ []) n e some lead = e
-spelled (b ∷ c ∷ word) n e some lead = rw (ne_eqb b 48 lead) e
+spelled (b ∷ c ∷ word) n e some lead = rw (ne_eqb b 48 (lead (omega arith))) e
 
 -- digits lack a stop that is no digit
 digits_lack : (stop : ℕ) (word : List ℕ) (n m : ℕ) → is_ascii_digit stop ≡ false → digits_of n word ≡ Some m → Lacks stop word
@@ -75,18 +75,18 @@ digits_lack stop (b ∷ word) n m none e =
     let other : b ≢ stop = λ same. let no : is_ascii_digit b ≡ false = ap is_ascii_digit same ∙ none in absurd cc in
     (other, digits_lack stop word s.0 m none s.2)
 
--- digits in front of a text, the first no zero
+-- digits in front of a text, of which no zero leads others
 pub record IsAhead (stop : ℕ) (text : List ℕ) (count n : ℕ) : Type 0 where
   pub value : digits_of 0 (take count text) ≡ Some n
   pub within : count ≤ length text
   pub some : 0 < count
-  pub lead : get_or text 0 0 ≢ 48
+  pub lead : 1 < count → get_or text 0 0 ≢ 48
   pub other : is_ascii_digit stop ≡ false
 
 number_is : (stop : ℕ) (text : List ℕ) (count n : ℕ) → IsAhead stop text count n → number_of (take count text) ≡ Some n
 number_is stop text count n h =
     let long = length-take count text in
-    spelled (take count text) n h.value (omega (arith, h.some, h.within, long)) (rw (get_or-take count text 0 0 h.some) h.lead)
+    spelled (take count text) n h.value (omega (arith, h.some, h.within, long)) (λ lt. rw (get_or-take count text 0 0 h.some) (h.lead (omega (arith, long))))
 
 pub is_last : (stop : ℕ) (text : List ℕ) (count n : ℕ) → IsAhead stop text count n → count ≡ length text → first_word number_of (split stop text) ≡ Some (n, [])
 unfolding first_word

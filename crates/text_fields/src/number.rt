@@ -62,12 +62,12 @@ fn leading_number(text: &[u8]) -> (u64, usize)
 }
 
 /// The number that the first cut of a text spells, and what stands behind its stop: the stop needs no search of its
-/// own. `None` also for a number that begins with 0 or has more than `SURE_DIGITS`.
+/// own. `None` also for a number of more than `SURE_DIGITS`.
 pub(crate) fn number_ahead(text: &[u8], stop: u8) -> Option<(u64, Option<&[u8]>)>
     ensures { IfSome result (λ x. first_word number_of (split stop text.now) ≡ Some (x.0, cuts_left stop x.1)) }
 {
     let (number, count) = leading_number(text);
-    if count == 0 || text[0] == b'0' || stop.is_ascii_digit() {
+    if count == 0 || count > 1 && text[0] == b'0' || stop.is_ascii_digit() {
         return None;
     }
     if count == text.len() {
