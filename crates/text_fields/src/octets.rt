@@ -12,10 +12,14 @@ use std::alloc::AllocError;
 fn digit_value(b: u8) -> u16
     ensures { MatchOption (hex_value b) (result ≡ 256) (λ n. (result ≡ n) × (n < 16)) }
 {
-    match b {
-        b'0'..=b'9' => u16::from(b - b'0'),
-        b'a'..=b'f' => u16::from(b - b'a') + 10,
-        _ => 256,
+    let decimal = u16::from(b.wrapping_sub(b'0'));
+    let letter = u16::from(b.wrapping_sub(b'a'));
+    if decimal < 10 {
+        decimal
+    } else if letter < 6 {
+        letter + 10
+    } else {
+        256
     }
 }
 
