@@ -9,3 +9,4 @@ pub mod WordLaws
 pub mod DigitTests
 pub mod Appending
 pub mod Ahead
+pub mod Looks
