@@ -1,13 +1,12 @@
 -- The identifier that is read of a text is spelled so, and an identifier that is spelled is read again.
-use Rattle.std.proofs.Common.{◌≡◌, ℕ, ◌-◌, ◌<◌, ◌≤◌, ◌≢◌, ◌^◌, take, Bool, true, false, cond, eqb, ltb, List, length, [], ◌∷◌, ◌/◌, ◌%◌, zero, suc, get_or, Option, Some, None, Result, Ok, Err, refl, sym, ap, subst, ◌∙◌, arith}
+use Rattle.std.proofs.Common.{◌≡◌, ℕ, ◌-◌, ◌<◌, ◌≤◌, ◌≢◌, ◌^◌, take, Bool, true, false, cond, eqb, ltb, List, length, [], ◌∷◌, ◌/◌, ◌%◌, inl, inr, zero, suc, get_or, Option, Some, None, Result, Ok, Err, refl, sym, ap, subst, ◌∙◌, arith}
 use Rattle.std.proofs.Math.Seq.{take-append_seam}
 use Rattle.std.specs.Prelude.{option_map, is_some, replicate}
 use Rattle.std.specs.Int.{w32, to_be_bytes, from_be_bytes}
-use Rattle.std.proofs.lemmas.Bool.{eqb-true, ltb-false, le-ltb, lt-ltb}
+use Rattle.std.proofs.lemmas.Bool.{cases_lt, eqb-true, ltb-false, le-ltb, lt-ltb}
 use Rattle.std.proofs.lemmas.Nat.{be_bytes_4, from_be_bytes-to_be_bytes_4}
 use Rattle.hex.specs.Hex.{lower_digits, encode_with, encode_lower}
 use Rattle.text_fields.specs.Octets.{AreOctets, hex_digit, hex, octets_of}
-use Rattle.text_fields.proofs.Digits.{octets_odd}
 use Rattle.text_fields.proofs.Steps.{map_some, chosen}
 use Rattle.text_fields.proofs.OctetLaws.{octets_take, octets_again, length-hex, octets_are_bytes, are_octets}
 use Rattle.client_id.specs.declared.error.ClientIdError.{ClientIdError}
@@ -119,36 +118,50 @@ none_of : (o : Option (List ℕ)) → is_some o ≡ false → o ≡ None
 none_of None e = refl
 none_of (Some x) e = absurd cc
 
--- the fault of a length stands behind that of digits
-fault_by : (text : List ℕ) (fault : ClientIdError) (some : Bool) → is_some (octets_of text) ≡ some → (some ≡ true → duid_of text ≡ Err fault) → duid_of text ≡ Err (cond some fault Hex)
-fault_by text fault true e h = h refl
-fault_by text fault false e h = no_hex text (none_of (octets_of text) e)
+pub hex_fault_is : (text : List ℕ) → is_some (octets_of text) ≡ false → Err Hex ≡ duid_of text
+hex_fault_is text e = sym (no_hex text (none_of (octets_of text) e))
 
-pub short_fault : (text : List ℕ) (fault : ClientIdError) → length text < 6 → fault ≡ cond (is_some (octets_of text)) TooShort Hex → Err fault ≡ duid_of text
-short_fault text fault lt e = sym (fault_by text TooShort (is_some (octets_of text)) refl (λ some. short_hex text some lt) ∙ ap (λ f. Err f) (sym e))
+pub short_fault : (text : List ℕ) → is_some (octets_of text) ≡ true → length text < 6 → Err TooShort ≡ duid_of text
+short_fault text e lt = sym (short_hex text e lt)
 
-pub long_fault : (text : List ℕ) (fault : ClientIdError) → 260 < length text → fault ≡ cond (is_some (octets_of text)) TooLong Hex → Err fault ≡ duid_of text
-long_fault text fault lt e = sym (fault_by text TooLong (is_some (octets_of text)) refl (λ some. long_hex text some lt) ∙ ap (λ f. Err f) (sym e))
+-- octets that are no identifier, and not too few, are too many
+pub long_fault : (text : List ℕ) → is_some (octets_of text) ≡ true → 6 ≤ length text → duid_word text ≡ None → Err TooLong ≡ duid_of text
+long_fault text e least none =
+    let s = some_of (octets_of text) e in
+    let o = octets_take text s.0 s.1 in
+    let long = ap length o.0 ∙ length-hex s.0 in
+    elim (cases_lt 130 (length s.0)) [
+      | inl lt ↦ sym (long_hex text e (omega (arith, long, lt)))
+      | inr le ↦ (let is : duid_of text ≡ Ok s.0 = duid_found text s.0 s.1 ∙ in_again s.0 (record { fits = o.1; least = omega (arith, long); most = le }) in let some = ap found_duid is in absurd cc)
+    ]
 
-pub odd_fault : (text : List ℕ) → length text % 2 ≢ 0 → Err Hex ≡ duid_of text
-odd_fault text odd = sym (no_hex text (octets_odd text (omega arith)))
+-- the lengths of words that spell identifiers
+none_found : (o : Option (List ℕ)) → ((d : List ℕ) → o ≡ Some d → ⊥) → o ≡ None
+none_found None h = refl
+none_found (Some d) h = absurd (h d refl)
+
+pub wrong_length : (word : List ℕ) → (6 ≤ length word → length word ≤ 260 → length word % 2 ≢ 0) → duid_word word ≡ None
+wrong_length word wrong = none_found (duid_word word) (λ d e. let t = duid_word_takes word d e in let long = ap length t.0 ∙ length-hex d in wrong (omega (arith, long, t.1.least)) (omega (arith, long, t.1.most)) (omega (arith, long)))
+
+pub word_found : (r : Result (List ℕ) ClientIdError) (d : List ℕ) → found_duid r ≡ Some d → Ok d ≡ r
+word_found r d e = sym (word_by r d e)
 
 -- what was read into an array of zeros
-pub no_digits : (text : List ℕ) → option_map padded (octets_of text) ≡ None → Err Hex ≡ duid_of text
-no_digits text e = sym (no_hex text (unmapped (octets_of text) e))
+pub no_digits : (text : List ℕ) → option_map padded (octets_of text) ≡ None → duid_word text ≡ None
+no_digits text e = ap found_duid (no_hex text (unmapped (octets_of text) e))
   where
     unmapped : (o : Option (List ℕ)) → option_map padded o ≡ None → o ≡ None
     unmapped None e = refl
     unmapped (Some x) e = absurd cc
 
-pub read_octets : (text bytes : List ℕ) → 6 ≤ length text → length text ≤ 260 → option_map padded (octets_of text) ≡ Some bytes → (IsPadded bytes (length text / 2)) × (Ok (take (length text / 2) bytes) ≡ duid_of text)
+pub read_octets : (text bytes : List ℕ) → 6 ≤ length text → length text ≤ 260 → option_map padded (octets_of text) ≡ Some bytes → (IsPadded bytes (length text / 2)) × (duid_word text ≡ Some (take (length text / 2) bytes))
 read_octets text bytes least most e =
     let m = map_some (octets_of text) padded bytes e in
     let o = octets_take text m.0 m.1 in
     let count : length text / 2 ≡ length m.0 = omega (arith, ap length o.0, length-hex m.0) in
     let fits = is_padded m.0 o.1 (omega (arith, count)) (omega (arith, count)) in
     let front : take (length text / 2) bytes ≡ m.0 = ap (λ (n : ℕ). take n bytes) count ∙ (ap (λ (b : List ℕ). take (length m.0) b) (sym m.2) ∙ take-append_seam m.0 (replicate (130 - length m.0) 0)) in
-    (subst (λ (n : ℕ). IsPadded bytes n) (sym count) (subst (λ (b : List ℕ). IsPadded b (length m.0)) m.2 fits), ap (λ (x : List ℕ). Ok x) front ∙ sym (duid_found text m.0 m.1 ∙ in_again m.0 (record { fits = o.1; least = omega (arith, count); most = omega (arith, count) })))
+    (subst (λ (n : ℕ). IsPadded bytes n) (sym count) (subst (λ (b : List ℕ). IsPadded b (length m.0)) m.2 fits), ap found_duid (duid_found text m.0 m.1 ∙ in_again m.0 (record { fits = o.1; least = omega (arith, count); most = omega (arith, count) })) ∙ ap (λ (x : List ℕ). Some x) (sym front))
 
 -- ---- IAIDs
 

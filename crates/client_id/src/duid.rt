@@ -1,7 +1,7 @@
 //! DHCP unique identifiers.
 
-ghost use Rattle.std.specs.Prelude.{◌≡◌, ◌%◌, ◌≤◌, ◌↔◌, ℕ, List, length, replicate, option_map, is_some, Ok, IfOk, IfErr};
-ghost use Rattle.std.specs.Prelude.{IsErrOf, if◌then◌else◌, string_bytes};
+ghost use Rattle.std.specs.Prelude.{◌≡◌, ◌%◌, ◌≤◌, ◌↔◌, ℕ, List, length, replicate, option_map, Err, None, Ok, IfOk, IfErr};
+ghost use Rattle.std.specs.Prelude.{IsErrOf, string_bytes};
 ghost use Rattle.std.specs.Str.{bytes_eq};
 ghost use Rattle.std.specs.Hash as fed;
 ghost use Rattle.std.specs.Cmp.Rules.{comparing, hashing};
@@ -9,7 +9,7 @@ ghost use Rattle.std.proofs.Common.{rules};
 ghost use Rattle.text_fields.specs.Octets.{hex, octets_of};
 ghost use Rattle.text_fields.specs.Parsing.{Finds};
 ghost use Rattle.client_id.specs.Octets.{padded};
-ghost use Rattle.client_id.specs.Duid.{IsDuid, IsHex, duid_in, duid_of};
+ghost use Rattle.client_id.specs.Duid.{IsDuid, IsHex, duid_in, duid_of, duid_word};
 
 use crate::error::ClientIdError;
 use std::alloc::Global;
@@ -91,38 +91,28 @@ fn fill(text: &[u8], bytes: &mut [u8; 130]) -> Option<()>
     Some(())
 }
 
-/// The fault of a text whose length is at fault: one of its digits comes first.
-fn fault_of(text: &[u8], length: ClientIdError) -> ClientIdError
-    ensures { result ≡ (if is_some (octets_of text.now) then length else ClientIdError.Hex) }
+/// Why a text spells no identifier: first a fault of its digits, then one of its length.
+#[tactic(auto, using(crate::proofs::TextLaws::hex_fault_is, crate::proofs::TextLaws::short_fault, crate::proofs::TextLaws::long_fault))]
+fn fault_of(text: &[u8]) -> ClientIdError
+    requires { duid_word text.now ≡ None }
+    ensures { Err result ≡ duid_of text.now }
 {
-    if is_hex(text) {
-        length
-    } else {
+    if !is_hex(text) {
         ClientIdError::Hex
+    } else if text.len() < 6 {
+        ClientIdError::TooShort
+    } else {
+        ClientIdError::TooLong
     }
 }
 
-#[tactic(auto, using(crate::proofs::TextLaws::short_fault, crate::proofs::TextLaws::long_fault, crate::proofs::TextLaws::odd_fault))]
+#[tactic(auto, using(crate::proofs::TextLaws::word_found))]
 fn read_hex(text: &[u8]) -> Result<Duid, ClientIdError>
     ensures { result ≡ duid_of text.now }
 {
-    let len = text.len();
-    if len < 6 {
-        return Err(fault_of(text, ClientIdError::TooShort));
-    }
-    if len > 260 {
-        return Err(fault_of(text, ClientIdError::TooLong));
-    }
-    if len % 2 != 0 {
-        return Err(ClientIdError::Hex);
-    }
-    let mut bytes = [0u8; 130];
-    match fill(text, &mut bytes) {
-        Some(()) => Ok(Duid {
-            bytes,
-            len: (len / 2) as u8,
-        }),
-        None => Err(ClientIdError::Hex),
+    match Duid::from_word(text) {
+        Some(duid) => Ok(duid),
+        None => Err(fault_of(text)),
     }
 }
 
@@ -150,6 +140,25 @@ impl Duid {
         ensures whole { IsDuid result.now }
     {
         &self.bytes[..self.len as usize]
+    }
+
+    /// The identifier that a word spells, as `from_hex` finds it, with no fault told where it spells none.
+    #[tactic(auto, using(crate::proofs::TextLaws::wrong_length))]
+    pub fn from_word(word: &[u8]) -> Option<Duid>
+        ensures { Finds (λ d. d) result (duid_word word.now) }
+    {
+        let len = word.len();
+        if len < 6 || len > 260 || len % 2 != 0 {
+            return None;
+        }
+        let mut bytes = [0u8; 130];
+        match fill(word, &mut bytes) {
+            Some(()) => Some(Duid {
+                bytes,
+                len: (len / 2) as u8,
+            }),
+            None => None,
+        }
     }
 
     /// The identifier that lower-case digits spell, two for each octet: `Hex` where they spell no octets,
