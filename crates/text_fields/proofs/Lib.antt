@@ -10,3 +10,4 @@ pub mod DigitTests
 pub mod Appending
 pub mod Ahead
 pub mod Looks
+pub mod DigitTable
