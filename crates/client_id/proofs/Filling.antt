@@ -1,6 +1,6 @@
 -- An array of zeros whose front is written.
-use Rattle.std.proofs.Common.{◌≡◌, ◌-◌, ◌≤◌, ℕ, suc, ◌<◌, get_or, List, [], ◌∷◌, ◌++◌, length, take, drop, refl, arith}
-use Rattle.std.specs.Prelude.{replicate}
+use Rattle.std.proofs.Common.{◌≡◌, ◌-◌, ◌≤◌, ℕ, suc, ◌<◌, get_or, Option, Some, None, List, [], ◌∷◌, ◌++◌, length, take, drop, refl, arith}
+use Rattle.std.specs.Prelude.{replicate, option_map}
 use Rattle.std.proofs.lemmas.List.{drop-replicate, length-append, length-replicate}
 use Rattle.std.proofs.Math.Seq.{drop-append_seam, take-append_seam}
 use Rattle.std.proofs.lemmas.List.{length-take}
@@ -30,3 +30,10 @@ is_duid bytes len h = let n = length-take len bytes in record { fits = h.fits; l
 pub bytes_are_octets : (octets : List ℕ) → ((k : ℕ) → get_or octets k 0 < 256) → AreOctets octets
 bytes_are_octets [] h = tt
 bytes_are_octets (x ∷ octets) h = (h 0, bytes_are_octets octets (λ k. h (suc k)))
+
+-- octets that were read into the front of zeros
+pub filled_front : (o : Option (List ℕ)) (octets : List ℕ) (n : ℕ) → o ≡ Some octets → n ≡ length octets → option_map padded o ≡ Some (octets ++ drop n (replicate 130 0))
+filled_front o octets n e long = rw (e, filled_zeros octets n long) refl
+
+pub filled_none : (o : Option (List ℕ)) → o ≡ None → option_map padded o ≡ None
+filled_none o e = rw e refl

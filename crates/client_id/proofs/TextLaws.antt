@@ -1,8 +1,9 @@
 -- The identifier that is read of a text is spelled so, and an identifier that is spelled is read again.
-use Rattle.std.proofs.Common.{◌≡◌, ℕ, ◌*◌, ◌<◌, ◌^◌, Bool, true, false, cond, eqb, ltb, List, length, [], ◌∷◌, ◌/◌, ◌%◌, zero, suc, get_or, Option, Some, None, Result, Ok, Err, refl, sym, ap, subst, ◌∙◌, arith}
-use Rattle.std.specs.Prelude.{option_map, is_some}
+use Rattle.std.proofs.Common.{◌≡◌, ℕ, ◌-◌, ◌<◌, ◌≤◌, ◌≢◌, ◌^◌, take, Bool, true, false, cond, eqb, ltb, List, length, [], ◌∷◌, ◌/◌, ◌%◌, inl, inr, zero, suc, get_or, Option, Some, None, Result, Ok, Err, refl, sym, ap, subst, ◌∙◌, arith}
+use Rattle.std.proofs.Math.Seq.{take-append_seam}
+use Rattle.std.specs.Prelude.{option_map, is_some, replicate}
 use Rattle.std.specs.Int.{w32, to_be_bytes, from_be_bytes}
-use Rattle.std.proofs.lemmas.Bool.{eqb-true, ltb-false, le-ltb, lt-ltb}
+use Rattle.std.proofs.lemmas.Bool.{cases_lt, eqb-true, ltb-false, le-ltb, lt-ltb}
 use Rattle.std.proofs.lemmas.Nat.{be_bytes_4, from_be_bytes-to_be_bytes_4}
 use Rattle.hex.specs.Hex.{lower_digits, encode_with, encode_lower}
 use Rattle.text_fields.specs.Octets.{AreOctets, hex_digit, hex, octets_of}
@@ -10,6 +11,8 @@ use Rattle.text_fields.proofs.Steps.{map_some, chosen}
 use Rattle.text_fields.proofs.OctetLaws.{octets_take, octets_again, length-hex, octets_are_bytes, are_octets}
 use Rattle.client_id.specs.declared.error.ClientIdError.{ClientIdError}
 use Rattle.client_id.specs.declared.error.ClientIdError.TheVariants.{TooShort, TooLong, Hex}
+use Rattle.client_id.specs.Octets.{IsPadded, padded}
+use Rattle.client_id.proofs.Filling.{is_padded}
 use Rattle.client_id.specs.Duid.{IsDuid, IsHex, iaid_text, duid_in, duid_by, duid_of, found_duid, duid_word, iaid_word}
 
 -- ---- lengths
@@ -85,34 +88,80 @@ duid_word_again d h = ap found_duid (duid_again d h)
 
 -- ---- what the reader meets
 
-pub odd_hex : (text : List ℕ) → is_some (octets_of text) ≡ false → duid_of text ≡ Err Hex
+no_hex : (text : List ℕ) → octets_of text ≡ None → duid_of text ≡ Err Hex
 unfolding duid_of
-odd_hex text e = by (octets_of text) e
-  where
-    by : (o : Option (List ℕ)) → is_some o ≡ false → duid_by o ≡ Err Hex
-    by None e = refl
-    by (Some x) e = absurd cc
+no_hex text e = rw e refl
 
 some_of : (o : Option (List ℕ)) → is_some o ≡ true → (octets : List ℕ) × (o ≡ Some octets)
 some_of None e = absurd cc
 some_of (Some x) e = (x, refl)
 
-pub even_hex : (text : List ℕ) → is_some (octets_of text) ≡ true → length text ≡ 2 * (length text / 2)
-even_hex text e =
-    let s = some_of (octets_of text) e in
-    let o = octets_take text s.0 s.1 in
-    omega (arith, ap length o.0, length-hex s.0)
-
-pub duid_found : (text octets : List ℕ) → octets_of text ≡ Some octets → duid_of text ≡ duid_in octets
+duid_found : (text octets : List ℕ) → octets_of text ≡ Some octets → duid_of text ≡ duid_in octets
 unfolding duid_of
 duid_found text octets e = rw e refl
 
-pub long_hex : (text : List ℕ) → is_some (octets_of text) ≡ true → 260 < length text → duid_of text ≡ Err TooLong
+long_hex : (text : List ℕ) → is_some (octets_of text) ≡ true → 260 < length text → duid_of text ≡ Err TooLong
 long_hex text e lt =
     let s = some_of (octets_of text) e in
     let o = octets_take text s.0 s.1 in
     let long : 130 < length s.0 = omega (arith, ap length o.0, length-hex s.0) in
     duid_found text s.0 s.1 ∙ rw (le-ltb (length s.0) 3 (omega arith), lt-ltb 130 (length s.0) long) refl
+
+short_hex : (text : List ℕ) → is_some (octets_of text) ≡ true → length text < 6 → duid_of text ≡ Err TooShort
+short_hex text e lt =
+    let s = some_of (octets_of text) e in
+    let o = octets_take text s.0 s.1 in
+    let short : length s.0 < 3 = omega (arith, ap length o.0, length-hex s.0) in
+    duid_found text s.0 s.1 ∙ rw (lt-ltb (length s.0) 3 short) refl
+
+none_of : (o : Option (List ℕ)) → is_some o ≡ false → o ≡ None
+none_of None e = refl
+none_of (Some x) e = absurd cc
+
+pub hex_fault_is : (text : List ℕ) → is_some (octets_of text) ≡ false → Err Hex ≡ duid_of text
+hex_fault_is text e = sym (no_hex text (none_of (octets_of text) e))
+
+pub short_fault : (text : List ℕ) → is_some (octets_of text) ≡ true → length text < 6 → Err TooShort ≡ duid_of text
+short_fault text e lt = sym (short_hex text e lt)
+
+-- octets that are no identifier, and not too few, are too many
+pub long_fault : (text : List ℕ) → is_some (octets_of text) ≡ true → 6 ≤ length text → duid_word text ≡ None → Err TooLong ≡ duid_of text
+long_fault text e least none =
+    let s = some_of (octets_of text) e in
+    let o = octets_take text s.0 s.1 in
+    let long = ap length o.0 ∙ length-hex s.0 in
+    elim (cases_lt 130 (length s.0)) [
+      | inl lt ↦ sym (long_hex text e (omega (arith, long, lt)))
+      | inr le ↦ (let is : duid_of text ≡ Ok s.0 = duid_found text s.0 s.1 ∙ in_again s.0 (record { fits = o.1; least = omega (arith, long); most = le }) in let some = ap found_duid is in absurd cc)
+    ]
+
+-- the lengths of words that spell identifiers
+none_found : (o : Option (List ℕ)) → ((d : List ℕ) → o ≡ Some d → ⊥) → o ≡ None
+none_found None h = refl
+none_found (Some d) h = absurd (h d refl)
+
+pub wrong_length : (word : List ℕ) → (6 ≤ length word → length word ≤ 260 → length word % 2 ≢ 0) → duid_word word ≡ None
+wrong_length word wrong = none_found (duid_word word) (λ d e. let t = duid_word_takes word d e in let long = ap length t.0 ∙ length-hex d in wrong (omega (arith, long, t.1.least)) (omega (arith, long, t.1.most)) (omega (arith, long)))
+
+pub word_found : (r : Result (List ℕ) ClientIdError) (d : List ℕ) → found_duid r ≡ Some d → Ok d ≡ r
+word_found r d e = sym (word_by r d e)
+
+-- what was read into an array of zeros
+pub no_digits : (text : List ℕ) → option_map padded (octets_of text) ≡ None → duid_word text ≡ None
+no_digits text e = ap found_duid (no_hex text (unmapped (octets_of text) e))
+  where
+    unmapped : (o : Option (List ℕ)) → option_map padded o ≡ None → o ≡ None
+    unmapped None e = refl
+    unmapped (Some x) e = absurd cc
+
+pub read_octets : (text bytes : List ℕ) → 6 ≤ length text → length text ≤ 260 → option_map padded (octets_of text) ≡ Some bytes → (IsPadded bytes (length text / 2)) × (duid_word text ≡ Some (take (length text / 2) bytes))
+read_octets text bytes least most e =
+    let m = map_some (octets_of text) padded bytes e in
+    let o = octets_take text m.0 m.1 in
+    let count : length text / 2 ≡ length m.0 = omega (arith, ap length o.0, length-hex m.0) in
+    let fits = is_padded m.0 o.1 (omega (arith, count)) (omega (arith, count)) in
+    let front : take (length text / 2) bytes ≡ m.0 = ap (λ (n : ℕ). take n bytes) count ∙ (ap (λ (b : List ℕ). take (length m.0) b) (sym m.2) ∙ take-append_seam m.0 (replicate (130 - length m.0) 0)) in
+    (subst (λ (n : ℕ). IsPadded bytes n) (sym count) (subst (λ (b : List ℕ). IsPadded b (length m.0)) m.2 fits), ap found_duid (duid_found text m.0 m.1 ∙ in_again m.0 (record { fits = o.1; least = omega (arith, count); most = omega (arith, count) })) ∙ ap (λ (x : List ℕ). Some x) (sym front))
 
 -- ---- IAIDs
 

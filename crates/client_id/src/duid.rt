@@ -1,13 +1,15 @@
 //! DHCP unique identifiers.
 
-ghost use Rattle.std.specs.Prelude.{◌≡◌, ◌≤◌, ◌↔◌, ℕ, List, length, Ok, IfOk, IfErr, IsErrOf, string_bytes};
+ghost use Rattle.std.specs.Prelude.{◌≡◌, ◌%◌, ◌≤◌, ◌↔◌, ℕ, List, length, replicate, option_map, Err, None, Ok, IfOk, IfErr};
+ghost use Rattle.std.specs.Prelude.{IsErrOf, string_bytes};
 ghost use Rattle.std.specs.Str.{bytes_eq};
 ghost use Rattle.std.specs.Hash as fed;
 ghost use Rattle.std.specs.Cmp.Rules.{comparing, hashing};
 ghost use Rattle.std.proofs.Common.{rules};
-ghost use Rattle.text_fields.specs.Octets.{hex};
+ghost use Rattle.text_fields.specs.Octets.{hex, octets_of};
+ghost use Rattle.text_fields.specs.Parsing.{Finds};
 ghost use Rattle.client_id.specs.Octets.{padded};
-ghost use Rattle.client_id.specs.Duid.{IsDuid, IsHex, duid_in, duid_of};
+ghost use Rattle.client_id.specs.Duid.{IsDuid, IsHex, duid_in, duid_of, duid_word};
 
 use crate::error::ClientIdError;
 use std::alloc::Global;
@@ -77,21 +79,40 @@ fn filled(octets: &[u8]) -> [u8; 130]
     bytes
 }
 
-#[tactic(auto, using(crate::proofs::TextLaws::odd_hex, crate::proofs::TextLaws::even_hex, crate::proofs::TextLaws::long_hex, crate::proofs::TextLaws::duid_found))]
+/// Reads the digits into the front of an array of zeros; `None` where one is no digit.
+#[tactic(auto, using(crate::proofs::Filling::filled_front, crate::proofs::Filling::filled_none))]
+fn fill(text: &[u8], bytes: &mut [u8; 130]) -> Option<()>
+    requires zeros { bytes.old ≡ replicate 130 0 }
+    requires even { length text.now % 2 ≡ 0 }
+    requires most { length text.now ≤ 260 }
+    ensures { Finds (λ _. bytes.new) result (option_map padded (octets_of text.now)) }
+{
+    octets_of(text, &mut bytes[..text.len() / 2])?;
+    Some(())
+}
+
+/// Why a text spells no identifier: first a fault of its digits, then one of its length.
+#[tactic(auto, using(crate::proofs::TextLaws::hex_fault_is, crate::proofs::TextLaws::short_fault, crate::proofs::TextLaws::long_fault))]
+fn fault_of(text: &[u8]) -> ClientIdError
+    requires { duid_word text.now ≡ None }
+    ensures { Err result ≡ duid_of text.now }
+{
+    if !is_hex(text) {
+        ClientIdError::Hex
+    } else if text.len() < 6 {
+        ClientIdError::TooShort
+    } else {
+        ClientIdError::TooLong
+    }
+}
+
+#[tactic(auto, using(crate::proofs::TextLaws::word_found))]
 fn read_hex(text: &[u8]) -> Result<Duid, ClientIdError>
     ensures { result ≡ duid_of text.now }
 {
-    if !is_hex(text) {
-        return Err(ClientIdError::Hex);
-    }
-    if text.len() > 260 {
-        return Err(ClientIdError::TooLong);
-    }
-    let mut buffer = [0u8; 130];
-    let octets = &mut buffer[..text.len() / 2];
-    match octets_of(text, octets) {
-        Some(()) => Duid::from_bytes(octets),
-        None => Err(ClientIdError::Hex),
+    match Duid::from_word(text) {
+        Some(duid) => Ok(duid),
+        None => Err(fault_of(text)),
     }
 }
 
@@ -119,6 +140,25 @@ impl Duid {
         ensures whole { IsDuid result.now }
     {
         &self.bytes[..self.len as usize]
+    }
+
+    /// The identifier that a word spells, as `from_hex` finds it, with no fault told where it spells none.
+    #[tactic(auto, using(crate::proofs::TextLaws::wrong_length))]
+    pub fn from_word(word: &[u8]) -> Option<Duid>
+        ensures { Finds (λ d. d) result (duid_word word.now) }
+    {
+        let len = word.len();
+        if len < 6 || len > 260 || len % 2 != 0 {
+            return None;
+        }
+        let mut bytes = [0u8; 130];
+        match fill(word, &mut bytes) {
+            Some(()) => Some(Duid {
+                bytes,
+                len: (len / 2) as u8,
+            }),
+            None => None,
+        }
     }
 
     /// The identifier that lower-case digits spell, two for each octet: `Hex` where they spell no octets,

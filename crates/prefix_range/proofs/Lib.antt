@@ -10,3 +10,4 @@ pub mod GroupLaws
 pub mod CutLaws
 pub mod AddressLaws
 pub mod SpellingLaws
+pub mod Offsets

@@ -22,10 +22,10 @@ use Rattle.prefix_range.proofs.Groups.{length-groups}
 
 -- ---- one group
 
-group_octets : (g : ℕ) → g < 65536 → AreOctets (to_be_bytes w16 g)
+pub group_octets : (g : ℕ) → g < 65536 → AreOctets (to_be_bytes w16 g)
 group_octets g lt = (omega arith, (omega arith, tt))
 
-group_takes : (word : List ℕ) (g : ℕ) → group_of word ≡ Some g → (word ≡ group_text g) × (g < 65536)
+pub group_takes : (word : List ℕ) (g : ℕ) → group_of word ≡ Some g → (word ≡ group_text g) × (g < 65536)
 unfolding group_of
 group_takes word g e =
     let c = chosen (eqb (length word) 4) (option_map (from_be_bytes w16) (octets_of word)) g e in
@@ -37,7 +37,7 @@ group_takes word g e =
     let below : from_be_bytes w16 m.0 < 65536 = omega (arith, fits 0, fits 1) in
     (o.0 ∙ ap hex (sym back), omega (arith, below, m.2))
 
-group_again : (g : ℕ) → g < 65536 → group_of (group_text g) ≡ Some g
+pub group_again : (g : ℕ) → g < 65536 → group_of (group_text g) ≡ Some g
 unfolding group_of
 group_again g lt = rw (octets_again (to_be_bytes w16 g) (group_octets g lt), from_be_bytes-to_be_bytes_2 g lt) refl
 

@@ -1,64 +1,66 @@
 //! The canonical text of a prefix.
 
-ghost use Rattle.std.specs.Prelude.{◌≡◌, ◌++◌, ◌<◌, map, Ok, IfOk, IfErr, OnOk};
+ghost use Rattle.std.specs.Prelude.{◌≡◌, ◌+◌, ◌++◌, ◌∷◌, ◌<◌, ◌≤◌, [], length, take, drop, map, Ok, IfOk, IfErr, OnOk};
 ghost use Rattle.text_fields.specs.Parsing.{Finds, Answers};
 ghost use Rattle.text_fields.specs.Cuts.{joined};
 ghost use Rattle.prefix_range.specs.Prefix.{Prefix as PrefixValue, IsPrefix};
-ghost use Rattle.prefix_range.specs.Text.{groups_of, group_of, group_text, with_group, address_of, prefix_text};
+ghost use Rattle.prefix_range.specs.Text.{groups_of, group_of, group_text, address_of, prefix_text};
 ghost use Rattle.prefix_range.specs.Text.{prefix_word};
 
 use crate::error::PrefixError;
 use crate::prefix::Prefix;
 use std::alloc::{AllocError, Global};
-use text_fields::{Cuts, number_of, octets_of, push_number, push_octets};
+use text_fields::{number_of, octet_of, push_number, push_octets};
 
 /// How many groups of 16 bits an address has.
 const GROUPS: usize = 8;
 
-#[tactic(auto, unfolding(crate::specs::Text::group_of))]
-fn group_of(word: &[u8]) -> Option<u16>
-    ensures { Finds (λ n. n) result (group_of word.now) }
+/// How many octets the text of an address has: four for each group, and a colon between each two.
+const ADDRESS_OCTETS: usize = 39;
+
+#[tactic(auto, using(crate::proofs::Offsets::group_is))]
+fn group_of(a: u8, b: u8, c: u8, d: u8) -> Option<u16>
+    ensures { Finds (λ n. n) result (group_of (a ∷ b ∷ c ∷ d ∷ [])) }
 {
-    if word.len() != 4 {
-        return None;
-    }
-    let mut octets = [0u8; 2];
-    octets_of(word, &mut octets)?;
-    Some(u16::from_be_bytes(octets))
+    let high = octet_of(a, b)?;
+    let low = octet_of(c, d)?;
+    Some(256 * u16::from(high) + u16::from(low))
 }
 
-#[tactic(auto, unfolding(crate::specs::Text::with_group))]
-fn with_group(address: u128, group: u16) -> Option<u128>
-    ensures { Finds (λ n. n) result (with_group address group) }
+fn group_at(text: &[u8], at: usize) -> Option<u16>
+    requires { at + 4 ≤ length text.now }
+    ensures { Finds (λ n. n) result (group_of (take 4 (drop at text.now))) }
 {
-    address.checked_mul(65536)?.checked_add(u128::from(group))
+    group_of(text[at], text[at + 1], text[at + 2], text[at + 3])
 }
 
-#[tactic(auto, using(crate::proofs::Groups::group_missing, crate::proofs::Groups::group_next))]
+#[tactic(auto, using(crate::proofs::Offsets::begun, crate::proofs::Offsets::no_group, crate::proofs::Offsets::no_colon))]
 fn address_of(text: &[u8]) -> Option<u128>
+    requires { length text.now ≡ ADDRESS_OCTETS }
     ensures { Finds (λ n. n) result (address_of text.now) }
 {
-    let mut groups = Cuts::new(text, b':');
     let mut address = 0u128;
-    for _ in 0..GROUPS {
-        let group = group_of(groups.next_cut()?)?;
-        address = with_group(address, group)?;
+    for i in 0..GROUPS - 1 {
+        let group = group_at(text, 5 * i)?;
+        if text[5 * i + 4] != b':' {
+            return None;
+        }
+        address = address * 65536 + u128::from(group);
     }
-    if groups.is_done() {
-        Some(address)
-    } else {
-        None
-    }
+    let group = group_at(text, ADDRESS_OCTETS - 4)?;
+    Some(address * 65536 + u128::from(group))
 }
 
-#[tactic(auto, unfolding(crate::specs::Text::prefix_word))]
+#[tactic(auto, using(crate::proofs::Offsets::too_short, crate::proofs::Offsets::no_slash, crate::proofs::Offsets::no_address))]
 fn prefix_of(word: &[u8]) -> Option<Prefix>
     ensures { Finds (λ p. p) result (prefix_word word.now) }
 {
-    let mut parts = Cuts::new(word, b'/');
-    let address = address_of(parts.next_cut()?)?;
-    let length = number_of(parts.next_cut()?)?;
-    if !parts.is_done() || length > 128 {
+    if word.len() <= ADDRESS_OCTETS + 1 || word[ADDRESS_OCTETS] != b'/' {
+        return None;
+    }
+    let address = address_of(&word[..ADDRESS_OCTETS])?;
+    let length = number_of(&word[ADDRESS_OCTETS + 1..])?;
+    if length > 128 {
         return None;
     }
     Prefix::new(address, length as u8).ok()

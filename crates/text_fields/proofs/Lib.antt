@@ -8,3 +8,6 @@ pub mod OctetLaws
 pub mod WordLaws
 pub mod DigitTests
 pub mod Appending
+pub mod Ahead
+pub mod Looks
+pub mod DigitTable

@@ -17,4 +17,4 @@ mod octets;
 
 pub use cuts::Cuts;
 pub use number::{number_of, push_number};
-pub use octets::{is_hex, octets_of, push_octets};
+pub use octets::{is_hex, octet_of, octets_of, push_octets};

@@ -1,37 +1,49 @@
 //! Octets in lower-case hexadecimal.
 
-ghost use Rattle.std.specs.Prelude.{◌≡◌, ◌*◌, ◌%◌, ◌^◌, ◌<◌, ◌++◌, length, is_some, IsTrue, IfSome, OnOk};
+ghost use Rattle.std.specs.Prelude.{◌≡◌, ◌*◌, ◌%◌, ◌^◌, ◌<◌, ◌++◌, length, is_some, IsTrue, MatchOption, OnOk};
 ghost use Rattle.std.specs.List.{list_all};
 ghost use Rattle.text_fields.specs.Octets.{hex_digit, hex, hex_value, octet_of, octets_of};
 ghost use Rattle.text_fields.specs.Parsing.{Finds};
 
 use std::alloc::AllocError;
 
-#[tactic(auto, unfolding(crate::specs::Octets::hex_value))]
-fn hex_value(b: u8) -> Option<u8>
-    ensures value { Finds (λ n. n) result (hex_value b) }
-    ensures small { IfSome result (λ n. n < 16) }
+/// What each octet stands for as a digit, and 256 where it is none, so that no sum with it is below 256.
+static DIGIT_VALUES: [u16; 256] = [
+    256, 256, 256, 256, 256, 256, 256, 256, 256, 256, 256, 256, 256, 256, 256, 256, 256, 256, 256,
+    256, 256, 256, 256, 256, 256, 256, 256, 256, 256, 256, 256, 256, 256, 256, 256, 256, 256, 256,
+    256, 256, 256, 256, 256, 256, 256, 256, 256, 256, 0, 1, 2, 3, 4, 5, 6, 7, 8, 9, 256, 256, 256,
+    256, 256, 256, 256, 256, 256, 256, 256, 256, 256, 256, 256, 256, 256, 256, 256, 256, 256, 256,
+    256, 256, 256, 256, 256, 256, 256, 256, 256, 256, 256, 256, 256, 256, 256, 256, 256, 10, 11,
+    12, 13, 14, 15, 256, 256, 256, 256, 256, 256, 256, 256, 256, 256, 256, 256, 256, 256, 256, 256,
+    256, 256, 256, 256, 256, 256, 256, 256, 256, 256, 256, 256, 256, 256, 256, 256, 256, 256, 256,
+    256, 256, 256, 256, 256, 256, 256, 256, 256, 256, 256, 256, 256, 256, 256, 256, 256, 256, 256,
+    256, 256, 256, 256, 256, 256, 256, 256, 256, 256, 256, 256, 256, 256, 256, 256, 256, 256, 256,
+    256, 256, 256, 256, 256, 256, 256, 256, 256, 256, 256, 256, 256, 256, 256, 256, 256, 256, 256,
+    256, 256, 256, 256, 256, 256, 256, 256, 256, 256, 256, 256, 256, 256, 256, 256, 256, 256, 256,
+    256, 256, 256, 256, 256, 256, 256, 256, 256, 256, 256, 256, 256, 256, 256, 256, 256, 256, 256,
+    256, 256, 256, 256, 256, 256, 256, 256, 256, 256, 256, 256, 256, 256, 256, 256, 256, 256, 256,
+    256, 256, 256, 256,
+];
+
+fn digit_value(b: u8) -> u16
+    ensures { MatchOption (hex_value b) (result ≡ 256) (λ n. (result ≡ n) × (n < 16)) }
 {
-    match b {
-        b'0'..=b'9' => Some(b - b'0'),
-        b'a'..=b'f' => Some(b - b'a' + 10),
-        _ => None,
-    }
+    DIGIT_VALUES[b as usize]
 }
 
+/// The octet of two lower-case digits; `None` where one of them is none.
 #[tactic(auto, unfolding(crate::specs::Octets::octet_of))]
-fn octet_of(a: u8, b: u8) -> Option<u8>
+pub fn octet_of(a: u8, b: u8) -> Option<u8>
     ensures { Finds (λ n. n) result (octet_of a b) }
 {
-    let high = hex_value(a)?;
-    let low = hex_value(b)?;
-    Some(16 * high + low)
+    let octet = 16 * digit_value(a) + digit_value(b);
+    if octet < 256 { Some(octet as u8) } else { None }
 }
 
 fn are_digits(word: &[u8]) -> bool
     ensures { result ≡ list_all (λ b. is_some (hex_value b)) word.now }
 {
-    word.iter().all(|b| hex_value(*b).is_some())
+    word.iter().all(|b| digit_value(*b) < 16)
 }
 
 /// Whether a word spells octets: lower-case digits, an even number of them.
