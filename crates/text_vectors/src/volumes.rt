@@ -167,6 +167,29 @@ fn line_of(alloc: Global, words: &[&[u8]], at: usize, times: usize) -> Result<Ve
     Ok(line)
 }
 
+/// At which of these words, line by line, a word and the next may change places and the line still says something:
+/// where both are numbers of one kind.
+const NUMBERS_SIDE_BY_SIDE: [&[usize]; 5] = [&[], &[1, 2], &[], &[5, 6, 7, 8, 9], &[]];
+
+/// The words with a space between each two, where the word at `at` and the next have changed places.
+fn exchanged(alloc: Global, words: &[&[u8]], at: usize) -> Result<Vec<u8>, AllocError> {
+    let mut line = Vec::new(alloc);
+    for i in 0..words.len() {
+        if i > 0 {
+            line.push(b' ')?;
+        }
+        let from = if i == at && i + 1 < words.len() {
+            i + 1
+        } else if i > 0 && i - 1 == at {
+            i - 1
+        } else {
+            i
+        };
+        line.extend_from_slice(words[from])?;
+    }
+    Ok(line)
+}
+
 /// That a journal of this event is refused for the form of its line.
 fn check_no_event(rt: &impl Abort, alloc: Global, event: &[u8]) -> Result<(), Fail> {
     let text = journal_of(alloc, event)?;
@@ -283,6 +306,21 @@ fn wants_each_word_once(rt: HostRuntime) -> Result<(), Fail> {
         for at in 0..words.len() {
             check_no_event(&rt, rt.alloc(), &line_of(rt.alloc(), words, at, 0)?)?;
             check_no_event(&rt, rt.alloc(), &line_of(rt.alloc(), words, at, 2)?)?;
+        }
+    }
+    Ok(())
+}
+
+#[test]
+fn wants_each_word_in_its_place(rt: HostRuntime) -> Result<(), Fail> {
+    for (words, numbers) in WORDS.iter().zip(NUMBERS_SIDE_BY_SIDE) {
+        for at in 0..words.len().saturating_sub(1) {
+            let line = exchanged(rt.alloc(), words, at)?;
+            if numbers.iter().any(|i| *i == at) {
+                check_round_trip(&rt, rt.alloc(), &journal_of(rt.alloc(), &line)?)?;
+            } else {
+                check_no_event(&rt, rt.alloc(), &line)?;
+            }
         }
     }
     Ok(())

@@ -110,8 +110,16 @@ fn never_accepts_a_cut_input(rt: HostRuntime) -> Result<(), Fail> {
 #[test]
 fn names_faults_of_texts(rt: HostRuntime) -> Result<(), Fail> {
     let skew = Skew::new(2000)?;
-    let cases: [(&str, &str); 6] = [
+    let cases: [(&str, &str); 8] = [
         ("", "refused J1 Head A\n"),
+        (
+            "pd-journal 2 A 2\n2 5 close\nend 1\n",
+            "refused J1 Head A\n",
+        ),
+        (
+            "pd-journal 1 A\n1 5 close\nend 1\npd-journal 2 B 2\n1 5 close\nend 1\n",
+            "refused J1 Head B\n",
+        ),
         ("pd-journal 1 B\nend 0\n", "refused J1 Head A\n"),
         (
             "pd-journal 1 A\n1 5 close\nend 1\npd-journal 1 A\n1 5 close\nend 1\n",
