@@ -1,0 +1,10 @@
+pub mod Ranges
+pub mod PlaceLaws
+pub mod TableLaws
+pub mod MarkLaws
+pub mod Orders
+pub mod RuleNumbers
+pub mod EffectLaws
+pub mod StepLaws
+pub mod Replays
+pub mod OneVerdict

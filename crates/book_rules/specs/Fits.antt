@@ -1,0 +1,10 @@
+-- For bodies only: what keeps a table's counters within their limits.
+use Rattle.std.specs.Prelude.{◌+◌, ◌^◌, ◌≤◌}
+use Rattle.prefix_range.specs.Prefix.{Prefix}
+use Rattle.book_rules.specs.declared.standing.Standing.{Standing}
+use Rattle.book_rules.specs.Places.{Delegable, unit_at}
+
+-- each line counts at most one change of a unit, and a later volume begins with at most 2^48
+pub record Fits (s : Standing) (t : Delegable) : Type 0 where
+  pub few : s.count ≤ 2 ^ 20
+  pub mine : (p : Prefix) → (unit_at t p).mine ≤ 2 ^ 48 + s.count

@@ -1,0 +1,13 @@
+pub mod Book
+pub mod HeadOrder
+pub mod VolumeRules
+pub mod UnitRules
+pub mod MessageRules
+pub mod Rules
+pub mod Effects
+pub mod Volumes
+pub mod Laws
+pub mod Places
+pub mod Fits
+pub mod State
+pub mod Changes

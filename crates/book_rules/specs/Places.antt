@@ -1,0 +1,56 @@
+-- For bodies only: where the units of a table stand, pool behind pool.
+use Rattle.std.specs.Prelude.{◌≡◌, ℕ, ◌+◌, ◌-◌, ◌/◌, ◌%◌, ◌≤◌, ◌==◌, ⊤, Contains as Has, List, [], ◌∷◌, length, All, get_or}
+use Rattle.std.specs.Prelude.{true, false, Option, Some, None, if◌then◌else◌}
+use Rattle.std.specs.List.{sum_by}
+use Rattle.prefix_range.specs.Prefix.{Prefix, IsPrefix, Overlaps, size_of}
+use Rattle.binding_rules.specs.declared.unit.Unit.{Unit as UnitValue}
+use Rattle.binding_rules.specs.Unit.{fresh}
+use Rattle.book_rules.specs.declared.pool.Pool.{Pool}
+use Rattle.book_rules.specs.Book.{is_in, is_unit, units_in}
+
+-- pools, and their units in the order of pools and addresses
+pub record Delegable : Type 0 where
+  pub pools : List Pool
+  pub units : List UnitValue
+
+pub record IsPool (pool : Pool) : Type 0 where
+  pub prefix : IsPrefix pool.prefix
+  pub longer : pool.prefix.length ≤ pool.unit_length
+  pub short : pool.unit_length ≤ 128
+
+-- no two of the pools have an address in common
+abbrev pub AreDisjoint : List Pool → Type 0
+AreDisjoint [] = ⊤
+AreDisjoint (pool ∷ pools) = ((q : Pool) → Has pools q → Overlaps pool.prefix q.prefix → ⊥) × AreDisjoint pools
+
+-- what a unit adds to the count of marked ones
+abbrev pub mark_of : UnitValue → ℕ
+mark_of u = if u.marked then 1 else 0
+
+pub record IsDelegable (pools : List Pool) (units : List UnitValue) (marks : ℕ) : Type 0 where
+  pub each : All IsPool pools
+  pub disjoint : AreDisjoint pools
+  pub whole : length units ≡ sum_by units_in pools
+  pub few : sum_by units_in pools ≤ 65536
+  pub marked : marks ≡ sum_by mark_of units
+
+-- the place of a unit in its pool
+abbrev pub index_in : Pool → Prefix → ℕ
+index_in pool p = p.address / size_of p.length - pool.prefix.address / size_of p.length
+
+-- the place of a unit among those of the pools, counted on from n
+unfoldable pub place_on : ℕ → List Pool → Prefix → Option ℕ
+place_on n [] p = None
+place_on n (pool ∷ pools) p = if is_in pool p then Some (n + index_in pool p) else place_on (n + units_in pool) pools p
+
+abbrev pub unit_by : List UnitValue → Option ℕ → UnitValue
+unit_by units None = fresh
+unit_by units (Some n) = get_or units n fresh
+
+-- the unit of a prefix: a fresh one where the prefix is none
+unfoldable pub unit_at : Delegable → Prefix → UnitValue
+unit_at t p = if p.address % size_of p.length == 0 then unit_by t.units (place_on 0 t.pools p) else fresh
+
+-- no unit is marked
+abbrev pub AreUnmarked : Delegable → Type 0
+AreUnmarked t = (p : Prefix) → is_unit t.pools p ≡ true → (unit_at t p).marked ≡ false

@@ -1,0 +1,75 @@
+//! The state before the first line.
+
+ghost use Rattle.std.specs.Prelude.{◌≡◌};
+ghost use Rattle.book_rules.specs.Book.{blank, volume_number};
+ghost use Rattle.book_rules.specs.State.{state};
+
+use crate::place::Place;
+use crate::standing::Standing;
+use crate::table::Table;
+use crate::units::Units;
+use binding_rules::{Counter, Role};
+use journal_lines::Head;
+use lead_time::{Reading, Skew, Transit};
+use std::alloc::Global;
+
+/// Which volume a head line begins, from 1.
+fn volume_number(head: Head) -> u32
+    ensures { result ≡ volume_number head }
+{
+    match head {
+        Head::One => 1,
+        Head::Two(volume) => volume.number(),
+    }
+}
+
+/// No time at all.
+fn first_reading() -> Reading
+    ensures { result ≡ 0 }
+{
+    match Reading::new(0) {
+        Ok(reading) => reading,
+        Err(_) => unreachable!(),
+    }
+}
+
+/// No skew.
+fn no_skew() -> Skew
+    ensures { result ≡ 0 }
+{
+    match Skew::new(0) {
+        Ok(skew) => skew,
+        Err(_) => unreachable!(),
+    }
+}
+
+impl Table {
+    /// The state before the first line of a volume of a server in this role.
+    pub fn new(alloc: Global, role: Role, head: Head) -> Table
+        ensures { state result ≡ blank role (volume_number head) }
+    {
+        let standing = Standing {
+            role,
+            volume: volume_number(head),
+            skew: no_skew(),
+            mclt: 0,
+            life: 0,
+            transit: Transit::ZERO,
+            count: 0,
+            opened: first_reading(),
+            reading: first_reading(),
+            closed: false,
+            place: Place::AtPools,
+            term: 0,
+            serial: Counter::ZERO,
+            restart: Counter::ZERO,
+            waiting: false,
+            asked: Counter::ZERO,
+            down: None,
+        };
+        Table {
+            standing,
+            units: Units::new(alloc),
+        }
+    }
+}

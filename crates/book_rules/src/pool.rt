@@ -1,0 +1,73 @@
+//! A pool of delegable prefixes.
+
+ghost use Rattle.std.specs.Prelude.{◌≡◌, ◌-◌, ◌≤◌, ◌↔◌, true, IsTrue};
+
+use prefix_range::Prefix;
+
+/// A pool: the prefixes of `unit_length` bits in `prefix` are its units (RFC 8415, section 6.3).
+#[derive(Clone, Copy, Debug, PartialEq, Eq)]
+pub struct Pool {
+    pub prefix: Prefix,
+    pub unit_length: u8,
+}
+
+impl Pool {
+    ghost use Rattle.book_rules.specs.Book.{is_in, units_in};
+    ghost use Rattle.book_rules.specs.Places.{IsPool, index_in};
+
+    /// The pool of this prefix with units of this length.
+    pub(crate) fn new(prefix: &Prefix, unit_length: u8) -> Pool
+        requires longer { prefix.now.length ≤ unit_length }
+        requires short { unit_length ≤ 128 }
+        ensures pool { result ≡ record { prefix = prefix.now; unit_length = unit_length } }
+        ensures whole { IsPool result }
+    {
+        let _length = prefix.len();
+        Pool {
+            prefix: *prefix,
+            unit_length,
+        }
+    }
+
+    /// Whether a prefix is one of the pool's units.
+    pub(crate) fn has(&self, prefix: &Prefix) -> bool
+        requires { IsPool self.now }
+        ensures { result ≡ is_in self.now prefix.now }
+    {
+        prefix.len() == self.unit_length && self.prefix.contains(prefix)
+    }
+
+    /// The place of a unit among the pool's, from 0.
+    #[tactic(auto, using(crate::proofs::Ranges::index_below))]
+    pub(crate) fn index_of(&self, unit: &Prefix) -> usize
+        requires pool { IsPool self.now }
+        requires within { is_in self.now unit.now ≡ true }
+        requires few { units_in self.now ≤ 65536 }
+        ensures { result ≡ index_in self.now unit.now }
+    {
+        if unit.len() == 0 {
+            return 0;
+        }
+        let size = 1u128 << (128 - unit.len());
+        (unit.first() / size - self.prefix.first() / size) as usize
+    }
+
+    /// How many units the pool has.
+    #[tactic(auto, using(crate::proofs::Ranges::few_bits, crate::proofs::Ranges::many_bits))]
+    pub(crate) fn count(&self) -> usize
+        requires longer { self.now.prefix.length ≤ self.now.unit_length }
+        requires few { units_in self.now ≤ 65536 }
+        ensures { result ≡ units_in self.now }
+    {
+        1usize << (self.unit_length - self.prefix.len())
+    }
+
+    /// Whether the pool has at most 65,536 units.
+    #[tactic(auto, using(crate::proofs::Ranges::few_bits, crate::proofs::Ranges::many_bits))]
+    pub(crate) fn is_small(&self) -> bool
+        requires { self.now.prefix.length ≤ self.now.unit_length }
+        ensures { IsTrue result ↔ (units_in self.now ≤ 65536) }
+    {
+        self.unit_length - self.prefix.len() <= 16
+    }
+}
