@@ -7,7 +7,7 @@ use std::test::Fail;
 
 /// That a journal of these events behind the opening breaks no rule.
 fn check(rt: &impl Abort, alloc: Global, head: &[u8], events: &[&[u8]]) -> Result<(), Fail> {
-    let journal = journal(alloc, head, &[&OPENING, events])?;
+    let journal = journal(alloc, head, &OPENING, events)?;
     assert_eq!(rt; first_broken(alloc, &journal)?, None);
     Ok(())
 }

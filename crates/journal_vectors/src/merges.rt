@@ -1,5 +1,8 @@
 //! Two journals in one order.
 
+ghost use Rattle.std.specs.Prelude.{◌≤◌, length};
+ghost use Rattle.journal_text.specs.declared.layout.TheConstants.{MAX_LINES};
+
 use crate::texts::{OPENING, journal};
 use binding_rules::Role;
 use claims::Ref;
@@ -10,7 +13,14 @@ use std::process::Abort;
 use std::test::Fail;
 
 /// The order of two journals as text, `A1 A2 B1 ..`, or why there is none.
-fn order_of(alloc: Global, a: &Journal, b: &Journal) -> Result<Result<Vec<u8>, MergeError>, AllocError> {
+fn order_of(
+    alloc: Global,
+    a: &Journal,
+    b: &Journal,
+) -> Result<Result<Vec<u8>, MergeError>, AllocError>
+    requires primary { length a.now.lines ≤ MAX_LINES }
+    requires secondary { length b.now.lines ≤ MAX_LINES }
+{
     let merged = match merge(alloc, a, b) {
         Ok(merged) => merged,
         Err(MergeError::Memory) => return Err(AllocError),
@@ -31,6 +41,7 @@ fn order_of(alloc: Global, a: &Journal, b: &Journal) -> Result<Result<Vec<u8>, M
 }
 
 const PRIMARY: &[u8] = b"pd-journal 1 A";
+
 const SECONDARY: &[u8] = b"pd-journal 1 B";
 
 /// That the journals of these events merge to this order, or are refused so.
@@ -41,10 +52,13 @@ fn check(
     secondary: &[&[u8]],
     wanted: Result<&[u8], MergeError>,
 ) -> Result<(), Fail> {
-    let a = journal(alloc, PRIMARY, &[&OPENING, primary])?;
-    let b = journal(alloc, SECONDARY, &[&OPENING, secondary])?;
+    let a = journal(alloc, PRIMARY, &OPENING, primary)?;
+    let b = journal(alloc, SECONDARY, &OPENING, secondary)?;
     let order = order_of(alloc, &a, &b)?;
-    assert_eq!(rt; order.as_ref().map(|text| text.as_slice()), wanted.as_ref().copied());
+    assert_eq!(rt;
+        order.as_ref().map(|text| text.as_slice()),
+        wanted.as_ref().copied()
+    );
     Ok(())
 }
 
@@ -99,10 +113,28 @@ fn names_the_take_that_was_sent_otherwise(rt: HostRuntime) -> Result<(), Fail> {
     let differs = Err(MergeError::Differs {
         take: line(Role::Primary, 3),
     });
-    check(&rt, rt.alloc(), &[b"10000 take 0 1 contact 0 1"], &[send], differs)?;
-    check(&rt, rt.alloc(), &[b"10000 take 1 1 contact 0 0"], &[send], differs)?;
+    check(
+        &rt,
+        rt.alloc(),
+        &[b"10000 take 0 1 contact 0 1"],
+        &[send],
+        differs,
+    )?;
+    check(
+        &rt,
+        rt.alloc(),
+        &[b"10000 take 1 1 contact 0 0"],
+        &[send],
+        differs,
+    )?;
     let first_of_two: [&[u8]; 2] = [send, b"10000 send 0 1 contact 0 1"];
-    check(&rt, rt.alloc(), &[b"10000 take 0 1 contact 0 1"], &first_of_two, differs)
+    check(
+        &rt,
+        rt.alloc(),
+        &[b"10000 take 0 1 contact 0 1"],
+        &first_of_two,
+        differs,
+    )
 }
 
 #[test]
@@ -128,12 +160,15 @@ fn finds_circles(rt: HostRuntime) -> Result<(), Fail> {
 fn passes_over_takes_of_earlier_volumes(rt: HostRuntime) -> Result<(), Fail> {
     let take: &[u8] = b"10000 take 0 7 contact 0 0";
     let base: &[u8] = b"9000 base 0 7 0 0 0";
-    let a = journal(rt.alloc(), PRIMARY, &[&OPENING, &[take]])?;
-    let b = journal(rt.alloc(), b"pd-journal 2 B 2", &[&OPENING, &[base]])?;
+    let a = journal(rt.alloc(), PRIMARY, &OPENING, &[take])?;
+    let b = journal(rt.alloc(), b"pd-journal 2 B 2", &OPENING, &[base])?;
     let order = order_of(rt.alloc(), &a, &b)?;
-    assert_eq!(rt; order.as_ref().map(|text| text.as_slice()), Ok(b"A1 A2 B1 B2 B3 A3 A4 B4".as_slice()));
+    assert_eq!(rt;
+        order.as_ref().map(|text| text.as_slice()),
+        Ok(b"A1 A2 B1 B2 B3 A3 A4 B4".as_slice())
+    );
     let later: &[u8] = b"10000 take 0 8 contact 0 0";
-    let a = journal(rt.alloc(), PRIMARY, &[&OPENING, &[later]])?;
+    let a = journal(rt.alloc(), PRIMARY, &OPENING, &[later])?;
     let unsent = MergeError::Unsent {
         take: line(Role::Primary, 3),
     };

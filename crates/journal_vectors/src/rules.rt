@@ -7,6 +7,7 @@ use std::process::Abort;
 use std::test::Fail;
 
 const PRIMARY: &[u8] = b"pd-journal 1 A";
+
 const SECONDARY: &[u8] = b"pd-journal 1 B";
 
 /// That the third and later lines, behind the opening, break this rule first, at this line.
@@ -17,7 +18,7 @@ fn check(
     events: &[&[u8]],
     broken: (u32, u8),
 ) -> Result<(), Fail> {
-    let journal = journal(alloc, head, &[&OPENING, events])?;
+    let journal = journal(alloc, head, &OPENING, events)?;
     assert_eq!(rt; first_broken(alloc, &journal)?, Some(broken));
     Ok(())
 }
@@ -29,7 +30,7 @@ fn check_whole(
     events: &[&[u8]],
     broken: (u32, u8),
 ) -> Result<(), Fail> {
-    let journal = journal(alloc, PRIMARY, &[events])?;
+    let journal = journal(alloc, PRIMARY, &[], events)?;
     assert_eq!(rt; first_broken(alloc, &journal)?, Some(broken));
     Ok(())
 }
@@ -40,7 +41,7 @@ const GRANT: &[u8] =
 
 #[test]
 fn names_a_gap_in_the_numbers(rt: HostRuntime) -> Result<(), Fail> {
-    let journal = journal(rt.alloc(), PRIMARY, &[&OPENING])?;
+    let journal = journal(rt.alloc(), PRIMARY, &OPENING, &[])?;
     let lines = journal.lines.as_slice();
     assert_eq!(rt; lines.len(), 3);
     let without_first = Table::replay(rt.alloc(), journal.role, journal.head, &lines[1..]).err();
@@ -56,8 +57,14 @@ fn names_a_gap_in_the_numbers(rt: HostRuntime) -> Result<(), Fail> {
 fn opens_first_and_once(rt: HostRuntime) -> Result<(), Fail> {
     let journals: [(&[&[u8]], (u32, u8)); 8] = [
         (&[], (1, 2)),
-        (&[b"9000 pool 2001:0db8:0000:0000:0000:0000:0000:0000/48 56"], (1, 2)),
-        (&[b"9000 open 2000 3600 3600", b"9000 open 2000 3600 3600"], (2, 2)),
+        (
+            &[b"9000 pool 2001:0db8:0000:0000:0000:0000:0000:0000/48 56"],
+            (1, 2),
+        ),
+        (
+            &[b"9000 open 2000 3600 3600", b"9000 open 2000 3600 3600"],
+            (2, 2),
+        ),
         (&[b"9000 open 86400001 3600 3600"], (1, 2)),
         (&[b"9000 open 2000 0 3600"], (1, 2)),
         (&[b"9000 open 2000 31536001 3600"], (1, 2)),
@@ -76,8 +83,20 @@ fn has_disjoint_pools_first(rt: HostRuntime) -> Result<(), Fail> {
     let journals: [(&[&[u8]], (u32, u8)); 5] = [
         (&[open], (2, 3)),
         (&[open, b"9000 take 0 1 contact 0 0"], (2, 3)),
-        (&[open, b"9000 pool 2001:0db8:0000:0000:0000:0000:0000:0000/48 47"], (2, 3)),
-        (&[open, b"9000 pool 2001:0db8:0000:0000:0000:0000:0000:0000/47 64"], (2, 3)),
+        (
+            &[
+                open,
+                b"9000 pool 2001:0db8:0000:0000:0000:0000:0000:0000/48 47",
+            ],
+            (2, 3),
+        ),
+        (
+            &[
+                open,
+                b"9000 pool 2001:0db8:0000:0000:0000:0000:0000:0000/47 64",
+            ],
+            (2, 3),
+        ),
         (
             &[
                 open,
@@ -92,7 +111,13 @@ fn has_disjoint_pools_first(rt: HostRuntime) -> Result<(), Fail> {
     }
     let later: &[u8] = b"10000 pool 2001:0db8:0001:0000:0000:0000:0000:0000/48 56";
     check(&rt, rt.alloc(), PRIMARY, &[GRANT, later], (4, 3))?;
-    check(&rt, rt.alloc(), PRIMARY, &[b"9000 transit 500", later], (4, 3))
+    check(
+        &rt,
+        rt.alloc(),
+        PRIMARY,
+        &[b"9000 transit 500", later],
+        (4, 3),
+    )
 }
 
 #[test]
@@ -185,7 +210,13 @@ fn says_what_is_so(rt: HostRuntime) -> Result<(), Fail> {
     check(&rt, rt.alloc(), PRIMARY, &[of_nothing], (3, 13))?;
     let of_another_count: &[u8] =
         b"10000 send 0 1 update active 2001:0db8:0000:0000:0000:0000:0000:0000/56 2 0 7210000 00000001 00030001020000000001";
-    check(&rt, rt.alloc(), PRIMARY, &[GRANT, of_another_count], (4, 13))?;
+    check(
+        &rt,
+        rt.alloc(),
+        PRIMARY,
+        &[GRANT, of_another_count],
+        (4, 13),
+    )?;
     let of_another_end: &[u8] =
         b"10000 send 0 1 update active 2001:0db8:0000:0000:0000:0000:0000:0000/56 1 0 7210001 00000001 00030001020000000001";
     check(&rt, rt.alloc(), PRIMARY, &[GRANT, of_another_end], (4, 13))?;
@@ -197,8 +228,20 @@ fn says_what_is_so(rt: HostRuntime) -> Result<(), Fail> {
     let rejects: &[u8] =
         b"10000 send 0 1 reply reject 2001:0db8:0000:0000:0000:0000:0000:0000/56 1 1 1";
     check(&rt, rt.alloc(), SECONDARY, &[taken, rejects], (4, 14))?;
-    check(&rt, rt.alloc(), PRIMARY, &[b"10000 send 0 1 contact 1 0"], (3, 15))?;
-    check(&rt, rt.alloc(), PRIMARY, &[b"10000 send 0 1 contact 0 1"], (3, 15))?;
+    check(
+        &rt,
+        rt.alloc(),
+        PRIMARY,
+        &[b"10000 send 0 1 contact 1 0"],
+        (3, 15),
+    )?;
+    check(
+        &rt,
+        rt.alloc(),
+        PRIMARY,
+        &[b"10000 send 0 1 contact 0 1"],
+        (3, 15),
+    )?;
     let waiting: [&[u8]; 2] = [b"10000 restart 1", b"10000 send 0 1 contact 0 0"];
     check(&rt, rt.alloc(), PRIMARY, &waiting, (4, 15))
 }

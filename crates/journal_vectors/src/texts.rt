@@ -1,5 +1,8 @@
 //! Journals made of events.
 
+ghost use Rattle.std.specs.Prelude.{◌≤◌, length, IfOk};
+ghost use Rattle.journal_text.specs.declared.layout.TheConstants.{MAX_LINES};
+
 use book_rules::{ReplayError, Table};
 use journal_text::{Journal, read};
 use std::alloc::{AllocError, Global};
@@ -13,16 +16,20 @@ pub const OPENING: [&[u8]; 2] = [
     b"9000 pool 2001:0db8:0000:0000:0000:0000:0000:0000/48 56",
 ];
 
-/// The journal of this head line and these readings and events, which a close line ends.
-pub fn journal(alloc: Global, head: &[u8], events: &[&[&[u8]]]) -> Result<Journal, Fail> {
+/// The journal of this head line and these readings and events, the first ones and the rest, which a close line ends.
+pub fn journal(alloc: Global, head: &[u8], first: &[&[u8]], rest: &[&[u8]]) -> Result<Journal, Fail>
+    ensures { IfOk result (λ j. length j.lines ≤ MAX_LINES) }
+{
     let mut text = head.to_vec(alloc)?;
     let mut number: u64 = 0;
     text.push(b'\n')?;
-    for part in events {
-        for event in *part {
-            number = number.saturating_add(1);
-            add_line(&mut text, number, event)?;
-        }
+    for event in first {
+        number = number.saturating_add(1);
+        add_line(&mut text, number, event)?;
+    }
+    for event in rest {
+        number = number.saturating_add(1);
+        add_line(&mut text, number, event)?;
     }
     number = number.saturating_add(1);
     add_line(&mut text, number, b"99999999 close")?;
