@@ -8,3 +8,8 @@ pub mod EffectLaws
 pub mod StepLaws
 pub mod Replays
 pub mod OneVerdict
+pub mod HeadSteps
+pub mod Settings
+pub mod NextHead
+pub mod Sorting
+pub mod OneNext

@@ -21,10 +21,10 @@ use Rattle.book_rules.proofs.PlaceLaws.{place_within, one_place, pushed_place}
 abbrev prefix_at : ℕ → ℕ → Prefix
 prefix_at address length = record { address = address; length = length }
 
-same_means : (p q : Prefix) → same_prefix p q ≡ true → p ≡ q
+pub same_means : (p q : Prefix) → same_prefix p q ≡ true → p ≡ q
 same_means p q e = ap₂ prefix_at (grind (arith, nat_tests)) (grind (arith, nat_tests))
 
-same_itself : (p : Prefix) → same_prefix p p ≡ true
+pub same_itself : (p : Prefix) → same_prefix p p ≡ true
 same_itself p = grind (arith, nat_tests)
 
 pub put_unit : (pools : List Pool) (units : List UnitValue) (marks : ℕ) (p : Prefix) (i : ℕ) (u : UnitValue) → IsDelegable pools units marks → IsPrefix p

@@ -6,7 +6,10 @@ pub mod MessageRules
 pub mod Rules
 pub mod Effects
 pub mod Volumes
+pub mod Outcomes
 pub mod Laws
+pub mod NextHead
+pub mod NextVolume
 pub mod Places
 pub mod Fits
 pub mod State

@@ -6,8 +6,9 @@
 //! them or the first line that breaks a rule.
 //!
 //! The definitions stand in specs/ and cite no code: the book (`Book`), the rules (`VolumeRules`, `UnitRules`,
-//! `MessageRules`, in their order in `Rules`), what each line makes of the book (`Effects`), and which lists of lines
-//! are volumes (`Volumes`). `state` of specs/State is the book that a table is.
+//! `MessageRules`, in their order in `Rules`), what each line makes of the book (`Effects`), which lists of lines are
+//! volumes (`Volumes`), and which lines the next volume begins with (`NextHead`). `state` of specs/State is the book
+//! that a table is.
 //!
 //! ```text
 //! let table = Table::replay(alloc, Role::Primary, Head::One, lines)?;
@@ -26,6 +27,7 @@ mod looking;
 mod making;
 mod message_rules;
 mod next_standing;
+mod outcomes;
 mod place;
 mod pool;
 mod replaying;
@@ -38,9 +40,9 @@ mod units;
 mod volume_rules;
 
 pub use error::ReplayError;
-pub use laws::first_broken_is_one;
+pub use laws::{first_broken_is_one, next_volume_is_legal};
 pub use message_rules::{due_update, seized_update};
 pub use place::Place;
 pub use pool::Pool;
-pub use rule::Rule;
+pub use rule::{RULES, Rule};
 pub use table::Table;

@@ -18,6 +18,13 @@ impl Table {
         self.standing.role
     }
 
+    /// The volume's number, from 1.
+    pub fn volume(&self) -> u32
+        ensures { result ≡ (state self.now).volume }
+    {
+        self.standing.volume
+    }
+
     /// The most by which the server's clock may be wrong.
     pub fn skew(&self) -> Skew
         ensures { result ≡ (state self.now).skew }

@@ -3,8 +3,10 @@
 ghost use Rattle.std.specs.Prelude.{◌≡◌, ◌↔◌, IsTrue, true};
 ghost use Rattle.book_rules.specs.State.{state};
 ghost use Rattle.book_rules.specs.Book.{IsCalm};
-ghost use Rattle.book_rules.specs.MessageRules.{client_of, iaid_of, end_of, due_update, seized_update, IsTold, TellsChange};
-ghost use Rattle.book_rules.specs.MessageRules.{TellsReply, TellsNumbers, IsAnswer, KeepsSerial, KeepsUpdate, KeepsReply};
+ghost use Rattle.book_rules.specs.MessageRules.{client_of, iaid_of, end_of, due_update, seized_update, IsTold};
+ghost use Rattle.book_rules.specs.MessageRules.{TellsChange};
+ghost use Rattle.book_rules.specs.MessageRules.{TellsReply, TellsNumbers, IsAnswer, KeepsSerial, KeepsUpdate};
+ghost use Rattle.book_rules.specs.MessageRules.{KeepsReply};
 ghost use Rattle.book_rules.specs.MessageRules.{KeepsContact};
 
 use crate::table::Table;
