@@ -179,9 +179,9 @@ fn unmarked(unit: &Unit, reply: &BindReply) -> Unit
     }
 }
 
-/// The unit after a reply; `None` where the reply is dropped: no change is due and the unit isn't marked, or it rejects,
-/// answers another change than the last, or isn't newer than what was taken before. The reply's term is the server's,
-/// and its prefix the unit's.
+/// The unit after a reply; `None` where the reply is dropped: no change is due and the unit isn't marked, or it
+/// rejects, answers another change than the last, or isn't newer than what was taken before. The reply's term is the
+/// server's, and its prefix the unit's.
 pub fn take_reply(unit: &Unit, reply: &BindReply) -> Option<Unit>
     requires { unit.now.marked ≡ true → unit.now.mine < 2 ^ 49 }
     ensures unit { result ≡ after_reply unit.now reply.now }
