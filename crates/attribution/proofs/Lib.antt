@@ -1,5 +1,10 @@
 pub mod Deciding
 pub mod Refusals
+pub mod Listing
 pub mod Tiling
+pub mod Steps
 pub mod Serials
+pub mod Lawful
+pub mod Places
 pub mod Runs
+pub mod Headline

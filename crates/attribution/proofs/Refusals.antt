@@ -13,7 +13,7 @@ use Rattle.claims.specs.declared.certificate.Piece.{Piece}
 use Rattle.claims.specs.declared.certificate.Foreign.{Foreign}
 use Rattle.attribution.specs.declared.condition.TheConstants.{CONDITIONS}
 use Rattle.attribution.specs.declared.condition.Condition.{Condition}
-use Rattle.attribution.specs.declared.condition.Condition.TheVariants.{Moment, Shown, Tiled, Granted, Discharged, Covered, Reasoned}
+use Rattle.attribution.specs.declared.condition.Condition.TheVariants.{Moment, Shown, Tiled, Granted, Opened, Discharged, Covered, Reasoned}
 use Rattle.attribution.specs.declared.verdict.Verdict.{Verdict}
 use Rattle.attribution.specs.declared.verdict.Verdict.TheVariants.{Accepted}
 use Rattle.attribution.specs.Acceptance.{Grants, IsGranted, IsDischarged, Reaches, ReasonHolds, Tile, IsAccepted}
@@ -70,42 +70,44 @@ unfolding AreInPlace
 tiled_from c t some k le = let long = length_positive c.pieces some in elim (places_from_tile c.from c.to c.pieces t k le) [ inl x ↦ inl x | inr x ↦ inr (x.0, omega arith, x.1) ]
 
 -- Where a certificate is accepted, each condition is met.
-not_accepted : (js : Journals) (skew : ℕ) (c : Certificate) (k : Condition) → Refuses js skew c k Accepted → ⊥
-not_accepted js skew c Moment h = let e = h.0 in cc
-not_accepted js skew c (Shown side) h = let e = h.0 in cc
-not_accepted js skew c Tiled h = let e = h.1 in cc
-not_accepted js skew c Granted h = let e = h.1 in cc
-not_accepted js skew c Discharged h = let e = h.2 in cc
-not_accepted js skew c Covered h = let e = h.1 in cc
-not_accepted js skew c Reasoned h = let e = h.1 in cc
+not_accepted : (js : Journals) (skew transit : ℕ) (c : Certificate) (k : Condition) → Refuses js skew transit c k Accepted → ⊥
+not_accepted js skew transit c Moment h = let e = h.0 in cc
+not_accepted js skew transit c (Shown side) h = let e = h.0 in cc
+not_accepted js skew transit c Tiled h = let e = h.1 in cc
+not_accepted js skew transit c Granted h = let e = h.1 in cc
+not_accepted js skew transit c Opened h = let e = h.0 in cc
+not_accepted js skew transit c Discharged h = let e = h.2 in cc
+not_accepted js skew transit c Covered h = let e = h.1 in cc
+not_accepted js skew transit c Reasoned h = let e = h.1 in cc
 
-abbrev AreMet : Journals → ℕ → Certificate → List Condition → Type 0
-AreMet js skew c [] = Unit {0}
-AreMet js skew c (k ∷ ks) = IsMet js skew c k × AreMet js skew c ks
+abbrev AreMet : Journals → (skew transit : ℕ) → Certificate → List Condition → Type 0
+AreMet js skew transit c [] = Unit {0}
+AreMet js skew transit c (k ∷ ks) = IsMet js skew transit c k × AreMet js skew transit c ks
 
-all_met : (js : Journals) (skew : ℕ) (c : Certificate) (ks : List Condition) → IsVerdictBy js skew c ks Accepted → AreMet js skew c ks
-all_met js skew c [] v = tt
-all_met js skew c (k ∷ ks) (inl h) = absurd (not_accepted js skew c k h)
-all_met js skew c (k ∷ ks) (inr h) = (h.0, all_met js skew c ks h.1)
+all_met : (js : Journals) (skew transit : ℕ) (c : Certificate) (ks : List Condition) → IsVerdictBy js skew transit c ks Accepted → AreMet js skew transit c ks
+all_met js skew transit c [] v = tt
+all_met js skew transit c (k ∷ ks) (inl h) = absurd (not_accepted js skew transit c k h)
+all_met js skew transit c (k ∷ ks) (inr h) = (h.0, all_met js skew transit c ks h.1)
 
-pub accepted_from : (js : Journals) (skew : ℕ) (c : Certificate) → IsVerdict js skew c Accepted → IsAccepted js skew c
-accepted_from js skew c v =
-    let m : AreMet js skew c CONDITIONS = all_met js skew c CONDITIONS v in
+pub accepted_from : (js : Journals) (skew transit : ℕ) (c : Certificate) → IsVerdict js skew transit c Accepted → IsAccepted js skew transit c
+accepted_from js skew transit c v =
+    let m : AreMet js skew transit c CONDITIONS = all_met js skew transit c CONDITIONS v in
     let shown = m.1 in
     let pieces = shown.1.1 in
-    let entries = pieces.1.1.1 in
+    let entries = pieces.1.1.1.1 in
     record {
       interval = m.0;
       closed = λ side. elim side as (λ x. Reaches js skew c x) [ Primary ↦ shown.0 | Secondary ↦ shown.1.0 ];
       tiled = tile_of c pieces.0;
       some = some_of c pieces.0;
-      carried = λ k d lt. (pieces.1.0 k d lt, pieces.1.1.0 k d lt);
+      carried = λ k d lt. (pieces.1.0 k d lt, pieces.1.1.1.0 k d lt);
+      opened = pieces.1.1.0;
       covered = entries.0;
       outside = entries.1.0;
     }
 
-pub verdict_from : (js : Journals) (skew : ℕ) (c : Certificate) → IsAccepted js skew c → IsVerdict js skew c Accepted
-verdict_from js skew c h =
+pub verdict_from : (js : Journals) (skew transit : ℕ) (c : Certificate) → IsAccepted js skew transit c → IsVerdict js skew transit c Accepted
+verdict_from js skew transit c h =
     inr (
       h.interval,
       inr (
@@ -114,14 +116,17 @@ verdict_from js skew c h =
           h.closed Secondary,
           inr (
             tiled_from c h.tiled h.some,
-            inr ((λ k d lt. (h.carried k d lt).0), inr ((λ k d lt. (h.carried k d lt).1), inr (h.covered, inr (h.outside, refl)))),
+            inr (
+              (λ k d lt. (h.carried k d lt).0),
+              inr (h.opened, inr ((λ k d lt. (h.carried k d lt).1), inr (h.covered, inr (h.outside, refl)))),
+            ),
           ),
         ),
       ),
     )
 
 pub accepts_the_accepted : AcceptsTheAccepted
-accepts_the_accepted js skew c = (accepted_from js skew c, verdict_from js skew c)
+accepts_the_accepted js skew transit c = (accepted_from js skew transit c, verdict_from js skew transit c)
 
 -- What comes first comes first once.
 order_cases : (m n : ℕ) → (m < n) ⊎ ((m ≡ n) ⊎ (n < m))
@@ -157,23 +162,24 @@ cut_fails js skew p r cut discharged = cut.3 (discharged r cut.0 cut.1 cut.2)
 
 -- ---- one refusal of each condition
 
-module _ (js : Journals) (skew : ℕ) (c : Certificate) where
+module _ (js : Journals) (skew transit : ℕ) (c : Certificate) where
   -- what refuses isn't met
-  never : (k : Condition) (v : Verdict) → Refuses js skew c k v → IsMet js skew c k → ⊥
+  never : (k : Condition) (v : Verdict) → Refuses js skew transit c k v → IsMet js skew transit c k → ⊥
   never Moment v f h = f.1 h
   never (Shown side) v f h = f.1 h
   never Tiled v f h = f.2.3 (h f.2.0 f.2.2)
-  never Granted v f h = f.2.3.1 (at_index (IsGranted js skew c) c.pieces f.2.0 f.2.1 f.2.3.0 h)
+  never Granted v f h = f.2.3.1 (at_index (IsGranted js skew transit c) c.pieces f.2.0 f.2.1 f.2.3.0 h)
+  never Opened v f h = f.1 h
   never Discharged v f h = cut_fails js skew f.3.1 f.1 f.3.5.0 (at_index (IsDischarged js skew) c.pieces f.3.0 f.3.1 f.3.3 h)
   never Covered v f h = f.2.0.2 (h f.0 f.2.0.0 f.2.0.1)
-  never Reasoned v f h = f.2.3.1 (at_index (ReasonHolds js skew c) c.foreign f.2.0 f.2.1 f.2.3.0 h)
+  never Reasoned v f h = f.2.3.1 (at_index (ReasonHolds js skew transit c) c.foreign f.2.0 f.2.1 f.2.3.0 h)
 
   same_cut : (j k : ℕ) (p q : Piece) (r s : Ref) → slice_get c.pieces j ≡ Some p → slice_get c.pieces k ≡ Some q
       → IsLeast (CutsShort js skew p) r → IsLeast (CutsShort js skew q) s → j ≡ k → r ≡ s
   same_cut j k p q r s at_j at_k a b e = let same : p ≡ q = cc in one_least (CutsShort js skew q) r s (subst (λ x. IsLeast (CutsShort js skew x) r) same a) b
 
   -- and names one thing
-  one : (k : Condition) (v w : Verdict) → Refuses js skew c k v → Refuses js skew c k w → v ≡ w
+  one : (k : Condition) (v w : Verdict) → Refuses js skew transit c k v → Refuses js skew transit c k w → v ≡ w
   one Moment v w a b = let x = a.0 in let y = b.0 in cc
   one (Shown side) v w a b = let x = a.0 in let y = b.0 in cc
   one Tiled v w a b = elim (order_cases a.2.0 b.2.0) [
@@ -181,8 +187,9 @@ module _ (js : Journals) (skew : ℕ) (c : Certificate) where
     | inr h ↦ elim h [ inl e ↦ (let x = a.1 in let y = b.1 in let p = a.2.1 in let q = b.2.1 in let n : a.0 ≡ b.0 = omega arith in cc) | inr g ↦ absurd (b.2.3 (a.2.4 b.2.0 g)) ]
   ]
   one Granted v w a b =
-      let e = (one_first (IsGranted js skew c) c.pieces a.2.0 b.2.0 a.2.1 b.2.1 a.2.3 b.2.3).0 in
+      let e = (one_first (IsGranted js skew transit c) c.pieces a.2.0 b.2.0 a.2.1 b.2.1 a.2.3 b.2.3).0 in
       let x = a.1 in let y = b.1 in let p = a.2.2 in let q = b.2.2 in let n : a.0 ≡ b.0 = omega arith in cc
+  one Opened v w a b = let x = a.0 in let y = b.0 in cc
   one Discharged v w a b = elim (order_cases a.3.0 b.3.0) [
     | inl h ↦ absurd (cut_fails js skew a.3.1 a.1 a.3.5.0 (b.3.4 a.3.0 a.3.1 h a.3.3))
     | inr h ↦ elim h [
@@ -192,12 +199,12 @@ module _ (js : Journals) (skew : ℕ) (c : Certificate) where
   ]
   one Covered v w a b = let e = one_least (IsUncovered js c) a.0 b.0 a.2 b.2 in let x = a.1 in let y = b.1 in cc
   one Reasoned v w a b =
-      let e = (one_first (ReasonHolds js skew c) c.foreign a.2.0 b.2.0 a.2.1 b.2.1 a.2.3 b.2.3).1 in
+      let e = (one_first (ReasonHolds js skew transit c) c.foreign a.2.0 b.2.0 a.2.1 b.2.1 a.2.3 b.2.3).1 in
       let f : a.2.1.grant ≡ b.2.1.grant = ap (λ (x : Foreign). x.grant) e in
       let x = a.1 in let y = b.1 in let p = a.2.2 in let q = b.2.2 in cc
 
   -- so the conditions together have one verdict
-  one_by : (ks : List Condition) (v w : Verdict) → IsVerdictBy js skew c ks v → IsVerdictBy js skew c ks w → v ≡ w
+  one_by : (ks : List Condition) (v w : Verdict) → IsVerdictBy js skew transit c ks v → IsVerdictBy js skew transit c ks w → v ≡ w
   one_by [] v w a b = cc
   one_by (k ∷ ks) v w (inl a) (inl b) = one k v w a b
   one_by (k ∷ ks) v w (inl a) (inr b) = absurd (never k v a b.0)
@@ -205,4 +212,4 @@ module _ (js : Journals) (skew : ℕ) (c : Certificate) where
   one_by (k ∷ ks) v w (inr a) (inr b) = one_by ks v w a.1 b.1
 
 pub one_verdict : OneVerdict
-one_verdict js skew c v w a b = one_by js skew c CONDITIONS v w a b
+one_verdict js skew transit c v w a b = one_by js skew transit c CONDITIONS v w a b

@@ -1,26 +1,24 @@
--- The headline over these definitions, whatever a legal journal is.
-use Rattle.std.specs.Prelude.{◌≡◌, ◌≢◌, ℕ, ◌+◌, ◌-◌, ◌*◌, ◌<◌, ◌≤◌, ◌⊎◌, Bool, true, false, List, [], ◌∷◌, Some, slice_get, map, filter, length, if◌then◌else◌}
+-- What holds in a run that leaves two journals, where their volumes keep what proofs/Lawful says.
+use Rattle.std.specs.Prelude.{◌≡◌, ◌≢◌, ℕ, ◌+◌, ◌-◌, ◌*◌, ◌<◌, ◌≤◌, ◌⊎◌, Bool, true, false, List, [], ◌∷◌, Some, slice_get, length}
 use Rattle.std.specs.Str.{bytes_eq}
 use Rattle.std.proofs.Common.{zero, suc, arith, sym, ◌∙◌, ap, subst, inl, inr, refl}
 use Rattle.std.proofs.lemmas.Bool.{cases_lt}
 use Rattle.std.proofs.lemmas.Option.{slice_get_read}
 use Rattle.std.proofs.lemmas.Slice.Eq.{bytes_eq-Decides}
-use Rattle.prefix_range.specs.Prefix.{HasAddress}
+use Rattle.prefix_range.specs.Prefix.{Prefix, HasAddress, Overlaps}
 use Rattle.binding_rules.specs.declared.role.Role.{Role}
 use Rattle.binding_rules.specs.declared.role.Role.TheVariants.{Primary, Secondary}
-use Rattle.binding_rules.specs.Role.{partner_of, is_side}
-use Rattle.journal_lines.specs.declared.event.Event.{Event}
-use Rattle.journal_lines.specs.declared.event.Event.TheVariants.{Grant, Release, Send, Take, Close}
-use Rattle.journal_lines.specs.declared.event.Lease.{Lease}
+use Rattle.binding_rules.specs.Role.{partner_of}
 use Rattle.binding_rules.specs.declared.message.PartnerMessage.{PartnerMessage}
+use Rattle.journal_lines.specs.declared.kept.Carried.{Carried}
+use Rattle.journal_lines.specs.declared.event.Event.TheVariants.{Grant, Release, Send, Take}
+use Rattle.journal_lines.specs.declared.event.Lease.{Lease}
 use Rattle.journal_lines.specs.declared.line.Line.{Line}
-use Rattle.journal_lines.specs.Close.{is_close, until_close}
 use Rattle.claims.specs.declared.reference.Ref.{Ref}
 use Rattle.claims.specs.declared.order.Precedes.{Precedes}
 use Rattle.claims.specs.declared.order.Precedes.TheVariants.{Chain, Clock}
-use Rattle.causal_order.specs.Journals.{Journals, journal_of, Names}
+use Rattle.causal_order.specs.Journals.{Journals, journal_of, volume_of, open_of, Names}
 use Rattle.causal_order.specs.Order.{IsLater, IsTakeOf, IsSurelyBefore, IsChain, EndsWith, Leads, WrittenBy, WrittenFrom}
-use Rattle.causal_order.proofs.Deciding.{decides_side}
 use Rattle.claims.specs.declared.certificate.Certificate.{Certificate}
 use Rattle.claims.specs.declared.certificate.Piece.{Piece}
 use Rattle.claims.specs.declared.certificate.Why.{Why}
@@ -28,184 +26,106 @@ use Rattle.claims.specs.declared.certificate.Why.TheVariants.{Before, After}
 use Rattle.claims.specs.declared.certificate.Foreign.{Foreign}
 use Rattle.claims.specs.declared.certificate.Reason.{Reason}
 use Rattle.claims.specs.declared.certificate.Reason.TheVariants.{Early, Late, Released}
-use Rattle.attribution.specs.Run.{Step, lines_of, At, IsOpenAt, IsValidAt, Holds, HoldsWhole, infinity}
-use Rattle.attribution.specs.Legal.{SendsOnce}
-use Rattle.attribution.specs.Laws.{count, Stands, Setting, RefAt, ChainsStandInOrder, BoundsHold, LateAfterClose}
-use Rattle.attribution.proofs.Deciding.{close_is}
+use Rattle.attribution.specs.declared.delegation.Delegation.{Delegation}
+use Rattle.attribution.specs.Delegation.{of_lease, of_carried, told_by}
+use Rattle.attribution.specs.Volumes.{volume_at, volumes_in}
+use Rattle.attribution.specs.Run.{Step, lines_of, At, closes, IsWithin, IsRun, KeepsSkew, StartInTime, IsValidAt, Holds, HoldsWhole, infinity}
+use Rattle.attribution.specs.Acceptance.{Tells, IsCleared, IsCarried, IsAfterOpen, IsGrantedAfterOpen, IsPastPartner, IsOutside, ClosesFrom, IsAccepted}
+use Rattle.attribution.specs.Laws.{Stands, RefAt}
 use Rattle.attribution.proofs.Tiling.{pieces_meet}
-use Rattle.attribution.specs.Acceptance.{Grants, IsCleared, IsCarried, IsOutside, ClosesFrom, IsAccepted, AcceptedIsTrue}
+use Rattle.attribution.proofs.Places.{placed, standing, earlier, one_place, closes_le, earlier_volume, volumes_at}
+use Rattle.attribution.proofs.Lawful.{IsOf, Lawful, StillCarried, Ended, GivenUp}
 
-side_same : (a b : Role) → is_side a b ≡ true → b ≡ a
-side_same a b h = (decides_side a b).0 h
+-- the index of the volume that the journal is
+abbrev pub last : Journals → Role → ℕ
+last js side = volume_of js side - 1
 
-side_refl : (a : Role) → is_side a a ≡ true
-side_refl a = (decides_side a a).1 refl
+-- the run and the two journals that it leaves, with what legal volumes keep
+pub record World (IsLegal : Role → List (List Line) → Type 0) (js : Journals) (skew : ℕ) (run : List Step) : Type 0 where
+  pub is_run : IsRun IsLegal (volume_of js) run
+  pub clocks : KeepsSkew skew (volume_of js) run
+  pub some : (side : Role) → 0 < volume_of js side
+  pub left : (side : Role) → journal_of js side ≡ volume_at (last js side) (lines_of side run)
+  pub lawful : (side : Role) → Lawful (volumes_in (volume_of js side) (lines_of side run))
 
-not_close : (e : Event) → is_close e ≡ false → e ≢ Close
-not_close e h = λ k. let q : is_close e ≡ true = ap is_close k in cc
+sides : (x y : Role) → (y ≡ x) ⊎ (y ≡ partner_of x)
+sides Primary Primary = inl refl
+sides Primary Secondary = inr refl
+sides Secondary Primary = inr refl
+sides Secondary Secondary = inl refl
 
-open_front : (s : Step) (ss : List Step) (i : ℕ) (t : Step) → (s.side ≡ t.side → s.line.event ≢ Close) → IsOpenAt ss i t → IsOpenAt (s ∷ ss) (suc i) t
-open_front s ss i t first rest zero u lt at same = let e : s ≡ u = cc in subst (λ (x : Step). x.line.event ≢ Close) e (first (ap (λ (x : Step). x.side) e ∙ same))
-open_front s ss i t first rest (suc j) u lt at same = rest j u (omega arith) at same
+partner_twice : (side : Role) → partner_of (partner_of side) ≡ side
+partner_twice Primary = refl
+partner_twice Secondary = refl
 
-open_here : (s : Step) (ss : List Step) → IsOpenAt (s ∷ ss) 0 s
-open_here s ss j t lt at same = absurd (omega arith)
+module _ (IsLegal : Role → List (List Line) → Type 0) (js : Journals) (skew : ℕ) (run : List Step) (world : World IsLegal js skew run) where
+  within : (r : Ref) (i : ℕ) (s : Step) → RefAt js run r i s → IsWithin (volume_of js) run i s
+  within r i s a =
+      let some = world.some r.side in
+      let v = a.stands.volume in
+      subst (λ side. closes side run i < volume_of js side) (sym a.stands.of) (omega arith)
 
-stands_on : (s : Step) (ss : List Step) (side : Role) (k i : ℕ) (t : Step) → (s.side ≡ side → s.line.event ≢ Close) → Stands ss side k i t
-    → Stands (s ∷ ss) side ((if is_side side s.side then 1 else 0) + k) (suc i) t
-stands_on s ss side k i t first there = record {
-  here = there.here;
-  of = there.of;
-  open_there = open_front s ss i t (λ e. first (e ∙ there.of)) there.open_there;
-  before = ap (λ n. (if is_side side s.side then 1 else 0) + n) there.before;
-}
-
--- the line k of the side stands somewhere in the run
-abbrev pub IsPlaced : List Step → Role → ℕ → Line → Type 0
-IsPlaced run side k l = (i : ℕ) × (s : Step) × Stands run side k i s × (s.line ≡ l)
-
-placed_by_close : (s : Step) (ss : List Step) (side : Role) (l : Line)
-    → ((k : ℕ) → slice_get (until_close (lines_of side ss)) k ≡ Some l → IsPlaced ss side k l)
-    → (b : Bool) → is_close s.line.event ≡ b → (k : ℕ) → is_side side s.side ≡ true
-    → slice_get (if b then s.line ∷ [] else s.line ∷ until_close (lines_of side ss)) k ≡ Some l
-    → IsPlaced (s ∷ ss) side k l
-placed_by_close s ss side l rest true c zero e h = (0, s, record { here = refl; of = side_same side s.side e; open_there = open_here s ss; before = refl }, cc)
-placed_by_close s ss side l rest true c (suc k) e h = absurd (cc)
-placed_by_close s ss side l rest false c zero e h = (0, s, record { here = refl; of = side_same side s.side e; open_there = open_here s ss; before = refl }, cc)
-placed_by_close s ss side l rest false c (suc k) e h =
-    let r : IsPlaced ss side k l = rest k h in
-    let there = stands_on s ss side k r.0 r.1 (λ _. not_close s.line.event c) r.2 in
-    (suc r.0, r.1, subst (λ n. Stands (s ∷ ss) side n (suc r.0) r.1) (rw e (omega arith)) there, r.3)
-
-placed_by_side : (s : Step) (ss : List Step) (side : Role) (l : Line)
-    → ((k : ℕ) → slice_get (until_close (lines_of side ss)) k ≡ Some l → IsPlaced ss side k l)
-    → (b : Bool) → is_side side s.side ≡ b → (k : ℕ)
-    → slice_get (until_close (map (λ x. x.line) (if b then s ∷ filter (λ x. is_side side x.side) ss else filter (λ x. is_side side x.side) ss))) k ≡ Some l
-    → IsPlaced (s ∷ ss) side k l
-placed_by_side s ss side l rest true e k h = placed_by_close s ss side l rest (is_close s.line.event) refl k e h
-placed_by_side s ss side l rest false e k h =
-    let r : IsPlaced ss side k l = rest k h in
-    let never : s.side ≡ side → s.line.event ≢ Close = λ same. let q : is_side side s.side ≡ true = subst (λ x. is_side side x ≡ true) (sym same) (side_refl side) in absurd (cc) in
-    let there = stands_on s ss side k r.0 r.1 never r.2 in
-    (suc r.0, r.1, subst (λ n. Stands (s ∷ ss) side n (suc r.0) r.1) (rw e (omega arith)) there, r.3)
-
--- each line of a side's journal stands in the run
-pub place : (run : List Step) (side : Role) (k : ℕ) (l : Line) → slice_get (until_close (lines_of side run)) k ≡ Some l → IsPlaced run side k l
-place [] side k l h = absurd (cc)
-place (s ∷ ss) side k l h = placed_by_side s ss side l (λ n g. place ss side n l g) (is_side side s.side) refl k h
-
--- no step of the side before i closes it
-abbrev pub NoneCloses : List Step → Role → ℕ → Type 0
-NoneCloses run side i = (j : ℕ) (t : Step) → j < i → At run j t → t.side ≡ side → t.line.event ≢ Close
-
-none_on : (s : Step) (ss : List Step) (side : Role) (i : ℕ) → NoneCloses (s ∷ ss) side (suc i) → NoneCloses ss side i
-none_on s ss side i none j t lt at of = none (suc j) t (omega arith) at of
-
--- what stands open in the run is a line of its side's journal
-line_by_close : (s : Step) (rest : List Line) (k : ℕ) (b : Bool) → is_close s.line.event ≡ b → s.line.event ≢ Close → (l : Line)
-    → slice_get rest k ≡ Some l
-    → slice_get (if b then s.line ∷ [] else s.line ∷ rest) (1 + k) ≡ Some l
-line_by_close s rest k true c open_there l h = absurd (open_there (close_is s.line.event c))
-line_by_close s rest k false c open_there l h = let e : 1 + k ≡ suc k = omega arith in rw e h
-
-first_by_close : (s : Step) (rest : List Line) (b : Bool) → slice_get (if b then s.line ∷ [] else s.line ∷ rest) 0 ≡ Some s.line
-first_by_close s rest true = refl
-first_by_close s rest false = refl
-
-line_by_side : (s t : Step) (ss : List Step) (side : Role) (i : ℕ) (b : Bool) → is_side side s.side ≡ b → (s.side ≡ side → s.line.event ≢ Close)
-    → slice_get (until_close (lines_of side ss)) (count side ss i) ≡ Some t.line
-    → slice_get (until_close (map (λ x. x.line) (if b then s ∷ filter (λ x. is_side side x.side) ss else filter (λ x. is_side side x.side) ss))) ((if b then 1 else 0) + count side ss i) ≡ Some t.line
-line_by_side s t ss side i true e none h = line_by_close s (until_close (lines_of side ss)) (count side ss i) (is_close s.line.event) refl (none (side_same side s.side e)) t.line h
-line_by_side s t ss side i false e none h = let z : 0 + count side ss i ≡ count side ss i = omega arith in rw z h
-
-pub line_at : (run : List Step) (side : Role) (i : ℕ) (s : Step) → At run i s → s.side ≡ side → NoneCloses run side i
-    → slice_get (until_close (lines_of side run)) (count side run i) ≡ Some s.line
-line_at [] side i s at of none = absurd (cc)
-line_at (t ∷ ts) side zero s at of none =
-    let e : t ≡ s = cc in
-    let q : is_side side t.side ≡ true = subst (λ (x : Role). is_side side x ≡ true) (sym (ap (λ (x : Step). x.side) e ∙ of)) (side_refl side) in
-    rw q (first_by_close t (until_close (lines_of side ts)) (is_close t.line.event) ∙ ap (λ (x : Step). Some x.line) e)
-line_at (t ∷ ts) side (suc i) s at of none =
-    line_by_side t s ts side i (is_side side t.side) refl (λ same. none 0 t (omega arith) refl same) (line_at ts side i s at of (none_on t ts side i none))
-
--- how many come before does not fall, and grows past a step of the side
-count_le : (side : Role) (run : List Step) (i j : ℕ) → i ≤ j → count side run i ≤ count side run j
-count_le side [] i j h = omega arith
-count_le side (s ∷ ss) zero j h = omega arith
-count_le side (s ∷ ss) (suc i) zero h = absurd (omega arith)
-count_le side (s ∷ ss) (suc i) (suc j) h = let r = count_le side ss i j (omega arith) in omega arith
-
-count_lt : (side : Role) (run : List Step) (i j : ℕ) (s : Step) → At run i s → s.side ≡ side → i < j → count side run i < count side run j
-count_lt side [] i j s at of lt = absurd (cc)
-count_lt side (t ∷ ts) i zero s at of lt = absurd (omega arith)
-count_lt side (t ∷ ts) zero (suc j) s at of lt =
-    let e : t ≡ s = cc in
-    let q : is_side side t.side ≡ true = subst (λ (x : Role). is_side side x ≡ true) (sym (ap (λ (x : Step). x.side) e ∙ of)) (side_refl side) in
-    rw q (omega arith)
-count_lt side (t ∷ ts) (suc i) (suc j) s at of lt = let r = count_lt side ts i j s at of (omega arith) in omega arith
-
--- of two places of a side the one with the smaller number comes first
-earlier_by : (run : List Step) (side : Role) (k n i j : ℕ) (s t : Step) → Stands run side k i s → Stands run side n j t → k < n → (i < j) ⊎ (j ≤ i) → i < j
-earlier_by run side k n i j s t a b lt (inl h) = h
-earlier_by run side k n i j s t a b lt (inr h) = let r = count_le side run j i h in let x = a.before in let y = b.before in absurd (omega arith)
-
-earlier : (run : List Step) (side : Role) (k n i j : ℕ) (s t : Step) → Stands run side k i s → Stands run side n j t → k < n → i < j
-earlier run side k n i j s t a b lt = earlier_by run side k n i j s t a b lt (cases_lt i j)
-
--- a line has one place
-one_place_by : (run : List Step) (side : Role) (k i j : ℕ) (s t : Step) → Stands run side k i s → Stands run side k j t → (i < j) ⊎ (j ≤ i) → (j < i) ⊎ (i ≤ j) → i ≡ j
-one_place_by run side k i j s t a b (inr le) (inr ge) = omega arith
-one_place_by run side k i j s t a b (inl lt) q = let r = count_lt side run i j s a.here a.of lt in let x = a.before in let y = b.before in absurd (omega arith)
-one_place_by run side k i j s t a b (inr le) (inl lt) = let r = count_lt side run j i t b.here b.of lt in let x = a.before in let y = b.before in absurd (omega arith)
-
-one_place : (run : List Step) (side : Role) (k i j : ℕ) (s t : Step) → Stands run side k i s → Stands run side k j t → i ≡ j
-one_place run side k i j s t a b = one_place_by run side k i j s t a b (cases_lt i j) (cases_lt j i)
-
-module _ (IsLegal : Role → List Line → Type 0) (js : Journals) (skew : ℕ) (run : List Step) (world : Setting IsLegal js skew run) (once : (side : Role) → SendsOnce (journal_of js side)) where
   ref_at : (r : Ref) (l : Line) → Names js r l → (i : ℕ) × (s : Step) × RefAt js run r i s × (s.line ≡ l)
   ref_at r l n =
-      let h : slice_get (until_close (lines_of r.side run)) (r.number - 1) ≡ Some l = subst (λ ls. slice_get ls (r.number - 1) ≡ Some l) (world.left r.side) n.1 in
-      let p = place run r.side (r.number - 1) l h in
+      let h : slice_get (volume_at (last js r.side) (lines_of r.side run)) (r.number - 1) ≡ Some l = subst (λ ls. slice_get ls (r.number - 1) ≡ Some l) (world.left r.side) n.1 in
+      let p = placed run r.side (last js r.side) (r.number - 1) l h in
       (p.0, p.1, record { positive = n.0; stands = p.2; names = (n.0, n.1 ∙ ap (λ x. Some x) (sym p.3)) }, p.3)
 
   -- a reference names one line
   one_line : (r : Ref) (l m : Line) → Names js r l → Names js r m → l ≡ m
   one_line r l m a b = let p = a.1 in let q = b.1 in cc
 
-  -- what stands open in the run is a line of its journal
-  line_there : (i : ℕ) (s : Step) → At run i s → IsOpenAt run i s → RefAt js run (record { side = s.side; number = count s.side run i + 1 }) i s
-  line_there i s at open_there =
-      let k : (count s.side run i + 1) - 1 ≡ count s.side run i = omega arith in
-      let h : slice_get (journal_of js s.side) (count s.side run i) ≡ Some s.line = subst (λ ls. slice_get ls (count s.side run i) ≡ Some s.line) (sym (world.left s.side)) (line_at run s.side i s at refl open_there) in
-      record {
-        positive = omega arith;
-        stands = rw k (record { here = at; of = refl; open_there = open_there; before = refl });
-        names = (omega arith, rw k h);
-      }
+  -- what stands in the journal's volume is a line of the journal
+  pub Here : ℕ → Step → Type 0
+  Here i s = (r : Ref) × (r.side ≡ s.side) × RefAt js run r i s
+
+  line_there : (i : ℕ) (s : Step) → At run i s → closes s.side run i ≡ last js s.side → Here i s
+  unfolding Here
+  line_there i s at here =
+      let st = standing run s.side i s at refl in
+      let k : (st.0 + 1) - 1 ≡ st.0 = omega arith in
+      let h : slice_get (journal_of js s.side) st.0 ≡ Some s.line =
+      subst (λ ls. slice_get ls st.0 ≡ Some s.line) (sym (world.left s.side)) (subst (λ n. slice_get (volume_at n (lines_of s.side run)) st.0 ≡ Some s.line) here st.2) in (
+        record { side = s.side; number = st.0 + 1 },
+        refl,
+        record {
+          positive = omega arith;
+          stands = rw k (subst (λ n. Stands run s.side n st.0 i s) here st.1);
+          names = (omega arith, rw k h);
+        },
+      )
 
   same_at : (r : Ref) (i j : ℕ) (s t : Step) → RefAt js run r i s → RefAt js run r j t → i ≡ j
-  same_at r i j s t a b = one_place run r.side (r.number - 1) i j s t a.stands b.stands
+  same_at r i j s t a b = one_place run r.side (last js r.side) (r.number - 1) i j s t a.stands b.stands
 
   later_at : (r q : Ref) (i j : ℕ) (s t : Step) → IsLater r q → RefAt js run r i s → RefAt js run q j t → i < j
   later_at r q i j s t later a b =
-      let there : Stands run r.side (q.number - 1) j t = subst (λ side. Stands run side (q.number - 1) j t) later.0 b.stands in
+      let there : Stands run r.side (last js r.side) (q.number - 1) j t = subst (λ side. Stands run side (last js side) (q.number - 1) j t) later.0 b.stands in
       let x = a.positive in
-      earlier run r.side (r.number - 1) (q.number - 1) i j s t a.stands there (omega arith)
+      earlier run r.side (last js r.side) (r.number - 1) (q.number - 1) i j s t a.stands there (omega arith)
 
-  partner_twice : (side : Role) → partner_of (partner_of side) ≡ side
-  partner_twice Primary = refl
-  partner_twice Secondary = refl
+  -- what stands in an earlier volume of the line's side stands before it
+  before_line : (r : Ref) (i j : ℕ) (s t : Step) → RefAt js run r i s → t.side ≡ r.side → closes t.side run j < last js t.side → j < i
+  before_line r i j s t a of lt =
+      let v = a.stands.volume in
+      let lt' : closes r.side run j < last js r.side = subst (λ side. closes side run j < last js side) of lt in
+      earlier_volume r.side run j i (omega arith)
 
   -- the letter that is taken at j was sent at n, and the line r sends it at i
   sent_at : (r : Ref) (m : PartnerMessage) (i n : ℕ) (s t : Step) → RefAt js run r i s → s.line.event ≡ Send m
       → At run n t → t.side ≡ r.side → t.line.event ≡ Send m → (n < i) ⊎ (i ≤ n) → i ≤ n
   sent_at r m i n s t a sends at of sends' (inr le) = le
   sent_at r m i n s t a sends at of sends' (inl lt) =
-      let open_there : IsOpenAt run n t = λ j u less here same. a.stands.open_there j u (omega arith) here ((same ∙ of) ∙ sym a.stands.of) in
-      let b = line_there n t at open_there in
-      let b' : RefAt js run (record { side = r.side; number = count r.side run n + 1 }) n t = subst (λ side. RefAt js run (record { side = side; number = count side run n + 1 }) n t) of b in
-      let k : r.number - 1 ≡ (count r.side run n + 1) - 1 = once r.side (r.number - 1) ((count r.side run n + 1) - 1) s.line t.line m a.names.1 sends b'.names.1 sends' in
-      let e : i ≡ n = one_place run r.side (r.number - 1) i n s t a.stands (subst (λ x. Stands run r.side x n t) (sym k) b'.stands) in
+      let lines = lines_of r.side run in
+      let some = world.some r.side in
+      let st = standing run r.side n t at of in
+      let v = a.stands.volume in
+      let le = closes_le r.side run n i (omega arith) in
+      let here : slice_get (volume_at (last js r.side) lines) (r.number - 1) ≡ Some s.line = subst (λ ls. slice_get ls (r.number - 1) ≡ Some s.line) (world.left r.side) a.names.1 in
+      let same = (world.lawful r.side).once (closes r.side run n) (last js r.side) st.0 (r.number - 1) (volume_at (closes r.side run n) lines) (volume_at (last js r.side) lines) t.line s.line m m
+      (volumes_at (volume_of js r.side) lines (closes r.side run n) (omega arith)) (volumes_at (volume_of js r.side) lines (last js r.side) (omega arith)) st.2 sends' here sends refl in
+      let there : Stands run r.side (last js r.side) (r.number - 1) n t = subst (λ k. Stands run r.side (last js r.side) k n t) same.1 (subst (λ v. Stands run r.side v st.0 n t) same.0 st.1) in
+      let e : i ≡ n = one_place run r.side (last js r.side) (r.number - 1) i n s t a.stands there in
       omega arith
 
   take_at : (r q : Ref) (i j : ℕ) (s t : Step) → IsTakeOf js r q → RefAt js run r i s → RefAt js run q j t → i < j
@@ -213,7 +133,7 @@ module _ (IsLegal : Role → List Line → Type 0) (js : Journals) (skew : ℕ) 
       let m = takes.1.0 in
       let sends : s.line.event ≡ Send m = ap (λ (l : Line). l.event) (one_line r s.line takes.1.1 a.names takes.1.3) ∙ takes.1.4 in
       let taken : t.line.event ≡ Take m = ap (λ (l : Line). l.event) (one_line q t.line takes.1.2 b.names takes.1.5) ∙ takes.1.6 in
-      let source = world.is_run.sent j t m b.stands.here b.stands.open_there taken in
+      let source = world.is_run.sent j t m b.stands.here (within q j t b) taken in
       let of : source.1.side ≡ r.side = (source.4 ∙ ap partner_of (b.stands.of ∙ takes.0)) ∙ partner_twice r.side in
       let le = sent_at r m i source.0 s source.1 a sends source.3 of source.5 (cases_lt source.0 i) in
       let lt = source.2 in
@@ -240,7 +160,7 @@ module _ (IsLegal : Role → List Line → Type 0) (js : Journals) (skew : ℕ) 
       let rest = (chain_at us u q n.0 j n.1 t c.2 e n.2 b).0 in
       (omega arith, λ two. omega arith)
 
-  leads_at : (chain : List Ref) (r q : Ref) (i j : ℕ) (s t : Step) → Leads js chain r q → RefAt js run r i s → RefAt js run q j t
+  pub leads_at : (chain : List Ref) (r q : Ref) (i j : ℕ) (s t : Step) → Leads js chain r q → RefAt js run r i s → RefAt js run q j t
       → (i ≤ j) × (2 ≤ length chain → i < j)
   leads_at chain r q i j s t l a b =
       let c : IsChain js (r ∷ l.rest) = subst (IsChain js) l.begins l.links in
@@ -248,27 +168,38 @@ module _ (IsLegal : Role → List Line → Type 0) (js : Journals) (skew : ℕ) 
       let both = chain_at l.rest r q i j s t c e a b in
       (both.0, λ two. both.1 (subst (λ (x : List Ref). 2 ≤ length x) l.begins two))
 
-  written_by : (chain : List Ref) (r : Ref) (x i : ℕ) (s : Step) → WrittenBy js chain r x → RefAt js run r i s → s.moment ≤ x + skew
+  -- each line of a chain stands somewhere, at or before its last line
+  member_at : (chain : List Ref) (q r : Ref) (j k : ℕ) (t : Step) → IsChain js chain → EndsWith chain q → RefAt js run q j t → slice_get chain k ≡ Some r
+      → (i : ℕ) × (s : Step) × RefAt js run r i s × (i ≤ j)
+  member_at [] q r j k t c e b at = absurd (cc)
+  member_at (u ∷ us) q r j zero t c e b at =
+      let same : u ≡ r = cc in
+      let head = chain_head u us c in
+      let n = ref_at u head.0 head.1 in
+      (n.0, n.1, subst (λ x. RefAt js run x n.0 n.1) same n.2, (chain_at us u q n.0 j n.1 t c e n.2 b).0)
+  member_at (u ∷ []) q r j (suc k) t c e b at = absurd (cc)
+  member_at (u ∷ v ∷ vs) q r j (suc k) t c e b at = member_at (v ∷ vs) q r j k t c.2 e b at
+
+  pub written_by : (chain : List Ref) (r : Ref) (x i : ℕ) (s : Step) → WrittenBy js chain r x → RefAt js run r i s → s.moment ≤ x + skew
   written_by chain r x i s w a =
       let p = ref_at w.end w.line w.names in
       let le = (leads_at chain r w.end i p.0 s p.1 w.leads a p.2).0 in
       let time = world.is_run.in_time i p.0 s p.1 le a.stands.here p.2.stands.here in
-      let near = (world.clocks p.0 p.1 p.2.stands.here p.2.stands.open_there).1 in
+      let near = (world.clocks p.0 p.1 p.2.stands.here (within w.end p.0 p.1 p.2)).1 in
       let read : p.1.line.reading ≡ x = ap (λ (l : Line). l.reading) p.3 ∙ w.read in
       omega arith
 
-  written_from : (chain : List Ref) (r : Ref) (x i : ℕ) (s : Step) → WrittenFrom js chain r x → RefAt js run r i s → x ≤ s.moment + skew
+  pub written_from : (chain : List Ref) (r : Ref) (x i : ℕ) (s : Step) → WrittenFrom js chain r x → RefAt js run r i s → x ≤ s.moment + skew
   written_from chain r x i s w a =
       let p = ref_at w.begin w.line w.names in
       let le = (leads_at chain w.begin r p.0 i p.1 s w.leads p.2 a).0 in
       let time = world.is_run.in_time p.0 i p.1 s le p.2.stands.here a.stands.here in
-      let near = (world.clocks p.0 p.1 p.2.stands.here p.2.stands.open_there).0 in
+      let near = (world.clocks p.0 p.1 p.2.stands.here (within w.begin p.0 p.1 p.2)).0 in
       let read : p.1.line.reading ≡ x = ap (λ (l : Line). l.reading) p.3 ∙ w.read in
       omega arith
 
-  clock_order : (r q : Ref) (i j : ℕ) (s t : Step) → RefAt js run r i s → RefAt js run q j t → s.moment < t.moment → (i < j) ⊎ (j ≤ i) → i < j
-  clock_order r q i j s t a b lt (inl h) = h
-  clock_order r q i j s t a b lt (inr h) = let x = world.is_run.in_time j i t s h b.stands.here a.stands.here in absurd (omega arith)
+  sooner : (i j : ℕ) (s t : Step) → At run i s → At run j t → s.moment < t.moment → i < j
+  sooner i j s t a b lt = elim (cases_lt i j) [ inl h ↦ h | inr h ↦ (let x = world.is_run.in_time j i t s h b a in absurd (omega arith)) ]
 
   surely_before : (order : Precedes) (r q : Ref) (i j : ℕ) (s t : Step) → IsSurelyBefore js skew order r q → RefAt js run r i s → RefAt js run q j t → i < j
   surely_before (Chain chain) r q i j s t h a b = (leads_at chain r q i j s t h.0 a b).1 h.1
@@ -276,26 +207,36 @@ module _ (IsLegal : Role → List Line → Type 0) (js : Journals) (skew : ℕ) 
       let x = written_by first r h.0 i s h.2 a in
       let y = written_from second q h.1 j t h.3 b in
       let gap = h.4 in
-      clock_order r q i j s t a b (omega arith) (cases_lt i j)
+      sooner i j s t a.stands.here b.stands.here (omega arith)
 
-  -- A step stands open, or its moment is at or past the end.
-  open_or_late_by : (side : Role) (to n i : ℕ) (c s : Step) → Stands run side (count side run n) n c → to ≤ c.moment → At run i s → s.side ≡ side
-      → (n < i) ⊎ (i ≤ n) → IsOpenAt run i s ⊎ (to ≤ s.moment)
-  open_or_late_by side to n i c s closes late at of (inl lt) = inr (let x = world.is_run.in_time n i c s (omega arith) closes.here at in omega arith)
-  open_or_late_by side to n i c s closes late at of (inr le) = inl (λ j u lt here same. closes.open_there j u (omega arith) here ((same ∙ of) ∙ sym closes.of))
+  -- A step is of an earlier volume, or a line of the journal, or its moment is at or past the end.
+  pub When : ℕ → ℕ → Step → Type 0
+  When to i s = (closes s.side run i < last js s.side) ⊎ (Here i s ⊎ (to ≤ s.moment))
 
-  -- each line stands somewhere before the side's steps past `to`
-  open_or_late : (to i : ℕ) (s : Step) → ClosesFrom (journal_of js s.side) (to + skew) → At run i s → IsOpenAt run i s ⊎ (to ≤ s.moment)
-  open_or_late to i s closes at =
-      let k = closes.1.0 in
-      let found : slice_get (journal_of js s.side) k ≡ Some closes.0 = slice_get_read (journal_of js s.side) (length (journal_of js s.side)) k closes.0 refl closes.1.1 (sym closes.1.2) in
+  pub past_end : (to i : ℕ) (s : Step) → ClosesFrom (journal_of js s.side) (to + skew) → At run i s → last js s.side < closes s.side run i → to ≤ s.moment
+  past_end to i s closed at lt =
+      let k = closed.1.0 in
+      let found : slice_get (journal_of js s.side) k ≡ Some closed.0 = slice_get_read (journal_of js s.side) (length (journal_of js s.side)) k closed.0 refl closed.1.1 (sym closed.1.2) in
       let k' : (k + 1) - 1 ≡ k = omega arith in
-      let p = ref_at (record { side = s.side; number = k + 1 }) closes.0 (omega arith, rw k' found) in
-      let near = (world.clocks p.0 p.1 p.2.stands.here p.2.stands.open_there).0 in
-      let read : p.1.line.reading ≡ closes.0.reading = ap (λ (l : Line). l.reading) p.3 in
-      let late = closes.3 in
-      let there : Stands run s.side (count s.side run p.0) p.0 p.1 = record { here = p.2.stands.here; of = p.2.stands.of; open_there = p.2.stands.open_there; before = refl } in
-      open_or_late_by s.side to p.0 i p.1 s there (omega arith) at refl (cases_lt p.0 i)
+      let r : Ref = record { side = s.side; number = k + 1 } in
+      let p = ref_at r closed.0 (omega arith, rw k' found) in
+      let near = (world.clocks p.0 p.1 p.2.stands.here (within r p.0 p.1 p.2)).0 in
+      let read : p.1.line.reading ≡ closed.0.reading = ap (λ (l : Line). l.reading) p.3 in
+      let v = p.2.stands.volume in
+      let after = earlier_volume s.side run p.0 i (omega arith) in
+      let time = world.is_run.in_time p.0 i p.1 s (omega arith) p.2.stands.here at in
+      let late = closed.3 in
+      omega arith
+
+  when : (to i : ℕ) (s : Step) → ClosesFrom (journal_of js s.side) (to + skew) → At run i s → When to i s
+  unfolding When
+  when to i s closed at = elim (cases_lt (closes s.side run i) (last js s.side)) [
+    | inl lt ↦ inl lt
+    | inr ge ↦ elim (cases_lt (last js s.side) (closes s.side run i)) [
+      | inl gt ↦ inr (inr (past_end to i s closed at gt))
+      | inr le ↦ inr (inl (line_there i s at (omega arith)))
+    ]
+  ]
 
   -- a cleared release is not after the grant and by m
   cleared_apart : (r grant : Ref) (to m i j : ℕ) (s t : Step) (why : Why) → IsCleared js skew r grant to why → RefAt js run grant i s → RefAt js run r j t
@@ -303,112 +244,247 @@ module _ (IsLegal : Role → List Line → Type 0) (js : Journals) (skew : ℕ) 
   cleared_apart r grant to m i j s t (Before order) sure a b after by before = let lt = surely_before order r grant j i t s sure b a in absurd (omega arith)
   cleared_apart r grant to m i j s t (After chain) late a b after by before = let x = written_from chain r late.0 j t late.1 b in let y = late.2 in absurd (omega arith)
 
+  -- the side's earlier volumes are before the piece's grant
+  earlier_before_by : (p : Piece) (i j : ℕ) (s t : Step) → (x : ℕ) → WrittenFrom js p.earliest p.grant x → RefAt js run p.grant i s → IsGrantedAfterOpen js skew p t.side
+      → At run j t → closes t.side run j < last js t.side → j < i
+  earlier_before_by p i j s t x from a (inl chain) at lt =
+      let k = slice_get_read p.earliest (length p.earliest) chain.1.0 chain.0 refl chain.1.1 (sym chain.1.2) in
+      let n = member_at p.earliest p.grant chain.0 i chain.1.0 s from.leads.links from.leads.ends a k in
+      let before = before_line chain.0 n.0 j n.1 t n.2 (sym chain.2) lt in
+      let le = n.3 in
+      omega arith
+  earlier_before_by p i j s t x from a (inr clock) at lt =
+      let o = ref_at (open_of t.side) clock.0 clock.1 in
+      let before = before_line (open_of t.side) o.0 j o.1 t o.2 refl lt in
+      let near = (world.clocks o.0 o.1 o.2.stands.here (within (open_of t.side) o.0 o.1 o.2)).1 in
+      let read : o.1.line.reading ≡ clock.0.reading = ap (λ (l : Line). l.reading) o.3 in
+      let since = written_from p.earliest p.grant clock.2.0 i s clock.2.1 a in
+      let gap = clock.2.2 in
+      let order = sooner o.0 i o.1 s o.2.stands.here a.stands.here (omega arith) in
+      omega arith
+
+  earlier_before : (p : Piece) (i j : ℕ) (s t : Step) → (x : ℕ) → WrittenFrom js p.earliest p.grant x → RefAt js run p.grant i s
+      → IsPastPartner js skew p → At run j t → closes t.side run j < last js t.side
+      → (t.side ≡ p.grant.side) ⊎ (t.side ≡ partner_of p.grant.side) → j < i
+  earlier_before p i j s t x from a opened at lt (inl same) = before_line p.grant i j s t a same lt
+  earlier_before p i j s t x from a opened at lt (inr differs) =
+      earlier_before_by p i j s t x from a
+      (subst (IsGrantedAfterOpen js skew p) (sym differs) (opened.after (subst (λ side. 1 < volume_of js side) differs (omega arith)))) at lt
+
   -- no release comes between the grant and a moment in the piece
-  not_released_by : (p : Piece) (c : Certificate) (h : IsCarried js skew c p) → p.to ≤ c.to
+  not_released_by : (p : Piece) (transit : ℕ) (c : Certificate) (h : IsCarried js skew transit c p) → p.to ≤ c.to
+      → IsPastPartner js skew p
       → (m i j : ℕ) (s t : Step) → m < p.to → RefAt js run p.grant i s → i < j → At run j t → t.line.event ≡ Release h.0.lease.client h.0.lease.iaid h.0.lease.prefix → t.moment ≤ m
-      → IsOpenAt run j t ⊎ (c.to ≤ t.moment) → ⊥
-  not_released_by p c h within m i j s t before a after at releases by (inr late) = absurd (omega arith)
-  not_released_by p c h within m i j s t before a after at releases by (inl open_there) =
-      let b = line_there j t at open_there in
-      let k = h.1 (record { side = t.side; number = count t.side run j + 1 }) h.0.lease h.0.grants (t.line, b.names, releases) in
-      cleared_apart (record { side = t.side; number = count t.side run j + 1 }) p.grant p.to m i j s t k.0.why k.3 a b after by before
-
-  -- a grant that carries a piece is valid in it
-  carries : (p : Piece) (c : Certificate) → IsCarried js skew c p → ((side : Role) → ClosesFrom (journal_of js side) (c.to + skew)) → p.to ≤ c.to
-      → (m : ℕ) → p.from ≤ m → m < p.to → HoldsWhole run c.prefix c.holder m
-  carries p c h closed within m from to =
-      let a = ref_at p.grant h.0.grants.0 h.0.grants.1 in
-      let grants : a.1.line.event ≡ Grant h.0.lease = ap (λ (l : Line). l.event) a.3 ∙ h.0.grants.2 in
-      let by = written_by p.latest p.grant h.0.latest a.0 a.1 h.0.written_by a.2 in
-      let since = written_from p.earliest p.grant h.0.earliest a.0 a.1 h.0.written_from a.2 in
-      let begun = h.0.begun in
-      let ends : (h.0.lease.valid ≡ infinity) ⊎ (m < a.1.moment + 1000 * h.0.lease.valid) = elim h.0.lasts [ inl x ↦ inl x | inr x ↦ inr (omega arith) ] in (
-        a.0,
-        h.0.lease,
-        record {
-          step = a.1;
-          here = a.2.stands.here;
-          grants = grants;
-          begun = omega arith;
-          lasts = ends;
-          kept = λ r. not_released_by p c h within m a.0 r.0 a.1 r.1 to a.2 r.2 r.3 r.4 r.5 (open_or_late c.to r.0 r.1 (closed r.1.side) r.3);
-        },
-        h.0.holder,
-        h.0.round,
-      )
-
-  -- another client's lease that does not touch the interval is not valid in it
-  outside_invalid : (r : Ref) (g : Lease) (from to m i : ℕ) (reason : Reason) (v : IsValidAt run i g m) → IsOutside js skew r g from to reason
-      → RefAt js run r i v.step → from ≤ m → m < to → ⊥
-  outside_invalid r g from to m i (Early chain) v out a ge lt =
-      let x = written_by chain r out.1.0 i v.step out.1.1 a in
-      let y = out.1.2 in
-      elim v.lasts [ inl e ↦ out.0 e | inr z ↦ absurd (omega arith) ]
-  outside_invalid r g from to m i (Late chain) v out a ge lt =
-      let x = written_from chain r out.0 i v.step out.1 a in
-      let y = out.2 in
-      let z = v.begun in
+      → When c.to j t → ⊥
+  unfolding When Here
+  not_released_by p transit c h within_c opened m i j s t before a after at releases by (inl lt) =
+      let order = earlier_before p i j s t h.0.earliest h.0.written_from a opened at lt (sides p.grant.side t.side) in
       absurd (omega arith)
-  outside_invalid r g from to m i (Released release order chain) v out a ge lt =
-      let b = ref_at release out.0.0 out.0.1 in
-      let after = surely_before order r release i b.0 v.step b.1 out.1 a b.2 in
-      let by = written_by chain release out.2.0 b.0 b.1 out.2.1 b.2 in
-      let y = out.2.2 in
-      v.kept (b.0, b.1, after, b.2.stands.here, ap (λ (l : Line). l.event) b.3 ∙ out.0.2, omega arith)
+  not_released_by p transit c h within_c opened m i j s t before a after at releases by (inr (inr late)) = absurd (omega arith)
+  not_released_by p transit c h within_c opened m i j s t before a after at releases by (inr (inl there)) =
+      let k = h.1 there.0 h.0.lease h.0.grants (t.line, there.2.names, releases) in
+      cleared_apart there.0 p.grant p.to m i j s t k.0.why k.3 a there.2 after by before
 
-  -- an accepted certificate is true in this run
-  held : (c : Certificate) → IsAccepted js skew c → (m : ℕ) → c.from ≤ m → m < c.to → HoldsWhole run c.prefix c.holder m
-  held c ok m ge lt =
-      let t = pieces_meet c.pieces c.from c.to m ok.tiled ge lt in
-      carries t.0 c (subst (IsCarried js skew c) t.1.2 (ok.carried t.1.0 t.0 t.1.1)) ok.closed t.4 m t.2 t.3
+  module _ (transit : ℕ) (starts : ℕ → ℕ) (reaches : StartInTime transit run starts) where
+    -- a grant that carries a piece is valid in it
+    carries : (p : Piece) (c : Certificate) → IsCarried js skew transit c p → IsPastPartner js skew p
+        → ((side : Role) → ClosesFrom (journal_of js side) (c.to + skew)) → p.to ≤ c.to
+        → (m : ℕ) → p.from ≤ m → m < p.to → HoldsWhole run starts c.prefix c.holder m
+    carries p c h opened closed within_c m from to =
+        let a = ref_at p.grant h.0.grants.0 h.0.grants.1 in
+        let grants : a.1.line.event ≡ Grant h.0.lease = ap (λ (l : Line). l.event) a.3 ∙ h.0.grants.2 in
+        let by = written_by p.latest p.grant h.0.latest a.0 a.1 h.0.written_by a.2 in
+        let since = written_from p.earliest p.grant h.0.earliest a.0 a.1 h.0.written_from a.2 in
+        let begun = h.0.begun in
+        let start = reaches a.0 a.1 h.0.lease a.2.stands.here grants in
+        let soon = start.0 in
+        let late = start.1 in
+        let ends : (h.0.lease.valid ≡ infinity) ⊎ (m < starts a.0 + 1000 * h.0.lease.valid) = elim h.0.lasts [ inl x ↦ inl x | inr x ↦ inr (omega arith) ] in (
+          a.0,
+          h.0.lease,
+          record {
+            step = a.1;
+            here = a.2.stands.here;
+            grants = grants;
+            begun = omega arith;
+            lasts = ends;
+            kept = λ r. not_released_by p transit c h within_c opened m a.0 r.0 a.1 r.1 to a.2 r.2 r.3 r.4 r.5 (when c.to r.0 r.1 (closed r.1.side) r.3);
+          },
+          h.0.holder,
+          h.0.round,
+        )
 
-  alone_by : (c : Certificate) → IsAccepted js skew c → (m address i : ℕ) (g : Lease) (v : IsValidAt run i g m) → c.from ≤ m → m < c.to
-      → HasAddress c.prefix address → HasAddress g.prefix address → g.client ≢ c.holder → IsOpenAt run i v.step ⊎ (c.to ≤ v.step.moment) → ⊥
-  alone_by c ok m address i g v ge lt mine theirs differs (inr late) = let x = v.begun in absurd (omega arith)
-  alone_by c ok m address i g v ge lt mine theirs differs (inl open_there) =
-      let a = line_there i v.step v.here open_there in
-      let f = ok.covered (record { side = v.step.side; number = count v.step.side run i + 1 }) g ((v.step.line, a.names, v.grants), differs, (address, theirs, mine)) in
-      let r : Ref = record { side = v.step.side; number = count v.step.side run i + 1 } in
-      let out = subst (λ (x : Foreign). (h : Lease) × Grants js x.grant h × IsOutside js skew x.grant h c.from c.to x.reason) f.1.2 (ok.outside f.1.0 f.0 f.1.1) in
-      let at_r = subst (λ x. (h : Lease) × Grants js x h × IsOutside js skew x h c.from c.to f.0.reason) f.2 out in
-      let one : at_r.1.0 ≡ v.step.line = one_line r at_r.1.0 v.step.line at_r.1.1 a.names in
-      let same : Grant at_r.0 ≡ Grant g = (sym at_r.1.2 ∙ ap (λ (l : Line). l.event) one) ∙ v.grants in
-      let lease : at_r.0 ≡ g = cc in
-      outside_invalid r g c.from c.to m i f.0.reason v (subst (λ x. IsOutside js skew r x c.from c.to f.0.reason) lease at_r.2) a ge lt
+    -- another client's lease that does not touch the interval is not valid in it
+    outside_invalid : (r : Ref) (g : Lease) (from to m i : ℕ) (reason : Reason) (v : IsValidAt run starts i g m) → IsOutside js skew transit r (of_lease g) from to reason
+        → RefAt js run r i v.step → from ≤ m → m < to → ⊥
+    outside_invalid r g from to m i (Early chain) v out a ge lt =
+        let x = written_by chain r out.0 i v.step out.1 a in
+        let y = out.2.1 in
+        let late = (reaches i v.step g v.here v.grants).1 in
+        elim v.lasts [ inl e ↦ out.2.0 e | inr z ↦ absurd (omega arith) ]
+    outside_invalid r g from to m i (Late chain) v out a ge lt =
+        let x = written_from chain r out.1.0 i v.step out.1.1 a in
+        let y = out.1.2 in
+        let z = v.begun in
+        let soon = (reaches i v.step g v.here v.grants).0 in
+        absurd (omega arith)
+    outside_invalid r g from to m i (Released release order chain) v out a ge lt =
+        let b = ref_at release out.0.0 out.0.1 in
+        let after = surely_before order r release i b.0 v.step b.1 out.1 a b.2 in
+        let by = written_by chain release out.2.0 b.0 b.1 out.2.1 b.2 in
+        let y = out.2.2 in
+        v.kept (b.0, b.1, after, b.2.stands.here, ap (λ (l : Line). l.event) b.3 ∙ out.0.2, omega arith)
 
-  alone : (c : Certificate) → IsAccepted js skew c → (m address : ℕ) (client : List ℕ) → c.from ≤ m → m < c.to → HasAddress c.prefix address
-      → Holds run address client m → client ≡ c.holder
-  alone c ok m address client ge lt mine h = by_test (bytes_eq client c.holder) refl where
-    by_test : (b : Bool) → bytes_eq client c.holder ≡ b → client ≡ c.holder
-    by_test true e = (bytes_eq-Decides client c.holder).0 e
-    by_test false e =
-        let differs : h.1.client ≢ c.holder = λ same. let q = (bytes_eq-Decides client c.holder).1 (sym h.3 ∙ same) in absurd (cc) in
-        absurd (alone_by c ok m address h.0 h.1 h.2 ge lt mine h.4 differs (open_or_late c.to h.0 h.2.step (ok.closed h.2.step.side) h.2.here))
+    -- nor is one of an earlier volume, by its carry line ..
+    carried_invalid : (r : Ref) (g : Lease) (o : Carried) (from to m i n : ℕ) (s : Step) (reason : Reason) (v : IsValidAt run starts i g m) → IsOutside js skew transit r (of_carried o) from to reason
+        → IsOf o (of_lease g) → v.step.line.reading + 1000 * g.valid ≤ o.end → (g.valid ≡ infinity → ⊥) → v.step.moment ≤ v.step.line.reading + skew
+        → RefAt js run r n s → i < n → from ≤ m → m < to → ⊥
+    carried_invalid r g o from to m i n s (Early chain) v out of le finite near a before ge lt =
+        let y = out.2 in
+        let late = (reaches i v.step g v.here v.grants).1 in
+        elim v.lasts [ inl e ↦ finite e | inr z ↦ absurd (omega arith) ]
+    carried_invalid r g o from to m i n s (Late chain) v out of le finite near a before ge lt = out.0
+    carried_invalid r g o from to m i n s (Released release order chain) v out of le finite near a before ge lt =
+        let b = ref_at release out.0.0 out.0.1 in
+        let after = surely_before order r release n b.0 s b.1 out.1 a b.2 in
+        let by = written_by chain release out.2.0 b.0 b.1 out.2.1 b.2 in
+        let y = out.2.2 in
+        let same : Release o.client o.iaid o.prefix ≡ Release g.client g.iaid g.prefix = (let p = of.0 in let q = of.1 in let w = of.2 in cc) in
+        v.kept (b.0, b.1, omega arith, b.2.stands.here, (ap (λ (l : Line). l.event) b.3 ∙ out.0.2) ∙ same, omega arith)
 
--- a legality under which each letter is sent once
-abbrev pub LegalOnce : (Role → List Line → Type 0) → Type 0
-LegalOnce IsLegal = (side : Role) (lines : List Line) → IsLegal side lines → SendsOnce lines
+    -- .. by its end ..
+    ended_invalid : (g : Lease) (from m i : ℕ) (v : IsValidAt run starts i g m) (l : Line) → v.step.line.reading + 1000 * g.valid ≤ l.reading → l.reading + skew + transit ≤ from
+        → (g.valid ≡ infinity → ⊥) → v.step.moment ≤ v.step.line.reading + skew → from ≤ m → ⊥
+    ended_invalid g from m i v l le open_by finite near ge =
+        let late = (reaches i v.step g v.here v.grants).1 in
+        elim v.lasts [ inl e ↦ finite e | inr z ↦ absurd (omega arith) ]
 
-once_of : (IsLegal : Role → List Line → Type 0) (js : Journals) (skew : ℕ) (run : List Step) → LegalOnce IsLegal → Setting IsLegal js skew run → (side : Role) → SendsOnce (journal_of js side)
-once_of IsLegal js skew run legal_once world side = subst SendsOnce (sym (world.left side)) (legal_once side (until_close (lines_of side run)) (world.is_run.legal side))
+    -- .. or by a release of an earlier volume
+    given_up_invalid : (g : Lease) (from m i n k : ℕ) (v : IsValidAt run starts i g m) (l o : Line) → Stands run v.step.side n k i v.step
+        → (x y : ℕ) → slice_get (volume_at x (lines_of v.step.side run)) y ≡ Some l → l.event ≡ Release g.client g.iaid g.prefix → x < last js v.step.side → (n < x) ⊎ ((n ≡ x) × (k < y))
+        → Names js (open_of v.step.side) o → o.reading + skew + transit ≤ from → from ≤ m → ⊥
+    given_up_invalid g from m i n k v l o st x y at releases earlier_one after opens open_by ge =
+        let p = placed run v.step.side x y l at in
+        let q = ref_at (open_of v.step.side) o opens in
+        let e = p.2.volume in
+        let f = q.2.stands.volume in
+        let g_at = st.volume in
+        let order : i < p.0 = elim after [
+          | inl lt ↦ earlier_volume v.step.side run i p.0 (omega arith)
+          | inr same ↦ earlier run v.step.side n k y i p.0 v.step p.1 st (subst (λ z. Stands run v.step.side z y p.0 p.1) (sym same.0) p.2) same.1
+        ] in
+        let before = earlier_volume v.step.side run p.0 q.0 (omega arith) in
+        let time = world.is_run.in_time p.0 q.0 p.1 q.1 (omega arith) p.2.here q.2.stands.here in
+        let near = (world.clocks q.0 q.1 q.2.stands.here (within (open_of v.step.side) q.0 q.1 q.2)).1 in
+        let read : q.1.line.reading ≡ o.reading = ap (λ (z : Line). z.reading) q.3 in
+        v.kept (p.0, p.1, order, p.2.here, ap (λ (z : Line). z.event) p.3 ∙ releases, omega arith)
 
--- what is accepted is true in every run that leaves these journals
-pub headline : (IsLegal : Role → List Line → Type 0) → LegalOnce IsLegal → AcceptedIsTrue IsLegal
-headline IsLegal legal_once js skew c ok run is_run clocks left_a left_b =
-    let left : (side : Role) → journal_of js side ≡ until_close (lines_of side run) = λ side. elim side as (λ x. journal_of js x ≡ until_close (lines_of x run)) [ Primary ↦ left_a.0 | Secondary ↦ left_b.0 ] in
-    let world : Setting IsLegal js skew run = record { is_run = is_run; clocks = clocks; left = left } in
-    let once = once_of IsLegal js skew run legal_once world in
-    record { held = held IsLegal js skew run world once c ok; alone = alone IsLegal js skew run world once c ok }
+    -- an accepted certificate is true in this run
+    pub held : (c : Certificate) → IsAccepted js skew transit c → (m : ℕ) → c.from ≤ m → m < c.to → HoldsWhole run starts c.prefix c.holder m
+    held c ok m ge lt =
+        let t = pieces_meet c.pieces c.from c.to m ok.tiled ge lt in
+        carries t.0 c (subst (IsCarried js skew transit c) t.1.2 (ok.carried t.1.0 t.0 t.1.1))
+        (subst (IsPastPartner js skew) t.1.2 (ok.opened.pieces t.1.0 t.0 t.1.1)) ok.closed t.4 m t.2 t.3
 
--- ---- the laws
+    -- what the certificate says of a foreign delegation
+    said_of : (c : Certificate) → IsAccepted js skew transit c → (r : Ref) (d : Delegation) → Tells js r d → d.client ≢ c.holder → Overlaps d.prefix c.prefix
+        → (reason : Reason) × IsOutside js skew transit r d c.from c.to reason
+    said_of c ok r d tells differs over =
+        let f = ok.covered r d (tells, differs, over) in
+        let out = subst (λ (x : Foreign). (h : Delegation) × Tells js x.grant h × IsOutside js skew transit x.grant h c.from c.to x.reason) f.1.2 (ok.outside f.1.0 f.0 f.1.1) in
+        let at_r = subst (λ x. (h : Delegation) × Tells js x h × IsOutside js skew transit x h c.from c.to f.0.reason) f.2 out in
+        let one : at_r.1.0 ≡ tells.0 = one_line r at_r.1.0 tells.0 at_r.1.1 tells.1 in
+        let same : Some at_r.0 ≡ Some d = (sym at_r.1.2 ∙ ap (λ (l : Line). told_by l.event) one) ∙ tells.2 in
+        let is : at_r.0 ≡ d = cc in
+        (f.0.reason, subst (λ x. IsOutside js skew transit r x c.from c.to f.0.reason) is at_r.2)
 
-pub chains_stand : (IsLegal : Role → List Line → Type 0) → LegalOnce IsLegal → ChainsStandInOrder IsLegal
-chains_stand IsLegal legal_once js skew run world chain r q i j s t l a b = leads_at IsLegal js skew run world (once_of IsLegal js skew run legal_once world) chain r q i j s t l a b
+    Asked : Certificate → (m address i : ℕ) (g : Lease) → IsValidAt run starts i g m → Type 0
+    Asked c m address i g v = (c.from ≤ m) × (m < c.to) × HasAddress c.prefix address × HasAddress g.prefix address × (g.client ≢ c.holder)
 
-pub bounds_hold : (IsLegal : Role → List Line → Type 0) → LegalOnce IsLegal → BoundsHold IsLegal
-bounds_hold IsLegal legal_once js skew run world chain r x i s a =
-    let once = once_of IsLegal js skew run legal_once world in
-    (λ w. written_by IsLegal js skew run world once chain r x i s w a, λ w. written_from IsLegal js skew run world once chain r x i s w a)
+    -- what is owed to the lease at its line
+    abbrev carried_by : Lease → ℕ → Carried
+    carried_by g reading = record { client = g.client; iaid = g.iaid; prefix = g.prefix; end = reading + 1000 * g.valid }
 
-pub late_after_close : (IsLegal : Role → List Line → Type 0) → LegalOnce IsLegal → LateAfterClose IsLegal
-late_after_close IsLegal legal_once js skew run world to i s closes at = open_or_late IsLegal js skew run world (once_of IsLegal js skew run legal_once world) to i s closes at
+    by_carry : (c : Certificate) → IsAccepted js skew transit c → (m address i : ℕ) (g : Lease) (v : IsValidAt run starts i g m) → Asked c m address i g v
+        → closes v.step.side run i < last js v.step.side → (g.valid ≡ infinity → ⊥) → v.step.moment ≤ v.step.line.reading + skew
+        → StillCarried (volume_at (last js v.step.side) (lines_of v.step.side run)) (carried_by g v.step.line.reading) → ⊥
+    unfolding Asked StillCarried
+    by_carry c ok m address i g v q lt finite near x =
+        let k' : (x.0 + 1) - 1 ≡ x.0 = omega arith in
+        let r : Ref = record { side = v.step.side; number = x.0 + 1 } in
+        let at : slice_get (journal_of js v.step.side) x.0 ≡ Some x.1 = subst (λ ls. slice_get ls x.0 ≡ Some x.1) (sym (world.left v.step.side)) x.3 in
+        let names : Names js r x.1 = (omega arith, rw k' at) in
+        let said = said_of c ok r (of_carried x.2) (x.1, names, ap told_by x.4) (λ e. q.4 (x.5.0 ∙ e)) (address, subst (λ (p : Prefix). HasAddress p address) x.5.2 q.3, q.2) in
+        let n = ref_at r x.1 names in
+        carried_invalid r g x.2 c.from c.to m i n.0 n.1 said.0 v said.1 x.5 x.6 finite near n.2 (before_line r n.0 i n.1 v.step n.2 refl lt) q.0 q.1
+
+    by_end : (c : Certificate) → IsAccepted js skew transit c → (m address i : ℕ) (g : Lease) (v : IsValidAt run starts i g m) → Asked c m address i g v
+        → (g.valid ≡ infinity → ⊥) → v.step.moment ≤ v.step.line.reading + skew → IsAfterOpen js skew transit c.from v.step.side
+        → Ended (volume_at (last js v.step.side) (lines_of v.step.side run)) (carried_by g v.step.line.reading) → ⊥
+    unfolding Asked Ended
+    by_end c ok m address i g v q finite near opens x =
+        let at : slice_get (journal_of js v.step.side) 0 ≡ Some x.0 = subst (λ ls. slice_get ls 0 ≡ Some x.0) (sym (world.left v.step.side)) x.1 in
+        let first : slice_get (journal_of js v.step.side) 0 ≡ Some opens.0 = opens.1.1 in
+        let one : x.0 ≡ opens.0 = cc in
+        ended_invalid g c.from m i v x.0 x.2 (subst (λ (o : Line). o.reading + skew + transit ≤ c.from) (sym one) opens.2) finite near q.0
+
+    by_release : (c : Certificate) → IsAccepted js skew transit c → (m address i : ℕ) (g : Lease) (v : IsValidAt run starts i g m) → Asked c m address i g v
+        → (k : ℕ) → Stands run v.step.side (closes v.step.side run i) k i v.step → IsAfterOpen js skew transit c.from v.step.side
+        → GivenUp (volumes_in (volume_of js v.step.side) (lines_of v.step.side run)) (closes v.step.side run i) k (last js v.step.side) (carried_by g v.step.line.reading) → ⊥
+    unfolding Asked GivenUp
+    by_release c ok m address i g v q k st opens x =
+        let earlier_one = x.4 in
+        let at_vs = volumes_at (volume_of js v.step.side) (lines_of v.step.side run) x.0 (omega arith) in
+        let found = x.6 in
+        let one : x.2 ≡ volume_at x.0 (lines_of v.step.side run) = cc in
+        given_up_invalid g c.from m i (closes v.step.side run i) k v x.3 opens.0 st x.0 x.1 (subst (λ ls. slice_get ls x.1 ≡ Some x.3) one x.7) x.8 earlier_one x.5 opens.1 opens.2 q.0
+
+    alone_earlier : (c : Certificate) → IsAccepted js skew transit c → (m address i : ℕ) (g : Lease) (v : IsValidAt run starts i g m) → Asked c m address i g v
+        → closes v.step.side run i < last js v.step.side → ⊥
+    alone_earlier c ok m address i g v q lt =
+        let side = v.step.side in
+        let lines = lines_of side run in
+        let some = world.some side in
+        let st = standing run side i v.step v.here refl in
+        let law = world.lawful side in
+        let upto = volumes_at (volume_of js side) lines in
+        let n = closes side run i in
+        let in_vs = upto n (omega arith) in
+        let w_vs = upto (last js side) (omega arith) in
+        let small = law.finite n st.0 (volume_at n lines) v.step.line g in_vs st.2 v.grants in
+        let finite : g.valid ≡ infinity → ⊥ = λ e. omega arith in
+        let near = (world.clocks i v.step v.here (omega arith)).1 in
+        let opens = ok.opened.interval side (omega arith) in
+        elim (law.accounted (last js side) n st.0 (volume_at n lines) (volume_at (last js side) lines) v.step.line g (carried_by g v.step.line.reading) lt in_vs w_vs st.2 v.grants (refl, refl, refl) refl) [
+          | inl x ↦ by_carry c ok m address i g v q lt finite near x
+          | inr y ↦ elim y [
+            | inl x ↦ by_end c ok m address i g v q finite near opens x
+            | inr x ↦ by_release c ok m address i g v q st.0 st.1 opens x
+          ]
+        ]
+
+    alone_here : (c : Certificate) → IsAccepted js skew transit c → (m address i : ℕ) (g : Lease) (v : IsValidAt run starts i g m) → Asked c m address i g v → Here i v.step → ⊥
+    unfolding Asked Here
+    alone_here c ok m address i g v q there =
+        let said = said_of c ok there.0 (of_lease g) (v.step.line, there.2.names, ap told_by v.grants) q.4 (address, q.3, q.2) in
+        outside_invalid there.0 g c.from c.to m i said.0 v said.1 there.2 q.0 q.1
+
+    alone_by : (c : Certificate) → IsAccepted js skew transit c → (m address i : ℕ) (g : Lease) (v : IsValidAt run starts i g m) → Asked c m address i g v → When c.to i v.step → ⊥
+    unfolding Asked When
+    alone_by c ok m address i g v q (inl lt) = alone_earlier c ok m address i g v q lt
+    alone_by c ok m address i g v q (inr (inl there)) = alone_here c ok m address i g v q there
+    alone_by c ok m address i g v q (inr (inr late)) =
+        let x = v.begun in
+        let soon = (reaches i v.step g v.here v.grants).0 in
+        let lt = q.1 in
+        absurd (omega arith)
+
+    pub alone : (c : Certificate) → IsAccepted js skew transit c → (m address : ℕ) (client : List ℕ) → c.from ≤ m → m < c.to → HasAddress c.prefix address
+        → Holds run starts address client m → client ≡ c.holder
+    unfolding Asked
+    alone c ok m address client ge lt mine h = by_test (bytes_eq client c.holder) refl where
+      by_test : (b : Bool) → bytes_eq client c.holder ≡ b → client ≡ c.holder
+      by_test true e = (bytes_eq-Decides client c.holder).0 e
+      by_test false e =
+          let differs : h.1.client ≢ c.holder = λ same. let q = (bytes_eq-Decides client c.holder).1 (sym h.3 ∙ same) in absurd (cc) in
+          absurd (alone_by c ok m address h.0 h.1 h.2 (ge, lt, mine, h.4, differs) (when c.to h.0 h.2.step (ok.closed h.2.step.side) h.2.here))

@@ -1,4 +1,4 @@
--- What the auditor answers: that it accepts, or the refusal of the first condition that isn't met, C4 to C10, with the
+-- What the auditor answers: that it accepts, or the refusal of the first condition that isn't met, C4 to C11, with the
 -- number or line that it names.
 use Rattle.std.specs.Prelude.{◌≡◌, ℕ, ◌+◌, ◌<◌, ◌≤◌, ◌⊎◌, List, [], ◌∷◌, length, slice_get, Some, All, zero, suc}
 use Rattle.binding_rules.specs.declared.role.Role.{Role}
@@ -11,13 +11,16 @@ use Rattle.claims.specs.declared.certificate.Piece.{Piece}
 use Rattle.claims.specs.declared.certificate.Foreign.{Foreign}
 use Rattle.attribution.specs.declared.condition.TheConstants.{CONDITIONS}
 use Rattle.attribution.specs.declared.condition.Condition.{Condition}
-use Rattle.attribution.specs.declared.condition.Condition.TheVariants.{Moment, Shown, Tiled, Granted, Discharged}
-use Rattle.attribution.specs.declared.condition.Condition.TheVariants.{Covered, Reasoned}
+use Rattle.attribution.specs.declared.condition.Condition.TheVariants.{Moment, Shown, Tiled, Granted, Opened}
+use Rattle.attribution.specs.declared.condition.Condition.TheVariants.{Discharged, Covered, Reasoned}
 use Rattle.attribution.specs.declared.verdict.Verdict.{Verdict}
 use Rattle.attribution.specs.declared.verdict.Verdict.TheVariants.{Accepted, EmptyInterval, PastEnd, PieceGap}
-use Rattle.attribution.specs.declared.verdict.Verdict.TheVariants.{PieceGrant, PieceRelease, Uncovered, Reason}
-use Rattle.attribution.specs.Acceptance.{Grants, GivesBack, IsGranted, Discharges, IsDischarged, IsForeign, IsNamed}
-use Rattle.attribution.specs.Acceptance.{IsCovered, ReasonHolds, Reaches, IsAccepted}
+use Rattle.attribution.specs.declared.verdict.Verdict.TheVariants.{PieceGrant, BeforeOpen, PieceRelease, Uncovered}
+use Rattle.attribution.specs.declared.verdict.Verdict.TheVariants.{Reason}
+use Rattle.attribution.specs.declared.delegation.Delegation.{Delegation}
+use Rattle.attribution.specs.Delegation.{of_lease}
+use Rattle.attribution.specs.Acceptance.{Grants, GivesBack, IsGranted, Discharges, IsDischarged, IsPastOpen, IsForeign}
+use Rattle.attribution.specs.Acceptance.{IsNamed, IsCovered, ReasonHolds, Reaches, IsAccepted}
 
 -- lines are ordered A before B, and then by number
 abbrev pub ComesBefore : Ref → Ref → Type 0
@@ -60,59 +63,63 @@ IsGap c n = (k : ℕ) × (n ≡ k + 1) × (k ≤ length c.pieces) × (IsInPlace 
 
 -- C8: the release gives back what the piece's grant gave, and no entry discharges it
 abbrev pub CutsShort : Journals → ℕ → Piece → Ref → Type 0
-CutsShort js skew p r = (g : Lease) × Grants js p.grant g × GivesBack js r g × (Discharges js skew p r → ⊥)
+CutsShort js skew p r = (g : Lease) × Grants js p.grant g × GivesBack js r (of_lease g) × (Discharges js skew p r → ⊥)
 
--- C9: another client's grant touches the prefix, and no foreign entry names it
+-- C9: another client's delegation touches the prefix, and no foreign entry names the line that tells of it
 abbrev pub IsUncovered : Journals → Certificate → Ref → Type 0
-IsUncovered js c r = (g : Lease) × IsForeign js c r g × (IsNamed c r → ⊥)
+IsUncovered js c r = (d : Delegation) × IsForeign js c r d × (IsNamed c r → ⊥)
 
 -- ---- the conditions, and the refusal of each
 
 -- what each condition asks
-abbrev pub IsMet : Journals → ℕ → Certificate → Condition → Type 0
-IsMet js skew c Moment = c.from < c.to
-IsMet js skew c (Shown side) = Reaches js skew c side
-IsMet js skew c Tiled = IsTiled c
-IsMet js skew c Granted = All (IsGranted js skew c) c.pieces
-IsMet js skew c Discharged = All (IsDischarged js skew) c.pieces
-IsMet js skew c Covered = IsCovered js c
-IsMet js skew c Reasoned = All (ReasonHolds js skew c) c.foreign
+abbrev pub IsMet : Journals → (skew transit : ℕ) → Certificate → Condition → Type 0
+IsMet js skew transit c Moment = c.from < c.to
+IsMet js skew transit c (Shown side) = Reaches js skew c side
+IsMet js skew transit c Tiled = IsTiled c
+IsMet js skew transit c Granted = All (IsGranted js skew transit c) c.pieces
+IsMet js skew transit c Opened = IsPastOpen js skew transit c
+IsMet js skew transit c Discharged = All (IsDischarged js skew) c.pieces
+IsMet js skew transit c Covered = IsCovered js c
+IsMet js skew transit c Reasoned = All (ReasonHolds js skew transit c) c.foreign
 
 -- Which verdict refuses where it isn't met. A piece is named by its number from 1; of lines the least is, of entries
 -- the first.
-abbrev pub Refuses : Journals → ℕ → Certificate → Condition → Verdict → Type 0
-Refuses js skew c Moment v = (v ≡ EmptyInterval) × (c.from < c.to → ⊥)
-Refuses js skew c (Shown side) v = (v ≡ PastEnd side) × (Reaches js skew c side → ⊥)
-Refuses js skew c Tiled v = (n : ℕ) × (v ≡ PieceGap n) × IsGap c n
-Refuses js skew c Granted v =
+abbrev pub Refuses : Journals → (skew transit : ℕ) → Certificate → Condition → Verdict → Type 0
+Refuses js skew transit c Moment v = (v ≡ EmptyInterval) × (c.from < c.to → ⊥)
+Refuses js skew transit c (Shown side) v = (v ≡ PastEnd side) × (Reaches js skew c side → ⊥)
+Refuses js skew transit c Tiled v = (n : ℕ) × (v ≡ PieceGap n) × IsGap c n
+Refuses js skew transit c Granted v =
     (n : ℕ) × (v ≡ PieceGrant n)
-    × ((k : ℕ) × (p : Piece) × (n ≡ k + 1) × IsFirstNot (IsGranted js skew c) c.pieces k p)
-Refuses js skew c Discharged v =
+    × ((k : ℕ) × (p : Piece) × (n ≡ k + 1) × IsFirstNot (IsGranted js skew transit c) c.pieces k p)
+Refuses js skew transit c Opened v = (v ≡ BeforeOpen) × (IsPastOpen js skew transit c → ⊥)
+Refuses js skew transit c Discharged v =
     (n : ℕ) × (r : Ref) × (v ≡ PieceRelease n r)
     × ((k : ℕ) × (p : Piece) × (n ≡ k + 1) × (slice_get c.pieces k ≡ Some p)
     × HoldsBefore (IsDischarged js skew) c.pieces k × IsLeast (CutsShort js skew p) r)
-Refuses js skew c Covered v = (r : Ref) × (v ≡ Uncovered r) × IsLeast (IsUncovered js c) r
-Refuses js skew c Reasoned v =
+Refuses js skew transit c Covered v = (r : Ref) × (v ≡ Uncovered r) × IsLeast (IsUncovered js c) r
+Refuses js skew transit c Reasoned v =
     (r : Ref) × (v ≡ Reason r)
-    × ((k : ℕ) × (f : Foreign) × (f.grant ≡ r) × IsFirstNot (ReasonHolds js skew c) c.foreign k f)
+    × ((k : ℕ) × (f : Foreign) × (f.grant ≡ r) × IsFirstNot (ReasonHolds js skew transit c) c.foreign k f)
 
 -- the first of these conditions that isn't met refuses; where all are met the certificate is accepted
-abbrev pub IsVerdictBy : Journals → ℕ → Certificate → List Condition → Verdict → Type 0
-IsVerdictBy js skew c [] v = v ≡ Accepted
-IsVerdictBy js skew c (k ∷ ks) v = Refuses js skew c k v ⊎ (IsMet js skew c k × IsVerdictBy js skew c ks v)
+abbrev pub IsVerdictBy : Journals → (skew transit : ℕ) → Certificate → List Condition → Verdict → Type 0
+IsVerdictBy js skew transit c [] v = v ≡ Accepted
+IsVerdictBy js skew transit c (k ∷ ks) v =
+    Refuses js skew transit c k v ⊎ (IsMet js skew transit c k × IsVerdictBy js skew transit c ks v)
 
 -- The verdict on the certificate.
-abbrev pub IsVerdict : Journals → ℕ → Certificate → Verdict → Type 0
-IsVerdict js skew c v = IsVerdictBy js skew c CONDITIONS v
+abbrev pub IsVerdict : Journals → (skew transit : ℕ) → Certificate → Verdict → Type 0
+IsVerdict js skew transit c v = IsVerdictBy js skew transit c CONDITIONS v
 
 -- ---- laws of verdicts
 
 -- the verdict is that it accepts exactly where the certificate is accepted
 abbrev pub AcceptsTheAccepted : Type 0
-AcceptsTheAccepted = (js : Journals) (skew : ℕ) (c : Certificate)
-    → (IsVerdict js skew c Accepted → IsAccepted js skew c) × (IsAccepted js skew c → IsVerdict js skew c Accepted)
+AcceptsTheAccepted = (js : Journals) (skew transit : ℕ) (c : Certificate)
+    → (IsVerdict js skew transit c Accepted → IsAccepted js skew transit c)
+    × (IsAccepted js skew transit c → IsVerdict js skew transit c Accepted)
 
 -- there is no second verdict on a certificate
 abbrev pub OneVerdict : Type 0
-OneVerdict =
-    (js : Journals) (skew : ℕ) (c : Certificate) (v w : Verdict) → IsVerdict js skew c v → IsVerdict js skew c w → v ≡ w
+OneVerdict = (js : Journals) (skew transit : ℕ) (c : Certificate) (v w : Verdict)
+    → IsVerdict js skew transit c v → IsVerdict js skew transit c w → v ≡ w

@@ -1,16 +1,18 @@
 -- What carries the headline, step by step: laws of every run that leaves two journals.
-use Rattle.binding_rules.specs.Role.{is_side}
-use Rattle.std.specs.Prelude.{◌≡◌, ℕ, zero, suc, ◌+◌, ◌-◌, ◌<◌, ◌≤◌, ◌⊎◌, List, [], ◌∷◌, length, Contains as Has}
-use Rattle.std.specs.Prelude.{if◌then◌else◌}
+use Rattle.std.specs.Prelude.{◌≡◌, ℕ, zero, suc, ◌+◌, ◌-◌, ◌<◌, ◌≤◌, List, [], ◌∷◌, length, if◌then◌else◌}
+use Rattle.std.specs.Prelude.{Contains as Has}
 use Rattle.prefix_range.specs.Prefix.{Prefix, IsPrefix, Overlaps, Contains, size_of}
 use Rattle.binding_rules.specs.declared.role.Role.{Role}
+use Rattle.binding_rules.specs.declared.role.Role.TheVariants.{Primary, Secondary}
+use Rattle.binding_rules.specs.Role.{is_side}
 use Rattle.journal_lines.specs.Close.{until_close}
 use Rattle.journal_lines.specs.declared.line.Line.{Line}
 use Rattle.claims.specs.declared.reference.Ref.{Ref}
-use Rattle.causal_order.specs.Journals.{Journals, journal_of, Names}
+use Rattle.causal_order.specs.Journals.{Journals, journal_of, volume_of, Names}
 use Rattle.causal_order.specs.Order.{Leads, WrittenBy, WrittenFrom}
 use Rattle.claims.specs.declared.certificate.Piece.{Piece}
-use Rattle.attribution.specs.Run.{Step, lines_of, At, IsOpenAt, IsRun, KeepsSkew}
+use Rattle.attribution.specs.Volumes.{past_close}
+use Rattle.attribution.specs.Run.{Step, lines_of, At, closes, IsRun, KeepsSkew, Leaves}
 use Rattle.attribution.specs.Acceptance.{Tile, ClosesFrom}
 
 -- how many of the first i steps are the side's
@@ -19,27 +21,34 @@ count side [] i = 0
 count side (s ∷ ss) zero = 0
 count side (s ∷ ss) (suc i) = (if is_side side s.side then 1 else 0) + count side ss i
 
--- where a side's line stands in the run
-pub record Stands (run : List Step) (side : Role) (k i : ℕ) (s : Step) : Type 0 where
+-- how many lines come before the volume at an index
+abbrev pub start : ℕ → List Line → ℕ
+start zero ls = 0
+start (suc n) ls = length (until_close ls) + start n (past_close ls)
+
+-- line k of the side's volume n is step i
+pub record Stands (run : List Step) (side : Role) (n k i : ℕ) (s : Step) : Type 0 where
   pub here : At run i s
   pub of : s.side ≡ side
-  pub open_there : IsOpenAt run i s
-  pub before : count side run i ≡ k
+  pub volume : closes side run i ≡ n
+  pub place : count side run i ≡ start n (lines_of side run) + k
 
 -- a run with clocks within the skew, and the two journals that it leaves
-pub record Setting (IsLegal : Role → List Line → Type 0) (js : Journals) (skew : ℕ) (run : List Step) : Type 0 where
-  pub is_run : IsRun IsLegal run
-  pub clocks : KeepsSkew skew run
-  pub left : (side : Role) → journal_of js side ≡ until_close (lines_of side run)
+pub record Setting (IsLegal : Role → List (List Line) → Type 0) (js : Journals) (skew : ℕ) (run : List Step) :
+    Type 0 where
+  pub is_run : IsRun IsLegal (volume_of js) run
+  pub clocks : KeepsSkew skew (volume_of js) run
+  pub left_a : Leaves run Primary js.a
+  pub left_b : Leaves run Secondary js.b
 
 -- where a reference's line stands
 pub record RefAt (js : Journals) (run : List Step) (r : Ref) (i : ℕ) (s : Step) : Type 0 where
   pub positive : 0 < r.number
-  pub stands : Stands run r.side (r.number - 1) i s
+  pub stands : Stands run r.side (volume_of js r.side - 1) (r.number - 1) i s
   pub names : Names js r s.line
 
 -- Chains: each line of a chain was written before the next.
-abbrev pub ChainsStandInOrder : (Role → List Line → Type 0) → Type 0
+abbrev pub ChainsStandInOrder : (Role → List (List Line) → Type 0) → Type 0
 ChainsStandInOrder IsLegal = (js : Journals) (skew : ℕ) (run : List Step) → Setting IsLegal js skew run
     → (chain : List Ref) (r q : Ref) (i j : ℕ) (s t : Step)
     → Leads js chain r q → RefAt js run r i s → RefAt js run q j t
@@ -47,16 +56,16 @@ ChainsStandInOrder IsLegal = (js : Journals) (skew : ℕ) (run : List Step) → 
 
 -- Bounds: a line was written by the reading of a chain's last line and the skew, and not before that of a chain's first
 -- line less the skew.
-abbrev pub BoundsHold : (Role → List Line → Type 0) → Type 0
+abbrev pub BoundsHold : (Role → List (List Line) → Type 0) → Type 0
 BoundsHold IsLegal = (js : Journals) (skew : ℕ) (run : List Step) → Setting IsLegal js skew run
     → (chain : List Ref) (r : Ref) (x i : ℕ) (s : Step) → RefAt js run r i s
     → (WrittenBy js chain r x → s.moment ≤ x + skew) × (WrittenFrom js chain r x → x ≤ s.moment + skew)
 
--- Close lines: what a journal doesn't show was written at or after the interval's end.
-abbrev pub LateAfterClose : (Role → List Line → Type 0) → Type 0
+-- Close lines: what a side wrote behind the volume that is its journal came at or after the interval's end.
+abbrev pub LateAfterClose : (Role → List (List Line) → Type 0) → Type 0
 LateAfterClose IsLegal = (js : Journals) (skew : ℕ) (run : List Step) → Setting IsLegal js skew run
     → (to i : ℕ) (s : Step) → ClosesFrom (journal_of js s.side) (to + skew) → At run i s
-    → IsOpenAt run i s ⊎ (to ≤ s.moment)
+    → volume_of js s.side ≤ closes s.side run i → to ≤ s.moment
 
 -- Pieces: where they lie end to end, each moment of the interval is in one of them.
 abbrev pub PiecesMeetEveryMoment : Type 0

@@ -1,8 +1,10 @@
+pub mod Delegation
+pub mod Volumes
 pub mod Run
-pub mod Legal
 pub mod Acceptance
 pub mod FirstRefusal
 pub mod Tests
+pub mod TestLaws
 pub mod Listing
 pub mod Laws
 pub mod VerdictText

@@ -7,10 +7,11 @@ use Rattle.journal_lines.specs.declared.fault.JournalFault.{JournalFault}
 use Rattle.journal_lines.specs.declared.fault.JournalFault.TheVariants.{Head, Form, Number, Reading, End}
 use Rattle.claims.specs.declared.fault.CertificateFault.{CertificateFault}
 use Rattle.claims.specs.declared.fault.CertificateFault.TheVariants.{Head as NoHead, Form as NoForm, End as NoEnd}
+use Rattle.book_rules.specs.Rules.{rule_number}
 use Rattle.attribution.specs.declared.verdict.Verdict.{Verdict}
-use Rattle.attribution.specs.declared.verdict.Verdict.TheVariants.{Accepted, Journal, Certificate, EmptyInterval}
-use Rattle.attribution.specs.declared.verdict.Verdict.TheVariants.{PastEnd, PieceGap, PieceGrant, PieceRelease}
-use Rattle.attribution.specs.declared.verdict.Verdict.TheVariants.{Uncovered, Reason}
+use Rattle.attribution.specs.declared.verdict.Verdict.TheVariants.{Accepted, Journal, Certificate, Rule, EmptyInterval}
+use Rattle.attribution.specs.declared.verdict.Verdict.TheVariants.{PastEnd, PieceGap, PieceGrant, BeforeOpen}
+use Rattle.attribution.specs.declared.verdict.Verdict.TheVariants.{PieceRelease, Uncovered, Reason}
 
 -- the primary is side A
 abbrev pub side_text : Role → List ℕ
@@ -37,10 +38,13 @@ abbrev pub verdict_text : Verdict → List ℕ
 verdict_text Accepted = codes "accepted"
 verdict_text (Journal side fault) = codes "refused " ++ journal_refusal side fault
 verdict_text (Certificate fault) = codes "refused " ++ certificate_refusal fault
+verdict_text (Rule side line rule) =
+    codes "refused L1 Rule " ++ place_text side line ++ codes " " ++ decimal (rule_number rule)
 verdict_text EmptyInterval = codes "refused C4 EmptyInterval"
 verdict_text (PastEnd side) = codes "refused C5 PastEnd " ++ side_text side
 verdict_text (PieceGap n) = codes "refused C6 PieceGap " ++ decimal n
 verdict_text (PieceGrant n) = codes "refused C7 PieceGrant " ++ decimal n
+verdict_text BeforeOpen = codes "refused C11 BeforeOpen"
 verdict_text (PieceRelease n r) =
     codes "refused C8 PieceRelease " ++ decimal n ++ codes " " ++ place_text r.side r.number
 verdict_text (Uncovered r) = codes "refused C9 Uncovered " ++ place_text r.side r.number

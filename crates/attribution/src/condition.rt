@@ -13,21 +13,26 @@ pub enum Condition {
     Tiled,
     /// C7: each piece's grant is the holder's, and its bounds reach round the piece.
     Granted,
+    /// C11: nothing of earlier volumes touches the interval but what these journals carry, and no release of theirs
+    /// gives back what a piece's grant gave.
+    Opened,
     /// C8: no release cuts a piece short.
     Discharged,
-    /// C9: each grant to another client that touches the prefix is named by a foreign entry.
+    /// C9: each line that grants or carries another client's delegation that touches the prefix is named by a foreign
+    /// entry.
     Covered,
     /// C10: the reason of each foreign entry holds.
     Reasoned,
 }
 
 /// The conditions, in the order in which an auditor asks them.
-pub const CONDITIONS: [Condition; 8] = [
+pub const CONDITIONS: [Condition; 9] = [
     Condition::Moment,
     Condition::Shown(Role::Primary),
     Condition::Shown(Role::Secondary),
     Condition::Tiled,
     Condition::Granted,
+    Condition::Opened,
     Condition::Discharged,
     Condition::Covered,
     Condition::Reasoned,

@@ -4,9 +4,12 @@ ghost use Rattle.attribution.specs.Acceptance.{AcceptedIsTrue};
 ghost use Rattle.attribution.specs.FirstRefusal.{AcceptsTheAccepted, OneVerdict};
 ghost use Rattle.attribution.specs.Laws.{ChainsStandInOrder, BoundsHold, LateAfterClose, PiecesMeetEveryMoment};
 ghost use Rattle.attribution.specs.Laws.{EndPointsDecide};
-ghost use Rattle.attribution.specs.Legal.{IsLegal};
+ghost use Rattle.attribution.specs.Listing.{ListedIsEnough};
+ghost use Rattle.attribution.specs.TestLaws.{OpenDecided, EndsDecided, ClearsDecided, NamesDecided};
+ghost use Rattle.book_rules.specs.NextHead.{IsLegal};
 
-/// What is accepted is true in every run of the pair that leaves the journals, with clocks within the skew.
+/// What is accepted is true in every run of the pair that leaves the journals, whatever volumes came before, with
+/// clocks within the skew and answers within the transit.
 pub fn accepted_is_true()
     ensures { AcceptedIsTrue IsLegal }
 {}
@@ -27,7 +30,7 @@ pub fn bounds_hold()
     ensures { BoundsHold IsLegal }
 {}
 
-/// What stands behind a close line was written at or after the end of the interval.
+/// What a side wrote behind the volume that is its journal was written at or after the end of the interval.
 pub fn late_after_close()
     ensures { LateAfterClose IsLegal }
 {}
@@ -40,4 +43,17 @@ pub fn pieces_meet_every_moment()
 /// End points meet exactly where sets of addresses meet.
 pub fn end_points_decide()
     ensures { EndPointsDecide }
+{}
+
+/// An auditor may look at the listed lines alone, which concern the prefix asked of.
+pub fn listed_is_enough()
+    ensures { ListedIsEnough }
+{}
+
+/// The tests of earlier volumes, of ends, of clear entries and of names decide what they are for.
+pub fn tests_decide()
+    ensures opened { OpenDecided }
+    ensures ends { EndsDecided }
+    ensures clears { ClearsDecided }
+    ensures names { NamesDecided }
 {}

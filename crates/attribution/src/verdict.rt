@@ -1,6 +1,7 @@
 //! The answer of an audit.
 
 use binding_rules::Role;
+use book_rules::Rule;
 use causal_order::Ref;
 use claims::CertificateFault;
 use journal_lines::JournalFault;
@@ -15,6 +16,8 @@ pub enum Verdict {
     Journal(Role, JournalFault),
     /// The third text is no certificate.
     Certificate(CertificateFault),
+    /// This side's journal breaks a rule: its first line that does, and the least rule that this line breaks.
+    Rule(Role, u32, Rule),
     /// The interval has no moment.
     EmptyInterval,
     /// The interval ends later than this side's journal shows.
@@ -24,10 +27,13 @@ pub enum Verdict {
     PieceGap(u64),
     /// The piece, counted from 1, isn't carried by the grant that it names.
     PieceGrant(u64),
+    /// The interval, or a piece's grant, isn't surely behind the earlier volumes, which these journals don't show.
+    BeforeOpen,
     /// The piece, counted from 1, and the least release of what its grant gave that no clear entry discharges.
     PieceRelease(u64, Ref),
-    /// The least grant to another client that touches the prefix and that no foreign entry names.
+    /// The least line that grants or carries another client's delegation that touches the prefix, and that no foreign
+    /// entry names.
     Uncovered(Ref),
-    /// The grant of the first foreign entry that doesn't hold.
+    /// The line of the first foreign entry that doesn't hold.
     Reason(Ref),
 }

@@ -1,6 +1,7 @@
 //! The line that a verdict is printed as.
 
 ghost use Rattle.std.specs.Prelude.{◌≡◌, ◌++◌, OnOk, IfOk};
+ghost use Rattle.std.specs.Fmt.{decimal};
 ghost use Rattle.attribution.specs.VerdictText.{side_text, place_text, journal_refusal, certificate_refusal};
 ghost use Rattle.attribution.specs.VerdictText.{verdict_text, verdict_line as line_of};
 
@@ -28,6 +29,30 @@ fn push_place(out: &mut Vec<u8>, side: Role, number: u32) -> Result<(), AllocErr
     push_number(out, u64::from(number))
 }
 
+/// These words and the side.
+fn push_of_side(out: &mut Vec<u8>, words: &[u8], side: Role) -> Result<(), AllocError>
+    ensures { OnOk result (out.new.items ≡ out.old.items ++ (words.now ++ side_text side)) }
+{
+    out.extend_from_slice(words)?;
+    push_side(out, side)
+}
+
+/// These words and the line.
+fn push_of_line(out: &mut Vec<u8>, words: &[u8], side: Role, line: u32) -> Result<(), AllocError>
+    ensures { OnOk result (out.new.items ≡ out.old.items ++ (words.now ++ place_text side line)) }
+{
+    out.extend_from_slice(words)?;
+    push_place(out, side, line)
+}
+
+/// These words and a number.
+fn push_counted(out: &mut Vec<u8>, words: &[u8], number: u64) -> Result<(), AllocError>
+    ensures { OnOk result (out.new.items ≡ out.old.items ++ (words.now ++ decimal number)) }
+{
+    out.extend_from_slice(words)?;
+    push_number(out, number)
+}
+
 fn push_journal_refusal(
     out: &mut Vec<u8>,
     side: Role,
@@ -36,26 +61,11 @@ fn push_journal_refusal(
     ensures { OnOk result (out.new.items ≡ out.old.items ++ journal_refusal side fault) }
 {
     match fault {
-        JournalFault::Head => {
-            out.extend_from_slice(b"J1 Head ")?;
-            push_side(out, side)
-        }
-        JournalFault::Form { line } => {
-            out.extend_from_slice(b"J2 Form ")?;
-            push_place(out, side, line)
-        }
-        JournalFault::Number { line } => {
-            out.extend_from_slice(b"J3 Number ")?;
-            push_place(out, side, line)
-        }
-        JournalFault::Reading { line } => {
-            out.extend_from_slice(b"J4 Reading ")?;
-            push_place(out, side, line)
-        }
-        JournalFault::End => {
-            out.extend_from_slice(b"J5 End ")?;
-            push_side(out, side)
-        }
+        JournalFault::Head => push_of_side(out, b"J1 Head ", side),
+        JournalFault::Form { line } => push_of_line(out, b"J2 Form ", side, line),
+        JournalFault::Number { line } => push_of_line(out, b"J3 Number ", side, line),
+        JournalFault::Reading { line } => push_of_line(out, b"J4 Reading ", side, line),
+        JournalFault::End => push_of_side(out, b"J5 End ", side),
     }
 }
 
@@ -64,10 +74,7 @@ fn push_certificate_refusal(out: &mut Vec<u8>, fault: CertificateFault) -> Resul
 {
     match fault {
         CertificateFault::Head => out.extend_from_slice(b"C1 Head"),
-        CertificateFault::Form { line } => {
-            out.extend_from_slice(b"C2 Form ")?;
-            push_number(out, u64::from(line))
-        }
+        CertificateFault::Form { line } => push_counted(out, b"C2 Form ", u64::from(line)),
         CertificateFault::End => out.extend_from_slice(b"C3 End"),
     }
 }
@@ -85,33 +92,21 @@ fn push_verdict(out: &mut Vec<u8>, verdict: &Verdict) -> Result<(), AllocError>
             out.extend_from_slice(b"refused ")?;
             push_certificate_refusal(out, *fault)
         }
+        Verdict::Rule(side, line, rule) => {
+            push_of_line(out, b"refused L1 Rule ", *side, *line)?;
+            push_counted(out, b" ", u64::from(rule.number()))
+        }
         Verdict::EmptyInterval => out.extend_from_slice(b"refused C4 EmptyInterval"),
-        Verdict::PastEnd(side) => {
-            out.extend_from_slice(b"refused C5 PastEnd ")?;
-            push_side(out, *side)
-        }
-        Verdict::PieceGap(number) => {
-            out.extend_from_slice(b"refused C6 PieceGap ")?;
-            push_number(out, *number)
-        }
-        Verdict::PieceGrant(number) => {
-            out.extend_from_slice(b"refused C7 PieceGrant ")?;
-            push_number(out, *number)
-        }
+        Verdict::PastEnd(side) => push_of_side(out, b"refused C5 PastEnd ", *side),
+        Verdict::PieceGap(number) => push_counted(out, b"refused C6 PieceGap ", *number),
+        Verdict::PieceGrant(number) => push_counted(out, b"refused C7 PieceGrant ", *number),
+        Verdict::BeforeOpen => out.extend_from_slice(b"refused C11 BeforeOpen"),
         Verdict::PieceRelease(number, at) => {
-            out.extend_from_slice(b"refused C8 PieceRelease ")?;
-            push_number(out, *number)?;
-            out.extend_from_slice(b" ")?;
-            push_place(out, at.side, at.number)
+            push_counted(out, b"refused C8 PieceRelease ", *number)?;
+            push_of_line(out, b" ", at.side, at.number)
         }
-        Verdict::Uncovered(at) => {
-            out.extend_from_slice(b"refused C9 Uncovered ")?;
-            push_place(out, at.side, at.number)
-        }
-        Verdict::Reason(at) => {
-            out.extend_from_slice(b"refused C10 Reason ")?;
-            push_place(out, at.side, at.number)
-        }
+        Verdict::Uncovered(at) => push_of_line(out, b"refused C9 Uncovered ", at.side, at.number),
+        Verdict::Reason(at) => push_of_line(out, b"refused C10 Reason ", at.side, at.number),
     }
 }
 

@@ -17,13 +17,13 @@ all_read (Some octets) last left input buffer count p q none end =
     let all = Consumes-all (Some octets) left (input ++ []) [] (input ++ []) (Consumes-trans (Some octets) last left input [] p nothing) end refl in
     sym all ∙ append-nil input
 
-pub answered : (known : Option (List ℕ)) (input : List ℕ) (skew : ℕ) (intake : Intake) (r : Result Answer DeskError) → IfSome known (λ octets. octets ≡ input) → HasTaken intake input
-    → IfOk r (λ answer. (taken : List ℕ) → HasTaken intake taken → IsAnswer taken skew answer.line.items answer.status)
-    → IfOk r (λ answer. IfSome known (λ octets. IsAnswer octets skew answer.line.items answer.status))
-answered known input skew intake (Err e) is taken h = tt
-answered None input skew intake (Ok answer) is taken h = tt
-answered (Some octets) input skew intake (Ok answer) is taken h = subst (λ i. IsAnswer i skew answer.line.items answer.status) (sym is) (h input taken)
+pub answered : (known : Option (List ℕ)) (input : List ℕ) (skew transit : ℕ) (intake : Intake) (r : Result Answer DeskError) → IfSome known (λ octets. octets ≡ input) → HasTaken intake input
+    → IfOk r (λ answer. (taken : List ℕ) → HasTaken intake taken → IsAnswer taken skew transit answer.line.items answer.status)
+    → IfOk r (λ answer. IfSome known (λ octets. IsAnswer octets skew transit answer.line.items answer.status))
+answered known input skew transit intake (Err e) is taken h = tt
+answered None input skew transit intake (Ok answer) is taken h = tt
+answered (Some octets) input skew transit intake (Ok answer) is taken h = subst (λ i. IsAnswer i skew transit answer.line.items answer.status) (sym is) (h input taken)
 
-pub written : (skew : ℕ) (known held now : Option (List ℕ)) (line : List ℕ) (status : ℕ) → IfSome known (λ octets. IsAnswer octets skew line status) → Appends held now line → IsAnswered skew known held now status
-written skew None held now line status answer appended = tt
-written skew (Some octets) held now line status answer appended = (line, answer, appended)
+pub written : (skew transit : ℕ) (known held now : Option (List ℕ)) (line : List ℕ) (status : ℕ) → IfSome known (λ octets. IsAnswer octets skew transit line status) → Appends held now line → IsAnswered skew transit known held now status
+written skew transit None held now line status answer appended = tt
+written skew transit (Some octets) held now line status answer appended = (line, answer, appended)

@@ -19,13 +19,14 @@ status_of Accepted = 0
 status_of _ = 1
 
 -- the line and the status of the verdict on journal A, journal B and the certificate, one after the other
-abbrev pub IsAnswer : List ℕ → ℕ → List ℕ → ℕ → Type 0
-IsAnswer input skew line status =
+abbrev pub IsAnswer : List ℕ → (skew transit : ℕ) → List ℕ → ℕ → Type 0
+IsAnswer input skew transit line status =
     (v : Verdict)
-    × IsVerdictOfTexts (first_text input) (first_text (text_behind input)) (text_behind (text_behind input)) skew v
+    × IsVerdictOfTexts (first_text input) (first_text (text_behind input)) (text_behind (text_behind input))
+        skew transit v
     × (line ≡ verdict_line v) × (status ≡ status_of v)
 
 -- where it is known what the reader had to give, the answer to all of that was written, behind what the writer held
-abbrev pub IsAnswered : ℕ → Option (List ℕ) → Option (List ℕ) → Option (List ℕ) → ℕ → Type 0
-IsAnswered skew input held written status =
-    IfSome input (λ octets. (line : List ℕ) × IsAnswer octets skew line status × Appends held written line)
+abbrev pub IsAnswered : (skew transit : ℕ) → Option (List ℕ) → Option (List ℕ) → Option (List ℕ) → ℕ → Type 0
+IsAnswered skew transit input held written status =
+    IfSome input (λ octets. (line : List ℕ) × IsAnswer octets skew transit line status × Appends held written line)

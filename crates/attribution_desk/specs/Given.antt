@@ -5,15 +5,30 @@ use Rattle.clap.specs.Words.{Row, Text, first_of}
 use Rattle.attribution_desk.specs.declared.command.Command.{Command}
 use Rattle.attribution_desk.specs.declared.command.Command.TheVariants.{Audit}
 
--- the text is the decimal number of these milliseconds, at most a day
-abbrev pub IsSkewOf : Option Text → ℕ → Type 0
-IsSkewOf None skew = ⊥
-IsSkewOf (Some text) skew = (text ≡ decimal skew) × (skew ≤ 86400000)
+-- the text is this number's, in decimal digits, which is at most so much
+abbrev pub IsNumber : (most : ℕ) → Option Text → ℕ → Type 0
+IsNumber most None n = ⊥
+IsNumber most (Some text) n = (text ≡ decimal n) × (n ≤ most)
 
--- the subcommand that clap finds in the words and the value of its option are those of the command
+-- the same, or none where no text is given
+abbrev pub IsNumberOrNone : (most : ℕ) → Option Text → ℕ → Type 0
+IsNumberOrNone most None n = n ≡ 0
+IsNumberOrNone most (Some text) n = IsNumber most (Some text) n
+
+-- milliseconds, at most a day
+abbrev pub IsSkew : Option Text → ℕ → Type 0
+IsSkew text skew = IsNumber 86400000 text skew
+
+-- milliseconds, at most an hour; 0 where they aren't given
+abbrev pub IsTransit : Option Text → ℕ → Type 0
+IsTransit text transit = IsNumberOrNone 3600000 text transit
+
+-- the subcommand that clap finds in the words and the values of its options are those of the command
 abbrev pub IsGiven : Option (Text × List Row) → Command → Type 0
 IsGiven None command = ⊥
-IsGiven (Some found) (Audit skew) = (found.0 ≡ codes "audit") × IsSkewOf (first_of (codes "skew-ms") found.1) skew
+IsGiven (Some found) (Audit skew transit) =
+    (found.0 ≡ codes "audit") × IsSkew (first_of (codes "skew-ms") found.1) skew
+    × IsTransit (first_of (codes "transit-ms") found.1) transit
 
 -- they are those of no command
 abbrev pub IsNoCommand : Option (Text × List Row) → Type 0

@@ -1,14 +1,16 @@
 -- The command line that clap is told of.
-use Rattle.std.specs.Prelude.{ℕ, List, [], Some, true, codes}
+use Rattle.std.specs.Prelude.{ℕ, List, [], Some, Bool, true, false, codes}
 use Rattle.clap.specs.Words.{App, Rule, new_app, new_rule, with_rule, with_subcommand}
 use Rattle.clap.specs.declared.builder.ArgAction.TheVariants.{Set}
 
--- an option that must be given, with a value
-abbrev pub option_rule : List ℕ → Rule
-option_rule name = record (new_rule name) { long = Some name; required = true; action = Some Set }
+-- an option with a value, which must be given where it is required
+abbrev pub option_rule : List ℕ → Bool → Rule
+option_rule name required = record (new_rule name) { long = Some name; required = required; action = Some Set }
 
 abbrev pub audit_app : App
-audit_app = with_rule (new_app (codes "audit")) (option_rule (codes "skew-ms"))
+audit_app =
+    with_rule (with_rule (new_app (codes "audit")) (option_rule (codes "skew-ms") true))
+    (option_rule (codes "transit-ms") false)
 
 -- a subcommand has to be named
 abbrev pub bare : App

@@ -8,7 +8,7 @@ use crate::answer::Answer;
 use crate::command::Command;
 use crate::error::DeskError;
 use crate::intake::Intake;
-use lead_time::Skew;
+use lead_time::{Skew, Transit};
 use std::alloc::Global;
 use std::io::{Read, Write};
 
@@ -20,11 +20,16 @@ const READ_SIZE: usize = 65_536;
 
 /// The verdict on the input's three texts, journal A, journal B and the certificate, as a line and a status;
 /// `Memory` where a growth was refused.
-pub fn judge(alloc: Global, input: &[u8], skew: Skew) -> Result<Answer, DeskError>
-    ensures answer { IfOk result (λ answer. IsAnswer input.now skew answer.line.items answer.status) }
+pub fn judge(
+    alloc: Global,
+    input: &[u8],
+    skew: Skew,
+    transit: Transit,
+) -> Result<Answer, DeskError>
+    ensures answer { IfOk result (λ answer. IsAnswer input.now skew transit answer.line.items answer.status) }
     ensures refused { IfErr result (λ e. e ≡ DeskError.Memory) }
 {
-    Intake::new(alloc).feed(input)?.answer(alloc, skew)
+    Intake::new(alloc).feed(input)?.answer(alloc, skew, transit)
 }
 
 /// The answer to all that a reader gives, a buffer's octets at a time: `Read` where a call fails or the reader still
@@ -34,10 +39,12 @@ fn judge_all<R: Read>(
     reader: &mut R,
     buffer: &mut [u8],
     skew: Skew,
+    transit: Transit,
 ) -> Result<Answer, DeskError>
     requires { 0 < length buffer.old }
     ensures { IfOk result
-        (λ answer. IfSome (R.remaining reader.old) (λ input. IsAnswer input skew answer.line.items answer.status)) }
+        (λ answer. IfSome (R.remaining reader.old)
+        (λ input. IsAnswer input skew transit answer.line.items answer.status)) }
 {
     let mut intake = Intake::new(alloc);
     for _ in 0..MAX_READS {
@@ -45,7 +52,7 @@ fn judge_all<R: Read>(
             return Err(DeskError::Read);
         };
         if count == 0 {
-            return intake.answer(alloc, skew);
+            return intake.answer(alloc, skew, transit);
         }
         intake = intake.feed(&buffer[..count])?;
     }
@@ -69,13 +76,15 @@ fn write_out<W: Write>(writer: &mut W, octets: &[u8]) -> Result<(), DeskError>
 fn answer_all<R: Read, W: Write>(
     alloc: Global,
     skew: Skew,
+    transit: Transit,
     reader: &mut R,
     writer: &mut W,
 ) -> Result<u8, DeskError>
-    ensures { IfOk result (IsAnswered skew (R.remaining reader.old) (W.contents writer.old) (W.contents writer.new)) }
+    ensures { IfOk result
+        (IsAnswered skew transit (R.remaining reader.old) (W.contents writer.old) (W.contents writer.new)) }
 {
     let mut buffer = vec![in alloc; 0u8; READ_SIZE]?;
-    let answer = judge_all(alloc, reader, &mut buffer, skew)?;
+    let answer = judge_all(alloc, reader, &mut buffer, skew, transit)?;
     write_out(writer, &answer.line)?;
     Ok(answer.status)
 }
@@ -88,10 +97,10 @@ pub fn run<R: Read, W: Write>(
     reader: &mut R,
     writer: &mut W,
 ) -> Result<u8, DeskError>
-    ensures { (skew : ℕ) → command.now ≡ Command.Audit skew
-        → IfOk result (IsAnswered skew (R.remaining reader.old) (W.contents writer.old) (W.contents writer.new)) }
+    ensures { (skew transit : ℕ) → command.now ≡ Command.Audit skew transit → IfOk result
+        (IsAnswered skew transit (R.remaining reader.old) (W.contents writer.old) (W.contents writer.new)) }
 {
     match command {
-        Command::Audit { skew } => answer_all(alloc, *skew, reader, writer),
+        Command::Audit { skew, transit } => answer_all(alloc, *skew, *transit, reader, writer),
     }
 }

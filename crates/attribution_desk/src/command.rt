@@ -1,41 +1,51 @@
 //! Command words, as clap finds them.
 
-ghost use Rattle.std.specs.Prelude.{◌≡◌, ℕ, [], IfOk, IfSome, IsErrOf, Some, None, true, false, map, string_bytes};
+ghost use Rattle.std.specs.Prelude.{◌≡◌, ℕ, [], codes, IfOk, IfSome, IsErrOf, Some, None, true, false, map, string_bytes};
 ghost use Rattle.clap.specs.Words.{app_of, rule_of, first_of, rows_of, found_of, subcommand_of, subcommand_rows_of};
 ghost use Rattle.clap.specs.Words.{takes, fault_of, kind_of};
-ghost use Rattle.attribution_desk.specs.Words.{option_rule, desk};
-ghost use Rattle.attribution_desk.specs.Given.{IsSkewOf, IsGiven, IsNoCommand};
+ghost use Rattle.clap.specs.declared.builder.command.Command.TheViews.{out-Command};
+ghost use Rattle.attribution_desk.specs.Words.{option_rule, audit_app, desk};
+ghost use Rattle.attribution_desk.specs.Given.{IsNumber, IsSkew, IsTransit, IsGiven, IsNoCommand};
 
 use crate::error::UsageError;
 use clap::error::ErrorKind;
 use clap::{Arg, ArgAction, ArgMatches, Command as ClapCommand, Error as ClapError};
-use lead_time::Skew;
+use lead_time::{Skew, Transit};
 use std::alloc::{AllocError, Global};
 use text_fields::number_of;
 
 /// What the desk is asked to do.
 #[derive(Clone, Copy, Debug, PartialEq, Eq)]
 pub enum Command {
-    /// Judge one certificate over two journals, with clocks within this skew of true time.
-    Audit { skew: Skew },
+    /// Judge one certificate over two journals, with clocks within this skew of true time and answers that reach
+    /// their clients within this transit.
+    Audit { skew: Skew, transit: Transit },
 }
 
-fn number_option<'a>(alloc: Global, name: &'a str) -> Arg<'a>
-    ensures rule { rule_of result ≡ option_rule name.entry.now }
+fn number_option<'a>(alloc: Global, name: &'a str, required: bool) -> Arg<'a>
+    ensures rule { rule_of result ≡ option_rule name.entry.now required }
     ensures local { result.global ≡ false }
 {
     Arg::new(alloc, name)
         .long(name)
-        .required(true)
+        .required(required)
         .action(ArgAction::Set)
 }
 
-/// `audit --skew-ms N`.
+/// `audit --skew-ms N [--transit-ms N]`.
+fn audit_command<'a>(alloc: Global) -> Result<ClapCommand<'a>, AllocError>
+    ensures app { IfOk result (λ c. app_of c ≡ audit_app) }
+    ensures local { IfOk result (λ c. (out-Command c).has_globals ≡ false) }
+{
+    let skew = number_option(alloc, "skew-ms", true);
+    let transit = number_option(alloc, "transit-ms", false);
+    ClapCommand::new(alloc, "audit").arg(skew)?.arg(transit)
+}
+
 fn desk_command<'a>(alloc: Global) -> Result<ClapCommand<'a>, AllocError>
     ensures { IfOk result (λ c. app_of c ≡ desk) }
 {
-    let skew = number_option(alloc, "skew-ms");
-    let audit = ClapCommand::new(alloc, "audit").arg(skew)?;
+    let audit = audit_command(alloc)?;
     ClapCommand::new(alloc, "desk_cli")
         .subcommand_required(true)
         .disable_help_subcommand(true)
@@ -52,13 +62,37 @@ fn usage_error(error: ClapError) -> UsageError
     }
 }
 
-/// The skew that an option has, in milliseconds: a number as in a journal, of at most a day.
-fn skew_given(options: &ArgMatches, name: &str) -> Option<Skew>
-    ensures given { IfSome result (IsSkewOf (first_of name.now (rows_of (found_of options.now)))) }
-    ensures none { result ≡ None → (skew : ℕ) → IsSkewOf (first_of name.now (rows_of (found_of options.now))) skew → ⊥ }
+/// The number that an option has, written as in a journal, of at most so much.
+fn number_given(options: &ArgMatches, name: &str, most: u64) -> Option<u64>
+    ensures given { IfSome result (IsNumber most (first_of name.now (rows_of (found_of options.now)))) }
+    ensures none { result ≡ None → (n : ℕ) → IsNumber most (first_of name.now (rows_of (found_of options.now))) n → ⊥ }
 {
     let number = number_of(options.get_str(name)?.as_bytes())?;
-    Skew::new(number).ok()
+    if number > most {
+        return None;
+    }
+    Some(number)
+}
+
+/// The skew, in milliseconds, of at most a day.
+fn skew_given(options: &ArgMatches) -> Option<Skew>
+    ensures given { IfSome result (IsSkew (first_of (codes "skew-ms") (rows_of (found_of options.now)))) }
+    ensures none { result ≡ None
+        → (skew : ℕ) → IsSkew (first_of (codes "skew-ms") (rows_of (found_of options.now))) skew → ⊥ }
+{
+    Skew::new(number_given(options, "skew-ms", Skew::MAX)?).ok()
+}
+
+/// The transit, in milliseconds, of at most an hour: none where the option isn't given.
+fn transit_given(options: &ArgMatches) -> Option<Transit>
+    ensures given { IfSome result (IsTransit (first_of (codes "transit-ms") (rows_of (found_of options.now)))) }
+    ensures none { result ≡ None
+        → (transit : ℕ) → IsTransit (first_of (codes "transit-ms") (rows_of (found_of options.now))) transit → ⊥ }
+{
+    if options.get_str("transit-ms").is_none() {
+        return Some(Transit::ZERO);
+    }
+    Transit::new(number_given(options, "transit-ms", Transit::MAX)?).ok()
 }
 
 fn command_in(matches: &ArgMatches) -> Option<Command>
@@ -66,9 +100,10 @@ fn command_in(matches: &ArgMatches) -> Option<Command>
     ensures none { result ≡ None → IsNoCommand (subcommand_rows_of matches.now) }
 {
     let (name, options) = matches.subcommand()?;
-    let skew = skew_given(options, "skew-ms")?;
+    let skew = skew_given(options)?;
+    let transit = transit_given(options)?;
     if name == "audit" {
-        Some(Command::Audit { skew })
+        Some(Command::Audit { skew, transit })
     } else {
         None
     }

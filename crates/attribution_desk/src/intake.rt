@@ -10,7 +10,7 @@ use crate::journal_intake::JournalIntake;
 use auditor::{AuditError, audit_read};
 use binding_rules::Role;
 use journal_text::{text_gives_what_it_spells, written_is_closed};
-use lead_time::Skew;
+use lead_time::{Skew, Transit};
 use std::alloc::Global;
 
 /// The input's three texts, journal A, journal B and the certificate, as far as they have come: the lines of the
@@ -50,18 +50,31 @@ impl Intake {
     }
 
     /// The answer to the input that was taken; `Memory` where a growth was refused.
-    pub(crate) fn answer(self, alloc: Global, skew: Skew) -> Result<Answer, DeskError>
+    pub(crate) fn answer(
+        self,
+        alloc: Global,
+        skew: Skew,
+        transit: Transit,
+    ) -> Result<Answer, DeskError>
         // What was made by `new` and `feed` has taken some input.
         requires { (input : List ℕ) × HasTaken self input }
         ensures answer { IfOk result
-            (λ answer. (input : List ℕ) → HasTaken self input → IsAnswer input skew answer.line.items answer.status) }
+            (λ answer. (input : List ℕ) → HasTaken self input
+            → IsAnswer input skew transit answer.line.items answer.status) }
         ensures refused { IfErr result (λ e. e ≡ DeskError.Memory) }
     {
         text_gives_what_it_spells();
         written_is_closed();
         let primary = self.primary.finish();
         let secondary = self.secondary.finish();
-        match audit_read(alloc, primary, secondary, &self.certificate, skew) {
+        match audit_read(
+            alloc,
+            primary,
+            secondary,
+            &self.certificate,
+            skew,
+            transit,
+        ) {
             Ok(verdict) => Answer::new(alloc, &verdict),
             Err(AuditError::Memory) => Err(DeskError::Memory),
         }

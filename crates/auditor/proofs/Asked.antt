@@ -10,18 +10,18 @@ use Rattle.attribution.specs.declared.verdict.Verdict.TheVariants.{Accepted}
 use Rattle.attribution.specs.FirstRefusal.{IsMet, Refuses, IsVerdictBy}
 
 -- the conditions before the i-th are met: the verdict of the others is the verdict of all
-pub record AreAsked (js : Journals) (skew : ℕ) (c : Certificate) (ks : List Condition) (i : ℕ) : Type 0 where
-  pub rest : (v : Verdict) → IsVerdictBy js skew c (drop i ks) v → IsVerdictBy js skew c ks v
+pub record AreAsked (js : Journals) (skew transit : ℕ) (c : Certificate) (ks : List Condition) (i : ℕ) : Type 0 where
+  pub rest : (v : Verdict) → IsVerdictBy js skew transit c (drop i ks) v → IsVerdictBy js skew transit c ks v
 
-module _ (js : Journals) (skew : ℕ) (c : Certificate) (ks : List Condition) where
-  pub none_asked : AreAsked js skew c ks 0
+module _ (js : Journals) (skew transit : ℕ) (c : Certificate) (ks : List Condition) where
+  pub none_asked : AreAsked js skew transit c ks 0
   none_asked = record { rest = λ v h. h }
 
-  pub one_asked : (i : ℕ) (k : Condition) → i < length ks → IsMet js skew c (get_or ks i k) → AreAsked js skew c ks i → AreAsked js skew c ks (i + 1)
+  pub one_asked : (i : ℕ) (k : Condition) → i < length ks → IsMet js skew transit c (get_or ks i k) → AreAsked js skew transit c ks i → AreAsked js skew transit c ks (i + 1)
   one_asked i k lt met a = record { rest = λ v h. a.rest v (rw (drop-cons ks i k) (inr (met, rw add-one at h))) }
 
-  pub refused_at : (i : ℕ) (k : Condition) (v : Verdict) → i < length ks → Refuses js skew c (get_or ks i k) v → AreAsked js skew c ks i → IsVerdictBy js skew c ks v
+  pub refused_at : (i : ℕ) (k : Condition) (v : Verdict) → i < length ks → Refuses js skew transit c (get_or ks i k) v → AreAsked js skew transit c ks i → IsVerdictBy js skew transit c ks v
   refused_at i k v lt refuses a = a.rest v (rw (drop-cons ks i k) (inl refuses))
 
-  pub all_asked : (i : ℕ) → length ks ≤ i → AreAsked js skew c ks i → IsVerdictBy js skew c ks Accepted
+  pub all_asked : (i : ℕ) → length ks ≤ i → AreAsked js skew transit c ks i → IsVerdictBy js skew transit c ks Accepted
   all_asked i le a = a.rest Accepted (rw (drop_all i ks le) refl)

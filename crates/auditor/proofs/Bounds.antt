@@ -1,5 +1,5 @@
 -- What a chain's bounds say of the line at its end.
-use Rattle.std.specs.Prelude.{◌≡◌, ℕ, ◌↔◌, IsTrue, Bool, false, List, Option, Some, None, ℤ, pos, ◌≤ℤ◌}
+use Rattle.std.specs.Prelude.{◌≡◌, ℕ, ◌↔◌, IsTrue, Bool, false, List, Option, Some, None, ℤ, pos, ◌+ℤ◌, ◌≤ℤ◌}
 use Rattle.std.proofs.Common.{sym, ◌∙◌, subst, arith, inl, inr}
 use Rattle.std.proofs.lemmas.Int.{ints}
 use Rattle.claims.specs.declared.reference.Ref.{Ref}
@@ -8,7 +8,9 @@ use Rattle.causal_order.specs.Order.{WrittenBy, WrittenFrom}
 use Rattle.causal_order.specs.Tests.{first_of_chain, last_of_chain}
 use Rattle.causal_order.specs.Bounds.{IsLatest, IsEarliest}
 use Rattle.causal_order.proofs.Walking.{first_from, last_from, one_latest, one_earliest}
-use Rattle.auditor.specs.Bounds.{IsLatestAt, IsEarliestAt, LastsTo, EndsBy, IsWrittenBy, IsWrittenFrom, IsOver, IsLasting}
+use Rattle.attribution.specs.declared.delegation.Lasting.{Lasting}
+use Rattle.attribution.specs.declared.delegation.Lasting.TheVariants.{For, Until}
+use Rattle.auditor.specs.Bounds.{IsLatestAt, IsEarliestAt, LastsTo, HasEnded, IsWrittenBy, IsReachedBy, IsWrittenFrom, IsOver, IsLasting}
 
 -- The bound of a chain from the line.
 pub latest_at : (js : Journals) (chain : List Ref) (at : Ref) (skew : ℕ) (o : Option ℤ) → Some at ≡ first_of_chain chain → IsLatest js chain skew o → IsLatestAt js chain at skew o
@@ -59,14 +61,25 @@ module _ (js : Journals) (chain : List Ref) (at : Ref) (skew : ℕ) where
   pub never_after : (moment : ℕ) → IsEarliestAt js chain at skew None → IsTrue false ↔ IsWrittenFrom js chain at skew moment
   never_after moment h = (λ t. absurd (cc), λ w. absurd (h w.0 w.1))
 
-  pub ended_by_latest : (b : Bool) (m : ℤ) (valid moment : ℕ) → IsLatestAt js chain at skew (Some m) → IsTrue b ↔ EndsBy valid m moment → IsTrue b ↔ IsOver js chain at valid skew moment
-  ended_by_latest b m valid moment h d = (
-    λ t. (let e = d.0 t in (e.0, (h.0, h.1, (let le = e.1 in let is = h.2 in omega (arith, ints))))),
-    λ w. d.1 (w.0, (let same = one_latest js chain at at h.0 w.1.0 h.1 w.1.1 in let is = h.2 in let le = w.1.2 in omega (arith, ints))),
+  pub reached_by_latest : (b : Bool) (m : ℤ) (transit moment : ℕ) → IsLatestAt js chain at skew (Some m) → IsTrue b ↔ (m +ℤ pos transit) ≤ℤ pos moment
+      → IsTrue b ↔ IsReachedBy js chain at skew transit moment
+  reached_by_latest b m transit moment h d = (
+    λ t. (h.0, h.1, (let le = d.0 t in let is = h.2 in omega (arith, ints))),
+    λ w. d.1 (let same = one_latest js chain at at h.0 w.0 h.1 w.1 in let is = h.2 in let le = w.2 in omega (arith, ints)),
   )
 
-  pub never_ended : (valid moment : ℕ) → IsLatestAt js chain at skew None → IsTrue false ↔ IsOver js chain at valid skew moment
-  never_ended valid moment h = (λ t. absurd (cc), λ w. absurd (h w.1.0 w.1.1))
+  pub never_reached : (transit moment : ℕ) → IsLatestAt js chain at skew None → IsTrue false ↔ IsReachedBy js chain at skew transit moment
+  never_reached transit moment h = (λ t. absurd (cc), λ w. absurd (h w.0 w.1))
+
+  pub ended_by_latest : (b : Bool) (m : ℤ) (l : Lasting) (transit moment : ℕ) → IsLatestAt js chain at skew (Some m) → IsTrue b ↔ HasEnded l m skew transit moment → IsTrue b ↔ IsOver js chain at l skew transit moment
+  ended_by_latest b m (For valid) transit moment h d = (
+    λ t. (let e = d.0 t in (h.0, h.1, (e.0, (let le = e.1 in let is = h.2 in omega (arith, ints))))),
+    λ w. d.1 (w.2.0, (let same = one_latest js chain at at h.0 w.0 h.1 w.1 in let is = h.2 in let le = w.2.1 in omega (arith, ints))),
+  )
+  ended_by_latest b m (Until end) transit moment h d = (λ t. (h.0, h.1, d.0 t), λ w. d.1 w.2)
+
+  pub never_ended : (l : Lasting) (transit moment : ℕ) → IsLatestAt js chain at skew None → IsTrue false ↔ IsOver js chain at l skew transit moment
+  never_ended l transit moment h = (λ t. absurd (cc), λ w. absurd (h w.0 w.1))
 
   pub lasts_by_earliest : (b : Bool) (m : ℤ) (valid moment : ℕ) → IsEarliestAt js chain at skew (Some m) → IsTrue b ↔ LastsTo valid m moment → IsTrue b ↔ IsLasting js chain at valid skew moment
   lasts_by_earliest b m valid moment h d = (

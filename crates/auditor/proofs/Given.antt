@@ -12,7 +12,7 @@ use Rattle.binding_rules.specs.declared.role.Role.{Role}
 use Rattle.binding_rules.specs.declared.role.Role.TheVariants.{Primary, Secondary}
 use Rattle.prefix_range.specs.Prefix.{Prefix, Overlaps}
 use Rattle.journal_lines.specs.declared.event.Event.{Event}
-use Rattle.journal_lines.specs.declared.event.Event.TheVariants.{Grant, Release}
+use Rattle.journal_lines.specs.declared.event.Event.TheVariants.{Grant, Carry, Release}
 use Rattle.journal_lines.specs.declared.line.Line.{Line}
 use Rattle.claims.specs.declared.reference.Ref.{Ref}
 use Rattle.causal_order.specs.Journals.{Journals, Names, journal_of}
@@ -26,6 +26,7 @@ overlap_tested p q b h = same_from_decides b (overlaps q p) h (decides_overlaps 
 
 decides_concerns : (p : Prefix) (e : Event) → Decides (concerns p e) (Concerns p e)
 decides_concerns p (Grant g) = decides_overlaps g.prefix p
+decides_concerns p (Carry c) = decides_overlaps c.prefix p
 decides_concerns p (Release client iaid q) = decides_overlaps q p
 decides_concerns p _ = (λ h. absurd (cc), λ h. absurd h)
 
@@ -163,16 +164,16 @@ get_second (x ∷ xs) ys (suc i) le = get_second xs ys i (omega arith) ∙ ap (s
 
 module _ (js : Journals) (p : Prefix) where
   firsts : List Ref
-  firsts = overlaps_from p Primary 1 js.a
+  firsts = overlaps_from p Primary 1 js.a.lines
 
-  pub given_first : (i : ℕ) → i < length (overlaps_from p Primary 1 js.a) → slice_get (overlaps_of js p) i ≡ slice_get (overlaps_from p Primary 1 js.a) i
-  given_first i lt = get_first (overlaps_from p Primary 1 js.a) (overlaps_from p Secondary 1 js.b) i lt
+  pub given_first : (i : ℕ) → i < length (overlaps_from p Primary 1 js.a.lines) → slice_get (overlaps_of js p) i ≡ slice_get (overlaps_from p Primary 1 js.a.lines) i
+  given_first i lt = get_first (overlaps_from p Primary 1 js.a.lines) (overlaps_from p Secondary 1 js.b.lines) i lt
 
-  pub given_second : (i : ℕ) → length (overlaps_from p Primary 1 js.a) ≤ i → slice_get (overlaps_of js p) i ≡ slice_get (overlaps_from p Secondary 1 js.b) (i - length (overlaps_from p Primary 1 js.a))
-  given_second i le = get_second (overlaps_from p Primary 1 js.a) (overlaps_from p Secondary 1 js.b) i le
+  pub given_second : (i : ℕ) → length (overlaps_from p Primary 1 js.a.lines) ≤ i → slice_get (overlaps_of js p) i ≡ slice_get (overlaps_from p Secondary 1 js.b.lines) (i - length (overlaps_from p Primary 1 js.a.lines))
+  given_second i le = get_second (overlaps_from p Primary 1 js.a.lines) (overlaps_from p Secondary 1 js.b.lines) i le
 
-  pub given_length : length (overlaps_of js p) ≡ length (overlaps_from p Primary 1 js.a) + length (overlaps_from p Secondary 1 js.b)
-  given_length = length-append (overlaps_from p Primary 1 js.a) (overlaps_from p Secondary 1 js.b)
+  pub given_length : length (overlaps_of js p) ≡ length (overlaps_from p Primary 1 js.a.lines) + length (overlaps_from p Secondary 1 js.b.lines)
+  given_length = length-append (overlaps_from p Primary 1 js.a.lines) (overlaps_from p Secondary 1 js.b.lines)
 
   -- where a given line stands: a place on one side
   Stands : Role → ℕ → Ref → Type 0
@@ -181,18 +182,18 @@ module _ (js : Journals) (p : Prefix) where
   stands : (i : ℕ) (r : Ref) → slice_get (overlaps_of js p) i ≡ Some r
       → ((i < length firsts) × Stands Primary i r) ⊎ ((length firsts ≤ i) × Stands Secondary (i - length firsts) r)
   unfolding firsts Stands
-  stands i r e = elim (cases_lt i (length (overlaps_from p Primary 1 js.a))) [
+  stands i r e = elim (cases_lt i (length (overlaps_from p Primary 1 js.a.lines))) [
     | inl lt ↦ inl (lt, sym (given_first i lt) ∙ e)
     | inr le ↦ inr (le, sym (given_second i le) ∙ e)
   ]
 
-  given_primary : (i : ℕ) (r : Ref) → slice_get (overlaps_from p Primary 1 js.a) i ≡ Some r → Has (overlaps_of js p) r
+  given_primary : (i : ℕ) (r : Ref) → slice_get (overlaps_from p Primary 1 js.a.lines) i ≡ Some r → Has (overlaps_of js p) r
   given_primary i r e = Contains-get (overlaps_of js p) i r (given_first i (slice_get_within _ i r e) ∙ e)
 
-  given_secondary : (i : ℕ) (r : Ref) → slice_get (overlaps_from p Secondary 1 js.b) i ≡ Some r → Has (overlaps_of js p) r
+  given_secondary : (i : ℕ) (r : Ref) → slice_get (overlaps_from p Secondary 1 js.b.lines) i ≡ Some r → Has (overlaps_of js p) r
   given_secondary i r e =
-      let n = length (overlaps_from p Primary 1 js.a) in
-      Contains-get (overlaps_of js p) (n + i) r (given_second (n + i) (omega arith) ∙ (ap (slice_get (overlaps_from p Secondary 1 js.b)) (let z : n + i - n ≡ i = omega arith in z) ∙ e))
+      let n = length (overlaps_from p Primary 1 js.a.lines) in
+      Contains-get (overlaps_of js p) (n + i) r (given_second (n + i) (omega arith) ∙ (ap (slice_get (overlaps_from p Secondary 1 js.b.lines)) (let z : n + i - n ≡ i = omega arith in z) ∙ e))
 
   given_from : (side : Role) (i : ℕ) (r : Ref) → Stands side i r → Has (overlaps_of js p) r
   unfolding Stands
@@ -229,10 +230,10 @@ module _ (js : Journals) (p : Prefix) where
   once_given : (i j : ℕ) (r : Ref) → slice_get (overlaps_of js p) i ≡ Some r → slice_get (overlaps_of js p) j ≡ Some r → i ≡ j
   unfolding Stands
   once_given i j r a b = elim (stands i r a) [
-    | inl x ↦ elim (stands j r b) [ inl y ↦ once_from p Primary 1 js.a i j r x.1 y.1 | inr y ↦ absurd (one_side i (j - length firsts) r x.1 y.1) ]
+    | inl x ↦ elim (stands j r b) [ inl y ↦ once_from p Primary 1 js.a.lines i j r x.1 y.1 | inr y ↦ absurd (one_side i (j - length firsts) r x.1 y.1) ]
     | inr x ↦ elim (stands j r b) [
       | inl y ↦ absurd (one_side j (i - length firsts) r y.1 x.1)
-      | inr y ↦ (let e = once_from p Secondary 1 js.b (i - length firsts) (j - length firsts) r x.1 y.1 in omega (arith, e, x.0, y.0))
+      | inr y ↦ (let e = once_from p Secondary 1 js.b.lines (i - length firsts) (j - length firsts) r x.1 y.1 in omega (arith, e, x.0, y.0))
     ]
   ]
 

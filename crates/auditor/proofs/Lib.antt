@@ -4,6 +4,7 @@ pub mod Closings
 pub mod Given
 pub mod Leases
 pub mod Least
+pub mod OpenLines
 pub mod Others
 pub mod ShortCuts
 pub mod Tiling

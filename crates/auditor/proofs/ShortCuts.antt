@@ -8,6 +8,8 @@ use Rattle.claims.specs.declared.reference.Ref.{Ref}
 use Rattle.causal_order.specs.Journals.{Journals}
 use Rattle.claims.specs.declared.certificate.Certificate.{Certificate}
 use Rattle.claims.specs.declared.certificate.Piece.{Piece}
+use Rattle.attribution.specs.declared.delegation.Delegation.{Delegation}
+use Rattle.attribution.specs.Delegation.{of_lease}
 use Rattle.attribution.specs.Acceptance.{GivesBack, IsDischarged}
 use Rattle.attribution.specs.FirstRefusal.{IsLeast, CutsShort}
 use Rattle.attribution.specs.Listing.{Concerns, IsListing}
@@ -21,7 +23,7 @@ use Rattle.auditor.proofs.Tiling.{HaveHeld}
 
 -- ---- the least line that gives a lease back
 
-module _ (js : Journals) (skew : ℕ) (p : Piece) (g : Lease) (given : List Ref) (listed : IsListing js g.prefix given) (own : Overlaps g.prefix g.prefix) where
+module _ (js : Journals) (skew : ℕ) (p : Piece) (g : Delegation) (given : List Ref) (listed : IsListing js g.prefix given) (own : Overlaps g.prefix g.prefix) where
   is_given : (r : Ref) → CutsLeaseShort js skew p g r → (k : ℕ) × (k < length given) × (slice_get given k ≡ Some r)
   is_given r u = get-Contains given r (listed.all r u.0.0 u.0.1 (subst (Concerns g.prefix) (sym u.0.2) own))
 
@@ -36,23 +38,23 @@ module _ (js : Journals) (skew : ℕ) (p : Piece) where
   pub discharged_of_none : None ≡ lease_of js p.grant → IsDischarged js skew p
   discharged_of_none e r g grants back = absurd (none_granted js p.grant g e grants)
 
-  discharged_by_lease : (g : Lease) → Some g ≡ lease_of js p.grant → ((r : Ref) → CutsLeaseShort js skew p g r → ⊥) → IsDischarged js skew p
+  discharged_by_lease : (g : Lease) → Some g ≡ lease_of js p.grant → ((r : Ref) → CutsLeaseShort js skew p (of_lease g) r → ⊥) → IsDischarged js skew p
   discharged_by_lease g e none r h grants back = elim (cases_Bool (discharges js skew p r)) [
     | inl t ↦ (decides_discharges js skew p r).0 t
-    | inr f ↦ absurd (none r (subst (GivesBack js r) (one_granted js p.grant g h e grants) back, λ d. let t = (decides_discharges js skew p r).1 d in absurd (cc)))
+    | inr f ↦ absurd (none r (subst (λ (x : Lease). GivesBack js r (of_lease x)) (one_granted js p.grant g h e grants) back, λ d. let t = (decides_discharges js skew p r).1 d in absurd (cc)))
   ]
 
-  cuts_of : (g : Lease) (r : Ref) → Some g ≡ lease_of js p.grant → CutsLeaseShort js skew p g r → CutsShort js skew p r
+  cuts_of : (g : Lease) (r : Ref) → Some g ≡ lease_of js p.grant → CutsLeaseShort js skew p (of_lease g) r → CutsShort js skew p r
   cuts_of g r e c = (g, lease_grants js p.grant g (sym e), c.0, c.1)
 
-  lease_cuts : (g : Lease) (r : Ref) → Some g ≡ lease_of js p.grant → CutsShort js skew p r → CutsLeaseShort js skew p g r
-  lease_cuts g r e c = (subst (GivesBack js r) (one_granted js p.grant g c.0 e c.1) c.2, c.3)
+  lease_cuts : (g : Lease) (r : Ref) → Some g ≡ lease_of js p.grant → CutsShort js skew p r → CutsLeaseShort js skew p (of_lease g) r
+  lease_cuts g r e c = (subst (λ (x : Lease). GivesBack js r (of_lease x)) (one_granted js p.grant g c.0 e c.1) c.2, c.3)
 
-  cut_by_lease : (g : Lease) (r : Ref) → Some g ≡ lease_of js p.grant → IsLeast (CutsLeaseShort js skew p g) r → IsLeast (CutsShort js skew p) r
+  cut_by_lease : (g : Lease) (r : Ref) → Some g ≡ lease_of js p.grant → IsLeast (CutsLeaseShort js skew p (of_lease g)) r → IsLeast (CutsShort js skew p) r
   cut_by_lease g r e l = (cuts_of g r e l.0, λ s before c. l.1 s before (lease_cuts g s e c))
 
   -- what a search for the least such release says of the piece
-  pub cut_by_search : (g : Lease) (o : Option Ref) → Some g ≡ lease_of js p.grant → MatchOption o ((r : Ref) → CutsLeaseShort js skew p g r → ⊥) (IsLeast (CutsLeaseShort js skew p g)) → MatchOption o (IsDischarged js skew p) (IsLeast (CutsShort js skew p))
+  pub cut_by_search : (g : Lease) (o : Option Ref) → Some g ≡ lease_of js p.grant → MatchOption o ((r : Ref) → CutsLeaseShort js skew p (of_lease g) r → ⊥) (IsLeast (CutsLeaseShort js skew p (of_lease g))) → MatchOption o (IsDischarged js skew p) (IsLeast (CutsShort js skew p))
   cut_by_search g None e h = discharged_by_lease g e h
   cut_by_search g (Some r) e h = cut_by_lease g r e h
 

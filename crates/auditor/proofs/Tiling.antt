@@ -1,8 +1,8 @@
 -- Pieces, from the front.
-use Rattle.std.specs.Prelude.{◌≡◌, ℕ, ◌+◌, ◌<◌, ◌≤◌, List, [], ◌∷◌, length, Some, slice_get, All}
+use Rattle.std.specs.Prelude.{◌≡◌, ◌↔◌, IsTrue, true, false, ℕ, ◌+◌, ◌<◌, ◌≤◌, List, [], ◌∷◌, length, Some, slice_get, All}
 use Rattle.std.proofs.Common.{zero, suc, arith, sym, ◌∙◌, ap, subst, refl, inl, inr, get_or}
 use Rattle.std.proofs.lemmas.Bool.{cases_lt}
-use Rattle.std.proofs.lemmas.Option.{slice_get_within, slice_get-get_or}
+use Rattle.std.proofs.lemmas.Option.{slice_get_within, get_or_from_slice_get, slice_get-get_or}
 use Rattle.claims.specs.declared.certificate.Certificate.{Certificate}
 use Rattle.claims.specs.declared.certificate.Piece.{Piece}
 use Rattle.attribution.specs.FirstRefusal.{HoldsBefore, IsFirstNot, begin_at, IsInPlace, IsTiled, IsGap}
@@ -30,6 +30,15 @@ module _ {X : Type 0} (P : X → Type 0) (xs : List X) where
 
   pub first_not : (i : ℕ) (x : X) → slice_get xs i ≡ Some x → (P x → ⊥) → HaveHeld P xs i → IsFirstNot P xs i x
   first_not i x e n h = (e, n, h.each)
+
+  pub fails_at : (i : ℕ) (x : X) → slice_get xs i ≡ Some x → (P x → ⊥) → IsTrue false ↔ All P xs
+  fails_at i x e n = (
+    λ t. absurd (cc),
+    λ h. absurd (n (subst P (get_or_from_slice_get xs i x x e) (h i x (slice_get_within xs i x e)))),
+  )
+
+  pub holds_of_all : (i : ℕ) → length xs ≤ i → HaveHeld P xs i → IsTrue true ↔ All P xs
+  holds_of_all i le h = (λ t. all_held i le h, λ a. refl)
 
 -- ---- pieces that lie end to end
 

@@ -7,6 +7,10 @@ use Rattle.prefix_range.specs.Prefix.{Prefix, Contains}
 use Rattle.journal_lines.specs.declared.event.Lease.{Lease}
 use Rattle.claims.specs.declared.certificate.Certificate.{Certificate}
 use Rattle.claims.specs.declared.certificate.Piece.{Piece}
+use Rattle.attribution.specs.declared.delegation.Delegation.{Delegation}
+use Rattle.attribution.specs.declared.delegation.Lasting.{Lasting}
+use Rattle.attribution.specs.declared.delegation.Lasting.TheVariants.{For, Until}
+use Rattle.attribution.specs.Acceptance.{EndsBy}
 use Rattle.attribution.specs.Run.{infinity}
 
 -- the chain shows that the line was written by this moment; or it is no chain from the line
@@ -23,20 +27,25 @@ IsEarliestAt js chain at skew (Some m) = (x : ℕ) × WrittenFrom js chain at x 
 abbrev pub LastsTo : ℕ → ℤ → ℕ → Type 0
 LastsTo valid granted to = (valid ≡ infinity) ⊎ (pos to ≤ℤ (granted +ℤ pos (1000 * valid)))
 
--- it has ended by the other moment
-abbrev pub EndsBy : ℕ → ℤ → ℕ → Type 0
-EndsBy valid granted moment = (valid ≢ infinity) × ((granted +ℤ pos (1000 * valid)) ≤ℤ pos moment)
+-- what was told of by this moment has ended by the other one, its answer's transit counted
+abbrev pub HasEnded : Lasting → ℤ → (skew transit moment : ℕ) → Type 0
+HasEnded (For valid) told skew transit moment =
+    (valid ≢ infinity) × ((told +ℤ pos (transit + 1000 * valid)) ≤ℤ pos moment)
+HasEnded (Until end) told skew transit moment = end + skew + transit ≤ moment
 
 -- What a chain shows of a line, and of the lease that it grants.
 abbrev pub IsWrittenBy : Journals → List Ref → Ref → ℕ → ℕ → Type 0
 IsWrittenBy js chain at skew moment = (x : ℕ) × WrittenBy js chain at x × (x + skew ≤ moment)
 
+abbrev pub IsReachedBy : Journals → List Ref → Ref → (skew transit moment : ℕ) → Type 0
+IsReachedBy js chain at skew transit moment = (x : ℕ) × WrittenBy js chain at x × (x + skew + transit ≤ moment)
+
 abbrev pub IsWrittenFrom : Journals → List Ref → Ref → ℕ → ℕ → Type 0
 IsWrittenFrom js chain at skew moment = (x : ℕ) × WrittenFrom js chain at x × (moment + skew ≤ x)
 
-abbrev pub IsOver : Journals → List Ref → Ref → ℕ → ℕ → ℕ → Type 0
-IsOver js chain grant valid skew moment =
-    (valid ≢ infinity) × ((x : ℕ) × WrittenBy js chain grant x × (x + skew + 1000 * valid ≤ moment))
+abbrev pub IsOver : Journals → List Ref → Ref → Lasting → (skew transit moment : ℕ) → Type 0
+IsOver js chain at lasting skew transit moment =
+    (x : ℕ) × WrittenBy js chain at x × EndsBy skew transit x moment lasting
 
 abbrev pub IsLasting : Journals → List Ref → Ref → ℕ → ℕ → ℕ → Type 0
 IsLasting js chain grant valid skew moment =
@@ -46,11 +55,11 @@ IsLasting js chain grant valid skew moment =
 abbrev pub IsHolders : Lease → Certificate → Type 0
 IsHolders g c = (g.client ≡ c.holder) × Contains g.prefix c.prefix
 
--- the lease is this client's, for this identity association, of this prefix
-abbrev pub IsLeaseOf : Lease → (client : List ℕ) → (iaid : ℕ) → Prefix → Type 0
-IsLeaseOf g client iaid prefix = (client ≡ g.client) × (iaid ≡ g.iaid) × (prefix ≡ g.prefix)
+-- the delegation is this client's, for this identity association, of this prefix
+abbrev pub IsDelegationOf : Delegation → (client : List ℕ) → (iaid : ℕ) → Prefix → Type 0
+IsDelegationOf d client iaid prefix = (client ≡ d.client) × (iaid ≡ d.iaid) × (prefix ≡ d.prefix)
 
 -- the lease is valid from the piece's beginning to its end
-abbrev pub IsValidThroughout : Journals → Piece → Lease → ℕ → Type 0
-IsValidThroughout js p g skew =
-    IsWrittenBy js p.latest p.grant skew p.from × IsLasting js p.earliest p.grant g.valid skew p.to
+abbrev pub IsValidThroughout : Journals → Piece → Lease → (skew transit : ℕ) → Type 0
+IsValidThroughout js p g skew transit =
+    IsReachedBy js p.latest p.grant skew transit p.from × IsLasting js p.earliest p.grant g.valid skew p.to

@@ -1,5 +1,6 @@
 pub mod Bounds
 pub mod Closing
+pub mod Opened
 pub mod Overlaps
 pub mod Refusals
 pub mod Texts

@@ -1,17 +1,17 @@
-//! Whether a certificate names each grant to another client, with a reason that holds.
+//! Whether a certificate names each delegation of another client, with a reason that holds.
 
 ghost use Rattle.std.specs.Prelude.{◌↔◌, IsTrue, MatchOption};
 ghost use Rattle.attribution.specs.Acceptance.{IsNamed, IsCovered};
 ghost use Rattle.attribution.specs.FirstRefusal.{IsLeast, IsUncovered};
 ghost use Rattle.auditor.specs.Refusals.{IsOthers, AreReasoned, IsUnreasoned};
 
-use crate::grants::{lease_at, reason_holds};
+use crate::grants::{delegation_at, reason_holds};
 use crate::order::{comes_first, is_before};
 use crate::source::LineSource;
+use attribution::Delegation;
 use causal_order::{Lines, Ref};
 use claims::Certificate;
-use journal_lines::Lease;
-use lead_time::Skew;
+use lead_time::{Skew, Transit};
 
 /// Whether the foreign entry at this index names the line.
 fn names_at(certificate: &Certificate, index: usize, at: Ref) -> bool
@@ -46,24 +46,26 @@ fn is_named(certificate: &Certificate, at: Ref) -> bool
             .any(|entry| entry.grant == at)
 }
 
-/// Whether the lease is another client's, of a prefix that overlaps the one asked of.
-fn is_foreign(lease: &Lease, certificate: &Certificate) -> bool
-    ensures { IsTrue result ↔ IsOthers lease.now certificate.now }
+/// Whether the delegation is another client's, of a prefix that overlaps the one asked of.
+fn is_foreign(delegation: &Delegation, certificate: &Certificate) -> bool
+    ensures { IsTrue result ↔ IsOthers delegation.now certificate.now }
 {
-    lease.client != certificate.holder && lease.prefix.overlaps(&certificate.prefix)
+    delegation.client != certificate.holder && delegation.prefix.overlaps(&certificate.prefix)
 }
 
-/// Whether the line grants another client a prefix that overlaps the one asked of, and no foreign entry names it.
+/// Whether the line tells of another client's delegation of a prefix that overlaps the one asked of, and no foreign
+/// entry names it.
 fn is_uncovered<L: Lines>(lines: &L, certificate: &Certificate, at: Ref) -> bool
     ensures { IsTrue result ↔ IsUncovered (L.journals lines.now) certificate.now at }
 {
-    match lease_at(lines, at) {
-        Some(lease) => is_foreign(&lease, certificate) && !is_named(certificate, at),
+    match delegation_at(lines, at) {
+        Some(delegation) => is_foreign(&delegation, certificate) && !is_named(certificate, at),
         None => false,
     }
 }
 
-/// The least line that grants another client a prefix that overlaps the one asked of, and that no foreign entry names.
+/// The least line that tells of another client's delegation of a prefix that overlaps the one asked of, and that no
+/// foreign entry names.
 pub fn least_uncovered<S: LineSource>(source: &S, certificate: &Certificate) -> Option<Ref>
     ensures { MatchOption result (IsCovered (S.journals source.now) certificate.now)
         (IsLeast (IsUncovered (S.journals source.now) certificate.now)) }
@@ -79,17 +81,18 @@ pub fn least_uncovered<S: LineSource>(source: &S, certificate: &Certificate) -> 
     least
 }
 
-/// The grant of the first foreign entry whose reason doesn't hold.
+/// The line of the first foreign entry whose reason doesn't hold.
 pub fn first_unreasoned<S: LineSource>(
     source: &S,
     certificate: &Certificate,
     skew: Skew,
+    transit: Transit,
 ) -> Option<Ref>
-    ensures { MatchOption result (AreReasoned (S.journals source.now) skew certificate.now)
-        (IsUnreasoned (S.journals source.now) skew certificate.now) }
+    ensures { MatchOption result (AreReasoned (S.journals source.now) skew transit certificate.now)
+        (IsUnreasoned (S.journals source.now) skew transit certificate.now) }
 {
     for entry in certificate.foreign.as_slice() {
-        if !reason_holds(source, certificate, entry, skew) {
+        if !reason_holds(source, certificate, entry, skew, transit) {
             return Some(entry.grant);
         }
     }

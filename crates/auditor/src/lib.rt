@@ -3,11 +3,12 @@
 //! `audit` judges over any [`LineSource`], `audit_bytes` over three texts. Their clause `verdict` is the definition
 //! of the verdict, their clause `headline` the theorem: what is accepted is true in every run of the pair that leaves
 //! these journals. `reason_holds` is one foreign entry's reason. [`PlainSource`] is two journals, looked through at
-//! each question. specs/Texts is the verdict on texts, specs/Closing what a source owes; specs/Bounds, Overlaps and
-//! Refusals are for bodies only.
+//! each question. specs/Texts is the verdict on texts, with the rules of both journals before the certificate's
+//! conditions; specs/Closing is what a source owes; specs/Bounds, Opened, Overlaps and Refusals are for bodies
+//! only.
 //!
 //! ```text
-//! let verdict = audit_bytes(alloc, journal_a, journal_b, certificate, skew)?;
+//! let verdict = audit_bytes(alloc, journal_a, journal_b, certificate, skew, Transit::ZERO)?;
 //! let is_shown = verdict == Verdict::Accepted;
 //! ```
 #![tactic(auto)]
@@ -15,6 +16,7 @@
 mod auditing;
 mod foreign;
 mod grants;
+mod opened;
 mod order;
 mod pieces;
 mod plain;

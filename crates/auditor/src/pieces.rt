@@ -8,7 +8,7 @@ ghost use Rattle.auditor.specs.Refusals.{IsUngranted, AreGranted};
 use crate::grants::is_granted;
 use causal_order::Lines;
 use claims::Certificate;
-use lead_time::Skew;
+use lead_time::{Skew, Transit};
 
 /// The number, from 1, of the first piece that doesn't begin where it must or has no moment. Where the pieces end
 /// before the interval or past it, or there is none, the number past the last.
@@ -31,12 +31,17 @@ pub fn first_gap(certificate: &Certificate) -> Option<u64>
 }
 
 /// The number, from 1, of the first piece that its grant doesn't carry.
-pub fn first_ungranted<L: Lines>(lines: &L, certificate: &Certificate, skew: Skew) -> Option<u64>
-    ensures { MatchOption result (AreGranted (L.journals lines.now) skew certificate.now)
-        (IsUngranted (L.journals lines.now) skew certificate.now) }
+pub fn first_ungranted<L: Lines>(
+    lines: &L,
+    certificate: &Certificate,
+    skew: Skew,
+    transit: Transit,
+) -> Option<u64>
+    ensures { MatchOption result (AreGranted (L.journals lines.now) skew transit certificate.now)
+        (IsUngranted (L.journals lines.now) skew transit certificate.now) }
 {
     for (index, piece) in certificate.pieces.as_slice().iter().enumerate() {
-        if !is_granted(lines, certificate, piece, skew) {
+        if !is_granted(lines, certificate, piece, skew, transit) {
             return Some(index as u64 + 1);
         }
     }

@@ -2,7 +2,8 @@
 
 ghost use Rattle.std.specs.Prelude.{◌≡◌, ◌<◌, ◌≤◌, ◌^◌, length, slice_get, Some};
 ghost use Rattle.binding_rules.specs.declared.role.Role.{Role as RoleValue};
-ghost use Rattle.causal_order.specs.Journals.{journal_of, line_of};
+ghost use Rattle.journal_lines.specs.Head.{volume_number};
+ghost use Rattle.causal_order.specs.Journals.{journals_of, journal_of, volume_of, line_of};
 ghost use Rattle.journal_text.specs.Closed.{IsClosed};
 ghost use Rattle.auditor.specs.Closing.{ClosesAt};
 ghost use Rattle.auditor.specs.Overlaps.{concerns, overlaps_from, overlaps_of};
@@ -18,19 +19,19 @@ use std::marker::Model;
 /// Two closed journals, looked through at each call. Contracts see both.
 #[derive(Drop)]
 pub struct PlainSource<'a> {
-    primary: &'a [Line],
-    secondary: &'a [Line],
+    primary: &'a Journal,
+    secondary: &'a Journal,
 }
 
 impl<'a> Model for PlainSource<'a> {
-    ghost use Rattle.causal_order.specs.Journals.{Journals};
+    ghost use Rattle.causal_order.specs.Journals.{Journals, journals_of};
     ghost use Rattle.journal_text.specs.Closed.{IsClosed};
 
     ghost Value = { Journals };
 
-    ghost view = { λ s. record { a = s.primary.now; b = s.secondary.now } };
+    ghost view = { λ s. journals_of s.primary.now s.secondary.now };
 
-    ghost invariant = { λ s. IsClosed s.primary.now × IsClosed s.secondary.now };
+    ghost invariant = { λ s. IsClosed s.primary.now.lines × IsClosed s.secondary.now.lines };
 }
 
 impl<'a> PlainSource<'a> {
@@ -38,11 +39,19 @@ impl<'a> PlainSource<'a> {
     pub fn new(primary: &'a Journal, secondary: &'a Journal) -> PlainSource<'a>
         requires primary_closed { IsClosed primary.now.lines }
         requires secondary_closed { IsClosed secondary.now.lines }
-        ensures { result ≡ record { a = primary.now.lines; b = secondary.now.lines } }
+        ensures { result ≡ journals_of primary.now secondary.now }
     {
-        PlainSource {
-            primary: primary.lines.as_slice(),
-            secondary: secondary.lines.as_slice(),
+        PlainSource { primary, secondary }
+    }
+
+    fn journal_of(&self, side: Role) -> &'a Journal
+        ensures volume { volume_number result.now.head ≡ volume_of self.now side }
+        ensures lines { result.now.lines ≡ journal_of self.now side }
+        ensures closed { IsClosed result.now.lines }
+    {
+        match side {
+            Role::Primary => self.primary,
+            Role::Secondary => self.secondary,
         }
     }
 
@@ -50,10 +59,7 @@ impl<'a> PlainSource<'a> {
         ensures lines { result.now ≡ journal_of self.now side }
         ensures closed { IsClosed result.now }
     {
-        match side {
-            Role::Primary => self.primary,
-            Role::Secondary => self.secondary,
-        }
+        self.journal_of(side).lines.as_slice()
     }
 }
 
@@ -72,6 +78,10 @@ impl LineSource for PlainSource<'_> {
     fn close_reading(&self, side: Role) -> Reading {
         let lines = self.lines_of(side);
         lines[lines.len() - 1].reading
+    }
+
+    fn volume(&self, side: Role) -> u32 {
+        self.journal_of(side).head.volume()
     }
 
     #[tactic(auto, using(crate::proofs::Given::given_length, crate::proofs::Given::given_is_listing))]
@@ -93,12 +103,13 @@ impl LineSource for PlainSource<'_> {
     }
 }
 
-/// Whether the event grants a prefix that overlaps this one, or gives one back.
+/// Whether the event grants or carries a prefix that overlaps this one, or gives one back.
 fn concerns(prefix: &Prefix, event: &Event) -> bool
     ensures { result ≡ concerns prefix.now event.now }
 {
     match event {
         Event::Grant(lease) => lease.prefix.overlaps(prefix),
+        Event::Carry(carried) => carried.prefix.overlaps(prefix),
         Event::Release { prefix: other, .. } => other.overlaps(prefix),
         _ => false,
     }

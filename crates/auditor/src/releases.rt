@@ -10,9 +10,9 @@ ghost use Rattle.auditor.specs.Refusals.{AreDischarged, CutsLeaseShort, Discharg
 use crate::grants::{gives_back, is_written_from, lease_at};
 use crate::order::comes_first;
 use crate::source::LineSource;
+use attribution::Delegation;
 use causal_order::{Lines, Ref, precedes};
 use claims::{Certificate, Clear, Piece, Why};
-use journal_lines::Lease;
 use lead_time::Skew;
 use prefix_range::Prefix;
 
@@ -46,11 +46,17 @@ fn is_discharged<L: Lines>(lines: &L, piece: &Piece, release: Ref, skew: Skew) -
     piece.clear.as_slice().iter().any(|clear| is_discharged_by(lines, piece, clear, release, skew))
 }
 
-/// Whether the line gives the lease back, and no clear entry of the piece discharges it.
-fn cuts_short<L: Lines>(lines: &L, piece: &Piece, lease: &Lease, at: Ref, skew: Skew) -> bool
-    ensures { IsTrue result ↔ CutsLeaseShort (L.journals lines.now) skew piece.now lease.now at }
+/// Whether the line gives the delegation back, and no clear entry of the piece discharges it.
+fn cuts_short<L: Lines>(
+    lines: &L,
+    piece: &Piece,
+    delegation: &Delegation,
+    at: Ref,
+    skew: Skew,
+) -> bool
+    ensures { IsTrue result ↔ CutsLeaseShort (L.journals lines.now) skew piece.now delegation.now at }
 {
-    gives_back(lines, at, lease) && !is_discharged(lines, piece, at, skew)
+    gives_back(lines, at, delegation) && !is_discharged(lines, piece, at, skew)
 }
 
 /// Every prefix has an address, and so overlaps itself.
@@ -60,18 +66,23 @@ fn overlaps_itself(prefix: &Prefix)
     let _ = prefix.first();
 }
 
-/// The least line that gives the lease of the piece's grant back and that no clear entry discharges.
-fn least_cutting<S: LineSource>(source: &S, piece: &Piece, lease: &Lease, skew: Skew) -> Option<Ref>
+/// The least line that gives back what the piece's grant gave and that no clear entry discharges.
+fn least_cutting<S: LineSource>(
+    source: &S,
+    piece: &Piece,
+    delegation: &Delegation,
+    skew: Skew,
+) -> Option<Ref>
     ensures { MatchOption result
-        ((r : RefValue) → CutsLeaseShort (S.journals source.now) skew piece.now lease.now r → ⊥)
-        (IsLeast (CutsLeaseShort (S.journals source.now) skew piece.now lease.now)) }
+        ((r : RefValue) → CutsLeaseShort (S.journals source.now) skew piece.now delegation.now r → ⊥)
+        (IsLeast (CutsLeaseShort (S.journals source.now) skew piece.now delegation.now)) }
 {
-    overlaps_itself(&lease.prefix);
+    overlaps_itself(&delegation.prefix);
     let mut least: Option<Ref> = None;
-    let count = source.overlap_count(&lease.prefix);
+    let count = source.overlap_count(&delegation.prefix);
     for index in 0..count {
-        let at = source.overlap_at(&lease.prefix, index);
-        if comes_first(at, least) && cuts_short(source, piece, lease, at, skew) {
+        let at = source.overlap_at(&delegation.prefix, index);
+        if comes_first(at, least) && cuts_short(source, piece, delegation, at, skew) {
             least = Some(at);
         }
     }
@@ -85,7 +96,7 @@ fn cutting_release<S: LineSource>(source: &S, piece: &Piece, skew: Skew) -> Opti
         (IsLeast (CutsShort (S.journals source.now) skew piece.now)) }
 {
     let lease = lease_at(source, piece.grant)?;
-    least_cutting(source, piece, &lease, skew)
+    least_cutting(source, piece, &Delegation::of_lease(&lease), skew)
 }
 
 /// The number, from 1, of the first piece that a release cuts short, and the least such release.

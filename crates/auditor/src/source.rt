@@ -3,7 +3,7 @@
 ghost use Rattle.std.specs.Prelude.{◌≡◌, ◌<◌, List, length, slice_get};
 ghost use Rattle.prefix_range.specs.Prefix.{Prefix as PrefixValue};
 ghost use Rattle.claims.specs.declared.reference.Ref.{Ref as RefValue};
-ghost use Rattle.causal_order.specs.Journals.{journal_of};
+ghost use Rattle.causal_order.specs.Journals.{journal_of, volume_of};
 ghost use Rattle.attribution.specs.Listing.{IsListing};
 ghost use Rattle.auditor.specs.Closing.{ClosesAt};
 
@@ -21,7 +21,11 @@ pub trait LineSource: Lines {
     fn close_reading(&self, side: Role) -> Reading
         ensures { ClosesAt (journal_of (Self.journals self.now) side) result };
 
-    /// How many lines concern the prefix: grants and releases of prefixes that overlap it.
+    /// Which volume of all that the side's server wrote its journal is, from 1.
+    fn volume(&self, side: Role) -> u32
+        ensures { result ≡ volume_of (Self.journals self.now) side };
+
+    /// How many lines concern the prefix: grants, carry lines and releases of prefixes that overlap it.
     fn overlap_count(&self, prefix: &Prefix) -> usize
         ensures count { result ≡ length (given self.now prefix.now) }
         // Exactly the lines of both journals that concern the prefix, each once.

@@ -1,10 +1,11 @@
 //! The audit of journals that were read and of texts.
 
-ghost use Rattle.std.specs.Prelude.{◌≡◌, IfOk};
+ghost use Rattle.std.specs.Prelude.{◌≡◌, IfOk, MatchOption};
 ghost use Rattle.std.specs.Result.{ForOk};
 ghost use Rattle.journal_text.specs.Faults.{journal_of_side};
 ghost use Rattle.certificate.specs.Faults.{certificate_of};
 ghost use Rattle.journal_text.specs.Closed.{IsClosed};
+ghost use Rattle.auditor.specs.Texts.{IsBroken, IsUnbroken, IsVerdictOfJournals};
 ghost use Rattle.auditor.specs.Texts.{IsVerdictOfParsed, IsVerdictOfTexts, ParsedIsTrueInEveryRun};
 ghost use Rattle.auditor.specs.Texts.{TextsAreTrueInEveryRun};
 
@@ -12,10 +13,12 @@ use crate::auditing::audit;
 use crate::plain::PlainSource;
 use attribution::Verdict;
 use binding_rules::Role;
+use book_rules::{ReplayError, Table};
 use certificate::{CertificateError, certificates_are_spelled};
+use claims::Certificate;
 use journal_lines::{Journal, JournalFault};
 use journal_text::{JournalError, read_side, text_gives_what_it_spells, written_is_closed};
-use lead_time::Skew;
+use lead_time::{Skew, Transit};
 use std::alloc::Global;
 use thiserror::Error;
 
@@ -27,16 +30,52 @@ pub enum AuditError {
     Memory,
 }
 
+/// The refusal of a journal whose lines break a rule of its side, or `None` where they keep them all.
+fn broken_rule(alloc: Global, side: Role, journal: &Journal) -> Result<Option<Verdict>, AuditError>
+    ensures { IfOk result (λ refusal. MatchOption refusal (IsUnbroken side journal.now) (IsBroken side journal.now)) }
+{
+    match Table::replay(alloc, side, journal.head, journal.lines.as_slice()) {
+        Ok(_table) => Ok(None),
+        Err(ReplayError::Broken { line, rule }) => Ok(Some(Verdict::Rule(side, line, rule))),
+        Err(ReplayError::Memory) => Err(AuditError::Memory),
+    }
+}
+
+/// The refusal of A's journal, or of B's, where it breaks a rule; else the verdict of `audit`.
+#[tactic(auto, using(crate::proofs::TextVerdicts::both_unbroken))]
+fn verdict_on_journals(
+    alloc: Global,
+    primary: &Journal,
+    secondary: &Journal,
+    claim: &Certificate,
+    skew: Skew,
+    transit: Transit,
+) -> Result<Verdict, AuditError>
+    requires primary_closed { IsClosed primary.now.lines }
+    requires secondary_closed { IsClosed secondary.now.lines }
+    ensures { IfOk result (IsVerdictOfJournals primary.now secondary.now skew transit claim.now) }
+{
+    if let Some(refusal) = broken_rule(alloc, Role::Primary, primary)? {
+        return Ok(refusal);
+    }
+    if let Some(refusal) = broken_rule(alloc, Role::Secondary, secondary)? {
+        return Ok(refusal);
+    }
+    let source = PlainSource::new(primary, secondary);
+    Ok(audit(&source, claim, skew, transit))
+}
+
 fn verdict_on_parsed(
     alloc: Global,
     a: Result<Journal, JournalFault>,
     b: Result<Journal, JournalFault>,
     certificate: &[u8],
     skew: Skew,
+    transit: Transit,
 ) -> Result<Verdict, AuditError>
     requires a_closed { ForOk a (λ journal. IsClosed journal.lines) }
     requires b_closed { ForOk b (λ journal. IsClosed journal.lines) }
-    ensures { IfOk result (IsVerdictOfParsed a b skew (certificate_of certificate.now)) }
+    ensures { IfOk result (IsVerdictOfParsed a b skew transit (certificate_of certificate.now)) }
 {
     let primary = match a {
         Ok(journal) => journal,
@@ -51,28 +90,28 @@ fn verdict_on_parsed(
         Err(CertificateError::Fault(fault)) => return Ok(Verdict::Certificate(fault)),
         Err(CertificateError::Memory) => return Err(AuditError::Memory),
     };
-    let source = PlainSource::new(&primary, &secondary);
-    Ok(audit(&source, &claim, skew))
+    verdict_on_journals(alloc, &primary, &secondary, &claim, skew, transit)
 }
 
 /// Judges the certificate that a text spells over what reading the journals of side A and of side B gave: the first
-/// of the faults of A's journal, of B's and of the certificate's text, then the verdict of `audit`. `Memory` where a
-/// growth was refused.
+/// of the faults of A's journal, of B's and of the certificate's text, then of the rules that A's journal breaks and
+/// B's, then the verdict of `audit`. `Memory` where a growth was refused.
 pub fn audit_read(
     alloc: Global,
     a: Result<Journal, JournalFault>,
     b: Result<Journal, JournalFault>,
     certificate: &[u8],
     skew: Skew,
+    transit: Transit,
 ) -> Result<Verdict, AuditError>
     requires a_closed { ForOk a (λ journal. IsClosed journal.lines) }
     requires b_closed { ForOk b (λ journal. IsClosed journal.lines) }
-    ensures verdict { IfOk result (IsVerdictOfParsed a b skew (certificate_of certificate.now)) }
+    ensures verdict { IfOk result (IsVerdictOfParsed a b skew transit (certificate_of certificate.now)) }
     // What is accepted is true in every run of the pair that leaves these journals.
-    ensures headline { result ≡ Ok Verdict.Accepted → ParsedIsTrueInEveryRun a b certificate.now skew }
+    ensures headline { result ≡ Ok Verdict.Accepted → ParsedIsTrueInEveryRun a b certificate.now skew transit }
 {
     certificates_are_spelled();
-    verdict_on_parsed(alloc, a, b, certificate, skew)
+    verdict_on_parsed(alloc, a, b, certificate, skew, transit)
 }
 
 /// The journal of this side that a text spells, which is closed, or its first fault.
@@ -93,19 +132,23 @@ fn parsed_journal(
 }
 
 /// Judges the certificate that the third text spells over the journals of side A and side B that the first two
-/// spell: the first of the faults of A's text, of B's and of the certificate's, then the verdict of `audit`. The
-/// skew is the most by which a reading of either journal and true time differ. `Memory` where a growth was refused.
+/// spell: the first of the faults of A's text, of B's and of the certificate's, then of the rules that A's journal
+/// breaks and B's, then the verdict of `audit`. The skew is the most by which a reading of either journal and true time
+/// differ, the transit the most by which an answer reaches its client after its grant. `Memory` where a growth was
+/// refused.
 pub fn audit_bytes(
     alloc: Global,
     a: &[u8],
     b: &[u8],
     certificate: &[u8],
     skew: Skew,
+    transit: Transit,
 ) -> Result<Verdict, AuditError>
-    ensures verdict { IfOk result (IsVerdictOfTexts a.now b.now certificate.now skew) }
+    ensures verdict { IfOk result (IsVerdictOfTexts a.now b.now certificate.now skew transit) }
     // What is accepted is true in every run of the pair that leaves these journals, with each clock within the skew
-    // of true time.
-    ensures headline { result ≡ Ok Verdict.Accepted → TextsAreTrueInEveryRun a.now b.now certificate.now skew }
+    // of true time and each answer within the transit.
+    ensures headline { result ≡ Ok Verdict.Accepted
+        → TextsAreTrueInEveryRun a.now b.now certificate.now skew transit }
 {
     text_gives_what_it_spells();
     let primary = parsed_journal(alloc, Role::Primary, a)?;
@@ -113,5 +156,5 @@ pub fn audit_bytes(
         return Ok(Verdict::Journal(Role::Primary, *fault));
     }
     let secondary = parsed_journal(alloc, Role::Secondary, b)?;
-    audit_read(alloc, primary, secondary, certificate, skew)
+    audit_read(alloc, primary, secondary, certificate, skew, transit)
 }

@@ -1,7 +1,8 @@
 //! The state before the first line.
 
 ghost use Rattle.std.specs.Prelude.{◌≡◌};
-ghost use Rattle.book_rules.specs.Book.{blank, volume_number};
+ghost use Rattle.journal_lines.specs.Head.{volume_number};
+ghost use Rattle.book_rules.specs.Book.{blank};
 ghost use Rattle.book_rules.specs.State.{state};
 
 use crate::place::Place;
@@ -12,16 +13,6 @@ use binding_rules::{Counter, Role};
 use journal_lines::Head;
 use lead_time::{Reading, Skew, Transit};
 use std::alloc::Global;
-
-/// Which volume a head line begins, from 1.
-fn volume_number(head: Head) -> u32
-    ensures { result ≡ volume_number head }
-{
-    match head {
-        Head::One => 1,
-        Head::Two(volume) => volume.number(),
-    }
-}
 
 /// No time at all.
 fn first_reading() -> Reading
@@ -50,7 +41,7 @@ impl Table {
     {
         let standing = Standing {
             role,
-            volume: volume_number(head),
+            volume: head.volume(),
             skew: no_skew(),
             mclt: 0,
             life: 0,

@@ -1,10 +1,7 @@
-//! Audits of whole inputs.
+//! Audits of one piece and of one foreign grant, each at its limit and past it.
 
-use crate::changes::{ACCEPTED, Change, GAP, GRANT, REASON, SKEW, check_changes};
+use crate::changes::{ACCEPTED, Change, GAP, GRANT, REASON, check_changes};
 use crate::inputs::{BEGAN_LATE, ENDED_EARLY, WHOLE_HOUR};
-use attribution_desk::{Command, UsageError, command_of, judge};
-use lead_time::Skew;
-use std::alloc::{AllocError, Global};
 use std::test::Fail;
 
 /// Each condition on one piece, at its limit and past it.
@@ -93,85 +90,4 @@ fn judges_foreign_grants(rt: HostRuntime) -> Result<(), Fail> {
     check_changes(&rt, rt.alloc(), ENDED_EARLY, ENDED_EARLY_CHANGES)?;
     check_changes(&rt, rt.alloc(), BEGAN_LATE, BEGAN_LATE_CHANGES)?;
     check_changes(&rt, rt.alloc(), WHOLE_HOUR, OTHERS)
-}
-
-#[test]
-fn never_accepts_a_cut_input(rt: HostRuntime) -> Result<(), Fail> {
-    let skew = Skew::new(SKEW)?;
-    let bytes = WHOLE_HOUR.as_bytes();
-    for length in 0..bytes.len() {
-        let answer = judge(rt.alloc(), &bytes[..length], skew)?;
-        assert_eq!(rt; answer.status, 1, "cut to {length}");
-    }
-    assert_eq!(rt; judge(rt.alloc(), bytes, skew)?.status, 0);
-    Ok(())
-}
-
-#[test]
-fn names_faults_of_texts(rt: HostRuntime) -> Result<(), Fail> {
-    let skew = Skew::new(2000)?;
-    let cases: [(&str, &str); 8] = [
-        ("", "refused J1 Head A\n"),
-        (
-            "pd-journal 2 A 2\n2 5 close\nend 1\n",
-            "refused J1 Head A\n",
-        ),
-        (
-            "pd-journal 1 A\n1 5 close\nend 1\npd-journal 2 B 2\n1 5 close\nend 1\n",
-            "refused J1 Head B\n",
-        ),
-        ("pd-journal 1 B\nend 0\n", "refused J1 Head A\n"),
-        (
-            "pd-journal 1 A\n1 5 close\nend 1\npd-journal 1 A\n1 5 close\nend 1\n",
-            "refused J1 Head B\n",
-        ),
-        (
-            "pd-journal 1 A\n1 5 close\nend 1\npd-journal 1 B\n2 5 close\nend 1\n",
-            "refused J3 Number B1\n",
-        ),
-        (
-            "pd-journal 1 A\n1 5 close\nend 1\npd-journal 1 B\n1 5 close\nend 1\n",
-            "refused C1 Head\n",
-        ),
-        (
-            "pd-journal 1 A\n1 5 close\nend 1\npd-journal 1 B\n1 5 close\nend 1\npd-certificate 1\nholder 00\n",
-            "refused C2 Form 2\n",
-        ),
-    ];
-    for (input, line) in cases {
-        assert_eq!(rt;
-            judge(rt.alloc(), input.as_bytes(), skew)?.line.as_slice(),
-            line.as_bytes()
-        );
-    }
-    Ok(())
-}
-
-fn command(alloc: Global, words: &[&str]) -> Result<Result<Command, UsageError>, AllocError> {
-    let mut owned = Vec::new(alloc);
-    for word in words {
-        owned.push(String::from_str(alloc, word)?)?;
-    }
-    Ok(command_of(alloc, &owned))
-}
-
-#[test]
-fn finds_commands(rt: HostRuntime) -> Result<(), Fail> {
-    let skew = Skew::new(2000)?;
-    let found = command(rt.alloc(), &["desk_cli", "audit", "--skew-ms", "2000"])?;
-    assert_eq!(rt; found, Ok(Command::Audit { skew }));
-    let others: [&[&str]; 8] = [
-        &["desk_cli"],
-        &["desk_cli", "audit"],
-        &["desk_cli", "audit", "--skew-ms", "02000"],
-        &["desk_cli", "audit", "--skew-ms", "+2000"],
-        &["desk_cli", "audit", "--skew-ms", "86400001"],
-        &["desk_cli", "audit", "--skew-ms", "2000", "more"],
-        &["desk_cli", "audit", "--help"],
-        &["desk_cli", "judge", "--skew-ms", "2000"],
-    ];
-    for words in others {
-        assert_eq!(rt; command(rt.alloc(), words)?, Err(UsageError::Usage));
-    }
-    Ok(())
 }

@@ -1,8 +1,12 @@
-//! Accepted inputs of the desk with one part changed, and what is answered then.
+//! Accepted inputs with one part changed, and what the audit of their lines answers then.
 
-use attribution_desk::judge;
-use lead_time::Skew;
-use std::alloc::Global;
+use crate::three_texts::cut;
+use attribution::{Verdict, verdict_line};
+use auditor::{PlainSource, audit};
+use certificate::CertificateError;
+use journal_text::{read, written_is_closed};
+use lead_time::{Skew, Transit};
+use std::alloc::{AllocError, Global};
 use std::process::Abort;
 use std::test::Fail;
 
@@ -16,12 +20,50 @@ pub const GAP: &str = "refused C6 PieceGap 1\n";
 /// The first piece's line holds no grant that covers it.
 pub const GRANT: &str = "refused C7 PieceGrant 1\n";
 
+/// The interval, or a piece's grant, isn't surely behind the earlier volumes.
+pub const BEFORE_OPEN: &str = "refused C11 BeforeOpen\n";
+
 /// The reason of line A3's entry does not hold.
 pub const REASON: &str = "refused C10 Reason A3\n";
 
 /// A part of an input, what is put in its place, and the answer then.
 pub type Change = (&'static str, &'static str, &'static str);
 
+/// The verdict on an input's certificate over the lines of its journals, whatever rules these break.
+pub fn verdict_on(
+    alloc: Global,
+    input: &str,
+    skew: Skew,
+    transit: Transit,
+) -> Result<Verdict, Fail> {
+    written_is_closed();
+    let texts = cut(alloc, input)?;
+    let primary = read(alloc, texts.primary.as_bytes())?;
+    let secondary = read(alloc, texts.secondary.as_bytes())?;
+    match certificate::read(alloc, texts.certificate.as_bytes()) {
+        Ok(claim) => {
+            let source = PlainSource::new(&primary, &secondary);
+            Ok(audit(&source, &claim, skew, transit))
+        }
+        Err(CertificateError::Fault(fault)) => Ok(Verdict::Certificate(fault)),
+        Err(CertificateError::Memory) => Err(AllocError)?,
+    }
+}
+
+/// That the verdict on an input has this line, with answers as long under way as said, in milliseconds.
+pub fn check_in_transit(
+    rt: &impl Abort,
+    alloc: Global,
+    input: &str,
+    transit: u64,
+    line: &str,
+) -> Result<(), Fail> {
+    let verdict = verdict_on(alloc, input, Skew::new(SKEW)?, Transit::new(transit)?)?;
+    assert_eq!(rt; verdict_line(alloc, &verdict)?.as_slice(), line.as_bytes());
+    Ok(())
+}
+
+/// That the verdict on an input has this line, with clocks as far from true time as said, in milliseconds.
 pub fn check_answer(
     rt: &impl Abort,
     alloc: Global,
@@ -29,10 +71,8 @@ pub fn check_answer(
     skew: u64,
     line: &str,
 ) -> Result<(), Fail> {
-    let answer = judge(alloc, input.as_bytes(), Skew::new(skew)?)?;
-    assert_eq!(rt; answer.line.as_slice(), line.as_bytes());
-    let status = if line == ACCEPTED { 0 } else { 1 };
-    assert_eq!(rt; answer.status, status);
+    let verdict = verdict_on(alloc, input, Skew::new(skew)?, Transit::ZERO)?;
+    assert_eq!(rt; verdict_line(alloc, &verdict)?.as_slice(), line.as_bytes());
     Ok(())
 }
 

@@ -1,9 +1,11 @@
 //! Audits over releases, several pieces and chains through both journals: each number of an accepted input moved.
 
-use crate::changes::{ACCEPTED, Change, GAP, GRANT, REASON, SKEW, check_answer, check_changes};
+use crate::changes::{
+    ACCEPTED, Change, GAP, GRANT, REASON, SKEW, check_answer, check_changes, verdict_on,
+};
 use crate::inputs::{AT_THE_PARTNER, END_TO_END, GIVEN_BACK, GIVEN_BACK_BY_ANOTHER};
-use attribution_desk::judge;
-use lead_time::Skew;
+use attribution::Verdict;
+use lead_time::{Skew, Transit};
 use std::alloc::{AllocError, Global};
 use std::test::Fail;
 
@@ -253,7 +255,8 @@ fn refuses_without_any_line(rt: HostRuntime) -> Result<(), Fail> {
             let Some(left) = without_line(rt.alloc(), input, number)? else {
                 panic!(rt; "the certificate has no line {number}");
             };
-            assert_eq!(rt; judge(rt.alloc(), left.as_bytes(), skew)?.status, 1);
+            let verdict = verdict_on(rt.alloc(), left.as_str(), skew, Transit::ZERO)?;
+            assert_ne!(rt; verdict, Verdict::Accepted);
         }
         assert_eq!(rt; without_line(rt.alloc(), input, lines)?, None);
     }

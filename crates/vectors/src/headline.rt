@@ -5,7 +5,7 @@ use auditor::audit_bytes;
 use binding_rules::Role;
 use claims::CertificateFault;
 use journal_lines::JournalFault;
-use lead_time::Skew;
+use lead_time::{Skew, Transit};
 use std::alloc::{AllocError, Global};
 use std::test::Fail;
 
@@ -68,6 +68,7 @@ fn answers_first_refusal(rt: HostRuntime) -> Result<(), Fail> {
             b.as_bytes(),
             certificate.as_bytes(),
             skew,
+            Transit::ZERO,
         );
         assert_eq!(rt; given, Ok(verdict));
     }

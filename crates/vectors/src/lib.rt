@@ -6,8 +6,6 @@ mod audits;
 #[cfg(test)]
 mod changes;
 #[cfg(test)]
-mod chunks;
-#[cfg(test)]
 mod evidence;
 #[cfg(test)]
 mod headline;
@@ -18,8 +16,18 @@ mod reasons;
 #[cfg(test)]
 mod round_trips;
 #[cfg(test)]
+mod rules;
+#[cfg(test)]
 mod texts;
+#[cfg(test)]
+mod three_texts;
+#[cfg(test)]
+mod transit;
 #[cfg(test)]
 mod values;
 #[cfg(test)]
 mod verdicts;
+#[cfg(test)]
+mod volume_inputs;
+#[cfg(test)]
+mod volumes;

@@ -6,7 +6,7 @@ use causal_order::{Chain, Precedes, Ref};
 use claims::{Certificate, Foreign, ForeignList, PieceList, Reason};
 use client_id::Duid;
 use journal_text::{read, written_is_closed};
-use lead_time::{Reading, Skew};
+use lead_time::{Reading, Skew, Transit};
 use prefix_range::read_canonical;
 use std::alloc::{AllocError, Global};
 use std::test::Fail;
@@ -50,25 +50,49 @@ fn chain(alloc: Global, numbers: &[u32]) -> Result<Chain, AllocError> {
     Ok(Chain::new(refs))
 }
 
-/// Whether the reason of line A3 holds for the unit from one moment up to another.
-fn holds(alloc: Global, journal: &str, reason: Reason, from: u64, to: u64) -> Result<bool, Fail> {
+/// What is asked: from when on and up to when, and how long an answer may be under way, in milliseconds.
+#[derive(Clone, Copy)]
+struct Asked {
+    from: u64,
+    to: u64,
+    transit: u64,
+}
+
+/// The interval from this moment on, with answers that come at once.
+fn from_on(from: u64) -> Asked {
+    Asked {
+        from,
+        to: LAST,
+        transit: 0,
+    }
+}
+
+/// Whether the reason of a line of the primary's holds for the unit.
+fn holds(
+    alloc: Global,
+    journal: &str,
+    number: u32,
+    reason: Reason,
+    asked: Asked,
+) -> Result<bool, Fail> {
     written_is_closed();
     let a = read(alloc, journal.as_bytes())?;
     let b = read(alloc, PARTNER)?;
     let certificate = Certificate {
         holder: Duid::from_hex(b"00030001020000000001")?,
         prefix: read_canonical(UNIT)?,
-        from: Reading::new(from)?,
-        to: Reading::new(to)?,
+        from: Reading::new(asked.from)?,
+        to: Reading::new(asked.to)?,
         pieces: PieceList::new(Vec::new(alloc)),
         foreign: ForeignList::new(Vec::new(alloc)),
     };
     let entry = Foreign {
-        grant: line_of_a(3),
+        grant: line_of_a(number),
         reason,
     };
     let source = PlainSource::new(&a, &b);
-    Ok(reason_holds(&source, &certificate, &entry, Skew::new(2000)?))
+    let transit = Transit::new(asked.transit)?;
+    Ok(reason_holds(&source, &certificate, &entry, Skew::new(2000)?, transit))
 }
 
 /// 2^48, the greatest moment that a certificate can name.
@@ -85,7 +109,7 @@ fn ends_before(rt: HostRuntime) -> Result<(), Fail> {
     ] {
         let journal = journal_of_a(alloc, valid, 3_600_000)?;
         let early = Reason::Early(chain(alloc, &[3])?);
-        assert_eq!(rt; holds(alloc, &journal, early, from, LAST)?, wanted);
+        assert_eq!(rt; holds(alloc, &journal, 3, early, from_on(from))?, wanted);
     }
     Ok(())
 }
@@ -97,7 +121,12 @@ fn begins_after(rt: HostRuntime) -> Result<(), Fail> {
     // 10000 less the skew of 2000.
     for (to, wanted) in [(8000, true), (8001, false)] {
         let late = Reason::Late(chain(alloc, &[3])?);
-        assert_eq!(rt; holds(alloc, &journal, late, 0, to)?, wanted);
+        let asked = Asked {
+            from: 0,
+            to,
+            transit: 0,
+        };
+        assert_eq!(rt; holds(alloc, &journal, 3, late, asked)?, wanted);
     }
     Ok(())
 }
@@ -112,7 +141,7 @@ fn is_given_back_before(rt: HostRuntime) -> Result<(), Fail> {
             order: Precedes::Chain(chain(alloc, &[3, 4])?),
             latest: chain(alloc, &[4])?,
         };
-        assert_eq!(rt; holds(alloc, &journal, released, from, LAST)?, wanted);
+        assert_eq!(rt; holds(alloc, &journal, 3, released, from_on(from))?, wanted);
     }
     // The grant by 12000 and the release from 12000 on may be one moment; from 12001 on they are not.
     for (given_back, wanted) in [(14_000, false), (14_001, true)] {
@@ -122,7 +151,93 @@ fn is_given_back_before(rt: HostRuntime) -> Result<(), Fail> {
             order: Precedes::Clock(chain(alloc, &[3])?, chain(alloc, &[4])?),
             latest: chain(alloc, &[4])?,
         };
-        assert_eq!(rt; holds(alloc, &journal, released, 22_000, LAST)?, wanted);
+        assert_eq!(rt;
+            holds(alloc, &journal, 3, released, from_on(22_000))?,
+            wanted
+        );
+    }
+    Ok(())
+}
+
+/// The interval from this moment on, with answers that come within 500 ms.
+fn in_transit(from: u64) -> Asked {
+    Asked {
+        from,
+        to: LAST,
+        transit: 500,
+    }
+}
+
+#[test]
+fn ends_later_where_it_began_later(rt: HostRuntime) -> Result<(), Fail> {
+    let alloc = rt.alloc();
+    let journal = journal_of_a(alloc, 100, 3_600_000)?;
+    for (from, wanted) in [(112_500, true), (112_499, false)] {
+        let early = Reason::Early(chain(alloc, &[3])?);
+        assert_eq!(rt; holds(alloc, &journal, 3, early, in_transit(from))?, wanted);
+    }
+    Ok(())
+}
+
+/// The primary's second volume: line 4 carries another client's lease up to 3610000 by the primary's clock.
+const SECOND_VOLUME: &str = "pd-journal 2 A 2
+1 1000000 open 2000 3600 3600
+2 1000000 pool 2001:0db8:0000:0000:0000:0000:0000:0000/48 56
+3 1000000 base 0 0 0 0 0
+4 1000000 carry 00030001020000000002 00000001 2001:0db8:0000:0000:0000:0000:0000:0000/56 3610000
+5 1000000 unit 2001:0db8:0000:0000:0000:0000:0000:0000/56 active 00030001020000000002 00000001 1 0 3614000 7210000 0 0 active -
+6 2000000 release 00030001020000000002 00000001 2001:0db8:0000:0000:0000:0000:0000:0000/56
+7 8000000 close
+end 7
+";
+
+#[test]
+fn ends_when_what_is_carried_ends(rt: HostRuntime) -> Result<(), Fail> {
+    let alloc = rt.alloc();
+    for (asked, wanted) in [
+        (from_on(3_611_999), false),
+        (from_on(3_612_000), true),
+        (in_transit(3_612_499), false),
+        (in_transit(3_612_500), true),
+    ] {
+        let early = Reason::Early(chain(alloc, &[4])?);
+        assert_eq!(rt; holds(alloc, SECOND_VOLUME, 4, early, asked)?, wanted);
+    }
+    // A chain from another line shows nothing of this one.
+    let other = Reason::Early(chain(alloc, &[5])?);
+    assert!(rt; !holds(alloc, SECOND_VOLUME, 4, other, from_on(LAST))?);
+    Ok(())
+}
+
+/// What is carried began before the volume, whatever its line's reading is.
+#[test]
+fn never_begins_after(rt: HostRuntime) -> Result<(), Fail> {
+    let alloc = rt.alloc();
+    for to in [0, 998_000] {
+        let late = Reason::Late(chain(alloc, &[4])?);
+        let asked = Asked {
+            from: 0,
+            to,
+            transit: 0,
+        };
+        assert!(rt; !holds(alloc, SECOND_VOLUME, 4, late, asked)?);
+    }
+    Ok(())
+}
+
+#[test]
+fn is_given_back_in_a_later_volume(rt: HostRuntime) -> Result<(), Fail> {
+    let alloc = rt.alloc();
+    for (from, wanted) in [(2_002_000, true), (2_001_999, false)] {
+        let released = Reason::Released {
+            release: line_of_a(6),
+            order: Precedes::Chain(chain(alloc, &[4, 6])?),
+            latest: chain(alloc, &[6])?,
+        };
+        assert_eq!(rt;
+            holds(alloc, SECOND_VOLUME, 4, released, from_on(from))?,
+            wanted
+        );
     }
     Ok(())
 }

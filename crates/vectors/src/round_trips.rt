@@ -3,13 +3,10 @@
 use crate::inputs::{
     AT_THE_PARTNER, EACH_KIND, END_TO_END, GIVEN_BACK, GIVEN_BACK_BY_ANOTHER, TAKEN_OTHERWISE,
 };
+use crate::three_texts::cut;
 use std::alloc::Global;
 use std::process::Abort;
 use std::test::Fail;
-
-const SECONDARY: &str = "pd-journal 1 B\n";
-
-const CERTIFICATE: &str = "pd-certificate 1\n";
 
 fn check_journal(rt: &impl Abort, alloc: Global, text: &str) -> Result<(), Fail> {
     let journal = journal_text::read(alloc, text.as_bytes())?;
@@ -25,25 +22,11 @@ fn check_certificate(rt: &impl Abort, alloc: Global, text: &str) -> Result<(), F
     Ok(())
 }
 
-/// The text with its head line before it again.
-fn with_head(alloc: Global, head: &str, text: &str) -> Result<String, Fail> {
-    let mut whole = String::from_str(alloc, head)?;
-    whole.push_str(text)?;
-    Ok(whole)
-}
-
 fn check_input(rt: &impl Abort, alloc: Global, input: &str) -> Result<(), Fail> {
-    let Some((primary, others)) = input.split_once(SECONDARY) else {
-        panic!(rt; "no second journal");
-    };
-    let Some((secondary, claim)) = others.split_once(CERTIFICATE) else {
-        panic!(rt; "no certificate");
-    };
-    check_journal(rt, alloc, primary)?;
-    let secondary = with_head(alloc, SECONDARY, secondary)?;
-    check_journal(rt, alloc, secondary.as_str())?;
-    let claim = with_head(alloc, CERTIFICATE, claim)?;
-    check_certificate(rt, alloc, claim.as_str())
+    let texts = cut(alloc, input)?;
+    check_journal(rt, alloc, texts.primary.as_str())?;
+    check_journal(rt, alloc, texts.secondary.as_str())?;
+    check_certificate(rt, alloc, texts.certificate.as_str())
 }
 
 #[test]

@@ -2,6 +2,7 @@
 
 use attribution::{Verdict, verdict_line};
 use binding_rules::Role;
+use book_rules::Rule;
 use causal_order::Ref;
 use claims::CertificateFault;
 use journal_lines::JournalFault;
@@ -14,7 +15,7 @@ fn says_verdicts(rt: HostRuntime) -> Result<(), Fail> {
         number: 3,
     };
     let b = Role::Secondary;
-    let cases: [(Verdict, &[u8]); 16] = [
+    let cases: [(Verdict, &[u8]); 18] = [
         (Verdict::Accepted, b"accepted\n"),
         (
             Verdict::Journal(b, JournalFault::Head),
@@ -48,10 +49,15 @@ fn says_verdicts(rt: HostRuntime) -> Result<(), Fail> {
             Verdict::Certificate(CertificateFault::End),
             b"refused C3 End\n",
         ),
+        (
+            Verdict::Rule(b, 12, Rule::Seize),
+            b"refused L1 Rule B12 20\n",
+        ),
         (Verdict::EmptyInterval, b"refused C4 EmptyInterval\n"),
         (Verdict::PastEnd(b), b"refused C5 PastEnd B\n"),
         (Verdict::PieceGap(1), b"refused C6 PieceGap 1\n"),
         (Verdict::PieceGrant(2), b"refused C7 PieceGrant 2\n"),
+        (Verdict::BeforeOpen, b"refused C11 BeforeOpen\n"),
         (
             Verdict::PieceRelease(1, at),
             b"refused C8 PieceRelease 1 A3\n",

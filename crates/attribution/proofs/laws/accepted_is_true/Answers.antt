@@ -1,7 +1,7 @@
-use Rattle.attribution.specs.Legal.{IsLegal}
-use Rattle.attribution.proofs.Runs.{headline}
-use Rattle.attribution.proofs.Serials.{legal_once}
+use Rattle.book_rules.specs.NextHead.{IsLegal}
+use Rattle.attribution.proofs.Lawful.{lawful}
+use Rattle.attribution.proofs.Headline.{headline}
 use Rattle.attribution.proofs.laws.accepted_is_true.Goals as goal
 
 pub returns : goal.returns
-returns c = headline IsLegal legal_once
+returns c = headline IsLegal lawful

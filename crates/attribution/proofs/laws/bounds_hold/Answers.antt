@@ -1,7 +1,7 @@
-use Rattle.attribution.specs.Legal.{IsLegal}
-use Rattle.attribution.proofs.Runs.{bounds_hold}
-use Rattle.attribution.proofs.Serials.{legal_once}
+use Rattle.book_rules.specs.NextHead.{IsLegal}
+use Rattle.attribution.proofs.Lawful.{lawful}
+use Rattle.attribution.proofs.Headline.{bounds_hold}
 use Rattle.attribution.proofs.laws.bounds_hold.Goals as goal
 
 pub returns : goal.returns
-returns c = bounds_hold IsLegal legal_once
+returns c = bounds_hold IsLegal lawful

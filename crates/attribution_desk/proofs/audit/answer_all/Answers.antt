@@ -5,5 +5,5 @@ use Rattle.attribution_desk.proofs.audit.answer_all.Goals as goal
 
 pub returns : goal.returns
 returns g c =
-    written c.args.skew _ _ _ c.in_ok-answer.answer.line.items c.in_ok-answer.answer.status c.in_ok-answer.ensures
+    written c.args.skew c.args.transit _ _ _ c.in_ok-answer.answer.line.items c.in_ok-answer.answer.status c.in_ok-answer.ensures
     (subst (Appends (g.W.Write.contents c.args.writer.now) (g.W.Write.contents c.write_out.new.writer)) c.deref.ensures.value c.in_ok-write_out.ensures)

@@ -13,7 +13,7 @@ pub returns-then-count-eq0 : goal.returns-then-count-eq0
 returns-then-count-eq0 g c =
     let room : 0 < length c.read.new.buf = omega arith in
     let all = all_read _ _ _ _ _ _ c.loop.invariant.2 c.in-Ok.ensures.bytes.0 c.if-count-eq0.true (c.in-Ok.ensures.bytes.1 c.if-count-eq0.true room) in
-    answered _ _ _ _ _ all c.loop.invariant.1 c.answer.ensures.answer
+    answered _ _ _ _ _ _ all c.loop.invariant.1 c.answer.ensures.answer
 
 pub loop-preserved : goal.loop-preserved
 loop-preserved g c = (c.loop.invariant.0 ++ _, c.in_ok-intake.ensures.taken _ c.loop.invariant.1, Consumes-trans _ _ _ _ _ c.loop.invariant.2 c.in-Ok.ensures.bytes.0)

@@ -14,4 +14,4 @@ loop-index-preserved g c = elim c.if-comes_first.branch [
 ]
 
 pub returns : goal.returns
-returns g c = least_cutting_found _ c.args.skew c.args.piece.now c.args.lease.now _ c.overlap_count-count.ensures.exact c.overlaps_itself.ensures _ c.loop-index.least (omega arith) c.loop-index.invariant
+returns g c = least_cutting_found _ c.args.skew c.args.piece.now c.args.delegation.now _ c.overlap_count-count.ensures.exact c.overlaps_itself.ensures _ c.loop-index.least (omega arith) c.loop-index.invariant

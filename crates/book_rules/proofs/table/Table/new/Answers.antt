@@ -17,4 +17,4 @@ invariant_of-result c = record {
 pub returns : goal.returns
 returns c =
     let units : unit_at (record { pools = []; units = [] }) ≡ (λ (p : Prefix). fresh) = fun_ext none_changed in
-    rw (c.volume_number.ensures, c.no_skew.ensures, c.first_reading.ensures, c.first_reading-2.ensures, c.new.ensures, units) refl
+    rw (c.volume.ensures, c.no_skew.ensures, c.first_reading.ensures, c.first_reading-2.ensures, c.new.ensures, units) refl

@@ -1,0 +1,48 @@
+//! Which words are commands.
+
+use attribution_desk::{Command, UsageError, command_of};
+use lead_time::{Skew, Transit};
+use std::alloc::{AllocError, Global};
+use std::test::Fail;
+
+fn command(alloc: Global, words: &[&str]) -> Result<Result<Command, UsageError>, AllocError> {
+    let mut owned = Vec::new(alloc);
+    for word in words {
+        owned.push(String::from_str(alloc, word)?)?;
+    }
+    Ok(command_of(alloc, &owned))
+}
+
+#[test]
+fn finds_commands(rt: HostRuntime) -> Result<(), Fail> {
+    let audit = Command::Audit {
+        skew: Skew::new(2000)?,
+        transit: Transit::ZERO,
+    };
+    let found = command(rt.alloc(), &["desk_cli", "audit", "--skew-ms", "2000"])?;
+    assert_eq!(rt; found, Ok(audit));
+    let longest = Command::Audit {
+        skew: Skew::new(2000)?,
+        transit: Transit::new(3_600_000)?,
+    };
+    let words = ["desk_cli", "audit", "--transit-ms", "3600000", "--skew-ms", "2000"];
+    assert_eq!(rt; command(rt.alloc(), &words)?, Ok(longest));
+    let others: [&[&str]; 12] = [
+        &["desk_cli"],
+        &["desk_cli", "audit"],
+        &["desk_cli", "audit", "--skew-ms", "02000"],
+        &["desk_cli", "audit", "--skew-ms", "+2000"],
+        &["desk_cli", "audit", "--skew-ms", "86400001"],
+        &["desk_cli", "audit", "--transit-ms", "500"],
+        &["desk_cli", "audit", "--skew-ms", "2000", "--transit-ms"],
+        &["desk_cli", "audit", "--skew-ms", "2000", "--transit-ms", "3600001"],
+        &["desk_cli", "audit", "--skew-ms", "2000", "--transit-ms", "1e3"],
+        &["desk_cli", "audit", "--skew-ms", "2000", "more"],
+        &["desk_cli", "audit", "--help"],
+        &["desk_cli", "judge", "--skew-ms", "2000"],
+    ];
+    for words in others {
+        assert_eq!(rt; command(rt.alloc(), words)?, Err(UsageError::Usage));
+    }
+    Ok(())
+}
