@@ -1,9 +1,7 @@
 -- The verdict accepts exactly what is accepted, and there is no second one.
 use Rattle.std.specs.Prelude.{◌≡◌, ◌≢◌, ℕ, ◌<◌, ◌≤◌, ◌⊎◌, List, [], ◌∷◌, Some, slice_get, length, All, slice_index_or}
 use Rattle.std.proofs.Common.{zero, suc, arith, ap, subst, inl, inr, refl}
-use Rattle.std.proofs.lemmas.Bool.{cases_lt}
 use Rattle.std.proofs.lemmas.Option.{slice_get_within, get_or_from_slice_get, slice_get-get_or}
-use Rattle.binding_rules.specs.declared.role.Role.{Role}
 use Rattle.binding_rules.specs.declared.role.Role.TheVariants.{Primary, Secondary}
 use Rattle.journal_lines.specs.declared.event.Lease.{Lease}
 use Rattle.claims.specs.declared.reference.Ref.{Ref}
@@ -17,7 +15,9 @@ use Rattle.attribution.specs.declared.condition.Condition.TheVariants.{Moment, S
 use Rattle.attribution.specs.declared.verdict.Verdict.{Verdict}
 use Rattle.attribution.specs.declared.verdict.Verdict.TheVariants.{Accepted}
 use Rattle.attribution.specs.Acceptance.{Grants, IsGranted, IsDischarged, Reaches, ReasonHolds, Tile, IsAccepted}
-use Rattle.attribution.specs.FirstRefusal.{ComesBefore, IsLeast, IsFirstNot, begin_at, IsTiled, CutsShort, IsUncovered, IsMet, Refuses, IsVerdictBy, IsVerdict, AcceptsTheAccepted, OneVerdict}
+use Rattle.causal_order.specs.LineOrder.{IsLeast}
+use Rattle.causal_order.proofs.LineOrder.{order_cases, one_least}
+use Rattle.attribution.specs.FirstRefusal.{IsFirstNot, begin_at, IsTiled, CutsShort, IsUncovered, IsMet, Refuses, IsVerdictBy, IsVerdict, AcceptsTheAccepted, OneVerdict}
 
 -- a reference names one line, so it grants one lease
 pub one_lease : (js : Journals) (r : Ref) (g h : Lease) → Grants js r g → Grants js r h → g ≡ h
@@ -129,27 +129,6 @@ pub accepts_the_accepted : AcceptsTheAccepted
 accepts_the_accepted js skew transit c = (accepted_from js skew transit c, verdict_from js skew transit c)
 
 -- What comes first comes first once.
-order_cases : (m n : ℕ) → (m < n) ⊎ ((m ≡ n) ⊎ (n < m))
-order_cases m n = elim (cases_lt m n) [ inl a ↦ inl a | inr a ↦ elim (cases_lt n m) [ inl b ↦ inr (inr b) | inr b ↦ inr (inl (omega arith)) ] ]
-
-pub ref_is : (r s : Ref) → r.side ≡ s.side → r.number ≡ s.number → r ≡ s
-ref_is r s a b = subst (λ (x : Role). r ≡ record { side = x; number = s.number }) a (subst (λ (n : ℕ). r ≡ record { side = r.side; number = n }) b refl)
-
-abbrev pub ref_of : Role → ℕ → Ref
-ref_of side n = record { side = side; number = n }
-
-ref_cases_by : (x y : Role) (m n : ℕ) → ComesBefore (ref_of x m) (ref_of y n) ⊎ ((ref_of x m ≡ ref_of y n) ⊎ ComesBefore (ref_of y n) (ref_of x m))
-ref_cases_by Primary Primary m n = elim (order_cases m n) [ inl h ↦ inl h | inr h ↦ elim h [ inl e ↦ inr (inl (ap (ref_of Primary) e)) | inr g ↦ inr (inr g) ] ]
-ref_cases_by Secondary Secondary m n = elim (order_cases m n) [ inl h ↦ inl h | inr h ↦ elim h [ inl e ↦ inr (inl (ap (ref_of Secondary) e)) | inr g ↦ inr (inr g) ] ]
-ref_cases_by Primary Secondary m n = inl (omega arith)
-ref_cases_by Secondary Primary m n = inr (inr (omega arith))
-
-pub ref_cases : (r s : Ref) → ComesBefore r s ⊎ ((r ≡ s) ⊎ ComesBefore s r)
-ref_cases r s = ref_cases_by r.side s.side r.number s.number
-
-one_least : (P : Ref → Type 0) (r s : Ref) → IsLeast P r → IsLeast P s → r ≡ s
-one_least P r s a b = elim (ref_cases r s) [ inl h ↦ absurd (b.1 r h a.0) | inr h ↦ elim h [ inl e ↦ e | inr g ↦ absurd (a.1 s g b.0) ] ]
-
 one_first : {X : Type 0} (P : X → Type 0) (xs : List X) (j k : ℕ) (x y : X) → IsFirstNot P xs j x → IsFirstNot P xs k y → (j ≡ k) × (x ≡ y)
 one_first P xs j k x y a b = elim (order_cases j k) [
   | inl h ↦ absurd (a.1 (b.2 j x h a.0))

@@ -1,11 +1,10 @@
 -- What the auditor answers: that it accepts, or the refusal of the first condition that isn't met, C4 to C11, with the
 -- number or line that it names.
 use Rattle.std.specs.Prelude.{◌≡◌, ℕ, ◌+◌, ◌<◌, ◌≤◌, ◌⊎◌, List, [], ◌∷◌, length, slice_get, Some, All, zero, suc}
-use Rattle.binding_rules.specs.declared.role.Role.{Role}
-use Rattle.binding_rules.specs.declared.role.Role.TheVariants.{Primary, Secondary}
 use Rattle.journal_lines.specs.declared.event.Lease.{Lease}
 use Rattle.claims.specs.declared.reference.Ref.{Ref}
 use Rattle.causal_order.specs.Journals.{Journals}
+use Rattle.causal_order.specs.LineOrder.{IsLeast}
 use Rattle.claims.specs.declared.certificate.Certificate.{Certificate}
 use Rattle.claims.specs.declared.certificate.Piece.{Piece}
 use Rattle.claims.specs.declared.certificate.Foreign.{Foreign}
@@ -21,18 +20,6 @@ use Rattle.attribution.specs.declared.delegation.Delegation.{Delegation}
 use Rattle.attribution.specs.Delegation.{of_lease}
 use Rattle.attribution.specs.Acceptance.{Grants, GivesBack, IsGranted, Discharges, IsDischarged, IsPastOpen, IsForeign}
 use Rattle.attribution.specs.Acceptance.{IsNamed, IsCovered, ReasonHolds, Reaches, IsAccepted}
-
--- lines are ordered A before B, and then by number
-abbrev pub ComesBefore : Ref → Ref → Type 0
-ComesBefore r s = ordered r.side s.side where
-  ordered : Role → Role → Type 0
-  ordered Primary Secondary = 0 ≤ 0
-  ordered Secondary Primary = ⊥
-  ordered _ _ = r.number < s.number
-
--- the least of the lines of which P holds
-abbrev pub IsLeast : (Ref → Type 0) → Ref → Type 0
-IsLeast P r = P r × ((s : Ref) → ComesBefore s r → P s → ⊥)
 
 -- P holds of each item before index k
 abbrev pub HoldsBefore : {X : Type 0} → (X → Type 0) → List X → ℕ → Type 0

@@ -9,9 +9,10 @@ use Rattle.claims.specs.declared.fault.CertificateFault.{CertificateFault}
 use Rattle.claims.specs.declared.fault.CertificateFault.TheVariants.{Head as NoHead, Form as NoForm, End as NoEnd}
 use Rattle.book_rules.specs.Rules.{rule_number}
 use Rattle.attribution.specs.declared.verdict.Verdict.{Verdict}
-use Rattle.attribution.specs.declared.verdict.Verdict.TheVariants.{Accepted, Journal, Certificate, Rule, EmptyInterval}
-use Rattle.attribution.specs.declared.verdict.Verdict.TheVariants.{PastEnd, PieceGap, PieceGrant, BeforeOpen}
-use Rattle.attribution.specs.declared.verdict.Verdict.TheVariants.{PieceRelease, Uncovered, Reason}
+use Rattle.attribution.specs.declared.verdict.Verdict.TheVariants.{Accepted, Journal, Certificate, Rule, Unsent}
+use Rattle.attribution.specs.declared.verdict.Verdict.TheVariants.{Differs, Circular, EmptyInterval, PastEnd, PieceGap}
+use Rattle.attribution.specs.declared.verdict.Verdict.TheVariants.{PieceGrant, BeforeOpen, PieceRelease, Uncovered}
+use Rattle.attribution.specs.declared.verdict.Verdict.TheVariants.{Reason}
 
 -- the primary is side A
 abbrev pub side_text : Role → List ℕ
@@ -40,6 +41,9 @@ verdict_text (Journal side fault) = codes "refused " ++ journal_refusal side fau
 verdict_text (Certificate fault) = codes "refused " ++ certificate_refusal fault
 verdict_text (Rule side line rule) =
     codes "refused L1 Rule " ++ place_text side line ++ codes " " ++ decimal (rule_number rule)
+verdict_text (Unsent r) = codes "refused X1 Unsent " ++ place_text r.side r.number
+verdict_text (Differs r) = codes "refused X2 Differs " ++ place_text r.side r.number
+verdict_text Circular = codes "refused X3 Circular"
 verdict_text EmptyInterval = codes "refused C4 EmptyInterval"
 verdict_text (PastEnd side) = codes "refused C5 PastEnd " ++ side_text side
 verdict_text (PieceGap n) = codes "refused C6 PieceGap " ++ decimal n

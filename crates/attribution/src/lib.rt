@@ -27,4 +27,4 @@ pub use laws::{
     listed_is_enough, pieces_meet_every_moment, tests_decide, verdict_is_one,
 };
 pub use verdict::Verdict;
-pub use verdict_text::verdict_line;
+pub use verdict_text::{push_place, verdict_line};

@@ -18,6 +18,12 @@ pub enum Verdict {
     Certificate(CertificateFault),
     /// This side's journal breaks a rule: its first line that does, and the least rule that this line breaks.
     Rule(Role, u32, Rule),
+    /// The least line that takes a message which the other journal never sends, A's before B's.
+    Unsent(Ref),
+    /// The least line that takes a message which the other journal sends with another term or body, A's before B's.
+    Differs(Ref),
+    /// The messages form a circle: each order of both journals' lines has a take before its send.
+    Circular,
     /// The interval has no moment.
     EmptyInterval,
     /// The interval ends later than this side's journal shows.

@@ -21,8 +21,8 @@ fn push_side(out: &mut Vec<u8>, side: Role) -> Result<(), AllocError>
     }
 }
 
-/// A side and the number of a line, as `A3`.
-fn push_place(out: &mut Vec<u8>, side: Role, number: u32) -> Result<(), AllocError>
+/// Appends a side and the number of a line, as `A3`. `AllocError` where a growth was refused.
+pub fn push_place(out: &mut Vec<u8>, side: Role, number: u32) -> Result<(), AllocError>
     ensures { OnOk result (out.new.items ≡ out.old.items ++ place_text side number) }
 {
     push_side(out, side)?;
@@ -96,6 +96,9 @@ fn push_verdict(out: &mut Vec<u8>, verdict: &Verdict) -> Result<(), AllocError>
             push_of_line(out, b"refused L1 Rule ", *side, *line)?;
             push_counted(out, b" ", u64::from(rule.number()))
         }
+        Verdict::Unsent(at) => push_of_line(out, b"refused X1 Unsent ", at.side, at.number),
+        Verdict::Differs(at) => push_of_line(out, b"refused X2 Differs ", at.side, at.number),
+        Verdict::Circular => out.extend_from_slice(b"refused X3 Circular"),
         Verdict::EmptyInterval => out.extend_from_slice(b"refused C4 EmptyInterval"),
         Verdict::PastEnd(side) => push_of_side(out, b"refused C5 PastEnd ", *side),
         Verdict::PieceGap(number) => push_counted(out, b"refused C6 PieceGap ", *number),

@@ -1,29 +1,27 @@
 -- What is known of a reader that was read to its end.
-use Rattle.std.proofs.Common.{◌≡◌, ℕ, List, [], ◌++◌, take, Option, Some, None, Result, Ok, Err, refl, sym, ap, subst, ◌∙◌, append-nil}
-use Rattle.std.specs.Prelude.{IfOk, IfSome}
-use Rattle.std.specs.Io.KnownBytes.{Appends, Consumes, IsAtEnd}
-use Rattle.std.proofs.KnownBytes.{Consumes-trans, Consumes-all}
-use Rattle.attribution_desk.specs.declared.answer.Answer.{Answer}
+use Rattle.std.proofs.Common.{◌≡◌, ℕ, List, Option, Some, None, Result, Ok, Err, sym, subst}
+use Rattle.std.specs.Prelude.{IfSome, IfOk}
+use Rattle.binding_rules.specs.declared.role.Role.TheVariants.{Primary, Secondary}
+use Rattle.journal_lines.specs.declared.fault.JournalFault.{JournalFault}
+use Rattle.journal_lines.specs.declared.line.Journal.{Journal}
+use Rattle.journal_text.specs.Faults.{journal_of_side}
 use Rattle.attribution_desk.specs.declared.error.DeskError.{DeskError}
-use Rattle.attribution_desk.specs.declared.intake.Intake.{Intake}
-use Rattle.attribution_desk.specs.Answer.{IsAnswer, IsAnswered}
-use Rattle.attribution_desk.specs.Intake.{HasTaken}
+use Rattle.attribution_desk.specs.Answer.{first_text, text_behind}
+use Rattle.attribution_desk.specs.Timeline.{IsTimelineOf, IsTimeline}
+use Rattle.attribution_desk.specs.Telling.{Tells}
+use Rattle.std.specs.Io.KnownBytes.{Appends}
+use Rattle.attribution_desk.specs.Running.{IsWritten}
 
--- a last read that gives nothing has left nothing
-pub all_read : (first last left : Option (List ℕ)) (input buffer : List ℕ) (count : ℕ) → Consumes first last input → Consumes last left (take count buffer) → count ≡ 0 → IsAtEnd left → IfSome first (λ octets. octets ≡ input)
-all_read None last left input buffer count p q none end = tt
-all_read (Some octets) last left input buffer count p q none end =
-    let nothing = subst (Consumes last left) (ap (λ n. take n buffer) none) q in
-    let all = Consumes-all (Some octets) left (input ++ []) [] (input ++ []) (Consumes-trans (Some octets) last left input [] p nothing) end refl in
-    sym all ∙ append-nil input
+-- what was written is the answer to all that the reader had to give
+pub written : (answers : List ℕ → List ℕ → ℕ → Type 0) (given held now : Option (List ℕ)) (input text : List ℕ) (status : ℕ) → IfSome given (λ all. all ≡ input) → answers input text status → Appends held now text → IsWritten answers given held now status
+written answers None held now input text status is answer appended = tt
+written answers (Some all) held now input text status is answer appended = (text, subst (λ i. answers i text status) (sym is) answer, appended)
 
-pub answered : (known : Option (List ℕ)) (input : List ℕ) (skew transit : ℕ) (intake : Intake) (r : Result Answer DeskError) → IfSome known (λ octets. octets ≡ input) → HasTaken intake input
-    → IfOk r (λ answer. (taken : List ℕ) → HasTaken intake taken → IsAnswer taken skew transit answer.line.items answer.status)
-    → IfOk r (λ answer. IfSome known (λ octets. IsAnswer octets skew transit answer.line.items answer.status))
-answered known input skew transit intake (Err e) is taken h = tt
-answered None input skew transit intake (Ok answer) is taken h = tt
-answered (Some octets) input skew transit intake (Ok answer) is taken h = subst (λ i. IsAnswer i skew transit answer.line.items answer.status) (sym is) (h input taken)
+-- the timeline of what the texts of an input are
+pub timeline_of : (input : List ℕ) (a b : Result Journal JournalFault) (text : List ℕ) (status : ℕ) → a ≡ journal_of_side Primary (first_text input) → b ≡ journal_of_side Secondary (text_behind input) → IsTimelineOf a b text status → IsTimeline input text status
+timeline_of input a b text status ea eb h = subst (λ x. IsTimelineOf (journal_of_side Primary (first_text input)) x text status) eb (subst (λ x. IsTimelineOf x b text status) ea h)
 
-pub written : (skew transit : ℕ) (known held now : Option (List ℕ)) (line : List ℕ) (status : ℕ) → IfSome known (λ octets. IsAnswer octets skew transit line status) → Appends held now line → IsAnswered skew transit known held now status
-written skew transit None held now line status answer appended = tt
-written skew transit (Some octets) held now line status answer appended = (line, answer, appended)
+pub timeline_written : (given held now : Option (List ℕ)) (input : List ℕ) (a b : Result Journal JournalFault) (r : Result ℕ DeskError) → IfSome given (λ all. all ≡ input) → a ≡ journal_of_side Primary (first_text input) → b ≡ journal_of_side Secondary (text_behind input)
+    → IfOk r (Tells (IsTimelineOf a b) held now) → IfOk r (IsWritten IsTimeline given held now)
+timeline_written given held now input a b (Err e) is ea eb h = tt
+timeline_written given held now input a b (Ok status) is ea eb (text, of, appended) = written IsTimeline given held now input text status is (timeline_of input a b text status ea eb of) appended

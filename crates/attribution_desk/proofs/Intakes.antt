@@ -1,5 +1,5 @@
 -- What the intakes have taken.
-use Rattle.std.proofs.Common.{◌≡◌, ℕ, Some, None, List, [], ◌++◌, length, take, drop, Result, Ok, sym, ap, subst, ◌∙◌, append_assoc}
+use Rattle.std.proofs.Common.{◌≡◌, ◌<◌, ◌^◌, arith, ℕ, Some, None, List, [], ◌++◌, length, take, drop, Result, Ok, sym, ap, subst, ◌∙◌, append_assoc}
 use Rattle.std.specs.declared.vec.Vec.{Vec}
 use Rattle.std.specs.declared.alloc.Global.{Global}
 use Rattle.std.proofs.lemmas.List.{take-append-drop, take-append-le, drop-append-le}
@@ -13,10 +13,11 @@ use Rattle.journal_text.specs.Progress.{HasTaken as HasParsed}
 use Rattle.journal_text.specs.Closed.{IsClosed}
 use Rattle.journal_text.specs.Laws.{SideGivesWhatItSpells, WrittenIsClosed}
 use Rattle.attribution_desk.specs.declared.intake.Intake.{Intake}
+use Rattle.attribution_desk.specs.declared.pair_intake.PairIntake.{PairIntake}
 use Rattle.attribution_desk.specs.declared.journal_intake.JournalIntake.{JournalIntake}
 use Rattle.attribution_desk.specs.Input.{text_length}
 use Rattle.attribution_desk.specs.Answer.{first_text, text_behind}
-use Rattle.attribution_desk.specs.Intake.{IsWhole, HasEnded, GoesOn, HasTakenFirst, HasTaken}
+use Rattle.attribution_desk.specs.Intake.{IsWhole, HasEnded, GoesOn, HasTakenFirst, HasTaken, HasTakenPair}
 use Rattle.attribution_desk.proofs.Lines.{text_within}
 use Rattle.attribution_desk.proofs.EndLines.{all_of}
 
@@ -103,7 +104,10 @@ module _ (side : Role) (old : JournalIntake) (chunk input : List ℕ) (h : HasTa
           stands = rw over (whole_ended (input ++ take count chunk) (drop count chunk) (whole input goes));
         })
 
--- a journal that parsing gives is closed
+-- a journal that parsing gives is written so, closed and of no more lines than a journal may have
+pub parsed_few : SideGivesWhatItSpells → (side : Role) (text : List ℕ) (r : Result Journal JournalFault) → r ≡ journal_of_side side text → (j : Journal) → r ≡ Ok j → length j.lines < 2 ^ 32
+parsed_few spelled side text r is j e = let few = ((spelled side text j).0 (sym is ∙ e)).0.few in omega (arith, few)
+
 pub parsed_closed : SideGivesWhatItSpells → WrittenIsClosed → (side : Role) (text : List ℕ) (r : Result Journal JournalFault) → r ≡ journal_of_side side text → (j : Journal) → r ≡ Ok j → IsClosed j.lines
 parsed_closed spelled closed side text r is j e = closed j ((spelled side text j).0 (sym is ∙ e)).0
 
@@ -122,3 +126,14 @@ module _ (old new : Intake) (chunk : List ℕ) (first second : ℕ)
         secondary = subst (HasTakenFirst Secondary new.secondary) (sym later) (secondary Secondary (text_behind input) h.secondary);
         certificate = certificate ∙ (ap (λ t. t ++ drop second (drop first chunk)) h.certificate ∙ (sym (rest Secondary (text_behind input) h.secondary) ∙ ap text_behind (sym later)));
       }
+
+-- the same for two texts, the second of which is all that follows
+module _ (old new : PairIntake) (chunk : List ℕ) (first : ℕ)
+    (primary : (side : Role) (input : List ℕ) → HasTakenFirst side old.primary input → HasTakenFirst side new.primary (input ++ chunk))
+    (behind : (side : Role) (input : List ℕ) → HasTakenFirst side old.primary input → text_behind (input ++ chunk) ≡ text_behind input ++ drop first chunk)
+    (secondary : (parsed : List ℕ → Result Journal JournalFault) (text : List ℕ) → HasParsed parsed old.secondary text → HasParsed parsed new.secondary (text ++ drop first chunk)) where
+  pub pair_taken : (input : List ℕ) → HasTakenPair old input → HasTakenPair new (input ++ chunk)
+  pair_taken input h = record {
+    primary = primary Primary input h.primary;
+    secondary = subst (HasParsed (journal_of_side Secondary) new.secondary) (sym (behind Primary input h.primary)) (secondary (journal_of_side Secondary) (text_behind input) h.secondary);
+  }

@@ -1,8 +1,7 @@
 -- The number that a text spells, up to a limit.
-use Rattle.std.proofs.Common.{◌≡◌, ◌≢◌, ◌<◌, ◌≤◌, ◌∙◌, refl, sym, ℕ, ◌^◌, Bool, true, false, not, List, Option, Some, None, ap, arith}
+use Rattle.std.proofs.Common.{◌≡◌, ◌≢◌, ◌<◌, ◌∙◌, refl, sym, ℕ, ◌^◌, Bool, true, false, not, List, Option, Some, None, ap, arith}
 use Rattle.std.specs.Option.{is_some, option_map}
 use Rattle.clap.specs.Words.{Text}
-use Rattle.std.specs.Fmt.{decimal}
 use Rattle.text_fields.specs.Number.{number_of}
 use Rattle.text_fields.proofs.NumberLaws.{number_again}
 use Rattle.attribution_desk.specs.Given.{IsNumber, IsNumberOrNone}

@@ -1,6 +1,5 @@
 -- What the desk answers to an input.
-use Rattle.std.specs.Prelude.{◌≡◌, ℕ, List, take, drop, Option, IfSome}
-use Rattle.std.specs.Io.KnownBytes.{Appends}
+use Rattle.std.specs.Prelude.{◌≡◌, ℕ, List, take, drop}
 use Rattle.attribution.specs.declared.verdict.Verdict.{Verdict}
 use Rattle.attribution.specs.declared.verdict.Verdict.TheVariants.{Accepted}
 use Rattle.attribution.specs.VerdictText.{verdict_line}
@@ -25,8 +24,3 @@ IsAnswer input skew transit line status =
     × IsVerdictOfTexts (first_text input) (first_text (text_behind input)) (text_behind (text_behind input))
         skew transit v
     × (line ≡ verdict_line v) × (status ≡ status_of v)
-
--- where it is known what the reader had to give, the answer to all of that was written, behind what the writer held
-abbrev pub IsAnswered : (skew transit : ℕ) → Option (List ℕ) → Option (List ℕ) → Option (List ℕ) → ℕ → Type 0
-IsAnswered skew transit input held written status =
-    IfSome input (λ octets. (line : List ℕ) × IsAnswer octets skew transit line status × Appends held written line)

@@ -3,7 +3,7 @@ use Rattle.std.specs.Prelude.{◌≡◌, ℕ, ◌≤◌, List, Option, Some, Non
 use Rattle.std.specs.Fmt.{decimal}
 use Rattle.clap.specs.Words.{Row, Text, first_of}
 use Rattle.attribution_desk.specs.declared.command.Command.{Command}
-use Rattle.attribution_desk.specs.declared.command.Command.TheVariants.{Audit}
+use Rattle.attribution_desk.specs.declared.command.Command.TheVariants.{Audit, Timeline}
 
 -- the text is this number's, in decimal digits, which is at most so much
 abbrev pub IsNumber : (most : ℕ) → Option Text → ℕ → Type 0
@@ -29,6 +29,7 @@ IsGiven None command = ⊥
 IsGiven (Some found) (Audit skew transit) =
     (found.0 ≡ codes "audit") × IsSkew (first_of (codes "skew-ms") found.1) skew
     × IsTransit (first_of (codes "transit-ms") found.1) transit
+IsGiven (Some found) Timeline = found.0 ≡ codes "timeline"
 
 -- they are those of no command
 abbrev pub IsNoCommand : Option (Text × List Row) → Type 0

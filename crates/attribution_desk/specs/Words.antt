@@ -20,4 +20,4 @@ bare = record {
 }
 
 abbrev pub desk : App
-desk = with_subcommand bare audit_app.top
+desk = with_subcommand (with_subcommand bare audit_app.top) (new_app (codes "timeline")).top

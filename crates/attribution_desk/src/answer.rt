@@ -11,9 +11,9 @@ use std::alloc::Global;
 /// What is written, and the status that goes with it.
 #[derive(Debug, Drop)]
 pub struct Answer {
-    /// One line with its line feed.
+    /// One line with its line feed, or a timeline.
     pub line: Vec<u8>,
-    /// 0 where the verdict is `accepted`, else 1.
+    /// 0 where the verdict is `accepted`, or for a timeline, else 1.
     pub status: u8,
 }
 

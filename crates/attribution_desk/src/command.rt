@@ -20,6 +20,8 @@ pub enum Command {
     /// Judge one certificate over two journals, with clocks within this skew of true time and answers that reach
     /// their clients within this transit.
     Audit { skew: Skew, transit: Transit },
+    /// Print the lines of two journals in one order.
+    Timeline,
 }
 
 fn number_option<'a>(alloc: Global, name: &'a str, required: bool) -> Arg<'a>
@@ -49,7 +51,8 @@ fn desk_command<'a>(alloc: Global) -> Result<ClapCommand<'a>, AllocError>
     ClapCommand::new(alloc, "desk_cli")
         .subcommand_required(true)
         .disable_help_subcommand(true)
-        .subcommand(audit)
+        .subcommand(audit)?
+        .subcommand(ClapCommand::new(alloc, "timeline"))
 }
 
 fn usage_error(error: ClapError) -> UsageError
@@ -100,10 +103,12 @@ fn command_in(matches: &ArgMatches) -> Option<Command>
     ensures none { result ≡ None → IsNoCommand (subcommand_rows_of matches.now) }
 {
     let (name, options) = matches.subcommand()?;
-    let skew = skew_given(options)?;
-    let transit = transit_given(options)?;
     if name == "audit" {
+        let skew = skew_given(options)?;
+        let transit = transit_given(options)?;
         Some(Command::Audit { skew, transit })
+    } else if name == "timeline" {
+        Some(Command::Timeline)
     } else {
         None
     }

@@ -1,12 +1,13 @@
 //! Standard input in chunks.
 
-ghost use Rattle.std.specs.Prelude.{◌≡◌, ℕ, List, [], ◌++◌, IfOk, IfErr};
+ghost use Rattle.std.specs.Prelude.{◌≡◌, ℕ, List, [], IfOk, IfErr};
 ghost use Rattle.attribution_desk.specs.Answer.{IsAnswer};
 ghost use Rattle.attribution_desk.specs.Intake.{HasTaken};
 
 use crate::answer::Answer;
 use crate::error::DeskError;
 use crate::journal_intake::JournalIntake;
+use crate::taking::Taking;
 use auditor::{AuditError, audit_read};
 use binding_rules::Role;
 use journal_text::{text_gives_what_it_spells, written_is_closed};
@@ -34,21 +35,6 @@ impl Intake {
         }
     }
 
-    /// Takes the next chunk of the input, which may end anywhere. A journal's fault is kept, and what follows is
-    /// still taken. `Memory` where a growth was refused.
-    pub(crate) fn feed(self, chunk: &[u8]) -> Result<Intake, DeskError>
-        ensures taken { IfOk result
-            (λ intake. (input : List ℕ) → HasTaken self input → HasTaken intake (input ++ chunk.now)) }
-        ensures refused { IfErr result (λ e. e ≡ DeskError.Memory) }
-    {
-        let mut intake = self;
-        let primary = intake.primary.feed(chunk)?;
-        let rest = &chunk[primary..];
-        let secondary = intake.secondary.feed(rest)?;
-        intake.certificate.extend_from_slice(&rest[secondary..])?;
-        Ok(intake)
-    }
-
     /// The answer to the input that was taken; `Memory` where a growth was refused.
     pub(crate) fn answer(
         self,
@@ -56,7 +42,7 @@ impl Intake {
         skew: Skew,
         transit: Transit,
     ) -> Result<Answer, DeskError>
-        // What was made by `new` and `feed` has taken some input.
+        // What was made by `new` and `take` has taken some input.
         requires { (input : List ℕ) × HasTaken self input }
         ensures answer { IfOk result
             (λ answer. (input : List ℕ) → HasTaken self input
@@ -78,5 +64,19 @@ impl Intake {
             Ok(verdict) => Answer::new(alloc, &verdict),
             Err(AuditError::Memory) => Err(DeskError::Memory),
         }
+    }
+}
+
+impl Taking for Intake {
+    ghost has_taken = { HasTaken };
+
+    // A journal's fault is kept, and what follows is still taken.
+    fn take(self, chunk: &[u8]) -> Result<Intake, DeskError> {
+        let mut intake = self;
+        let primary = intake.primary.feed(chunk)?;
+        let rest = &chunk[primary..];
+        let secondary = intake.secondary.feed(rest)?;
+        intake.certificate.extend_from_slice(&rest[secondary..])?;
+        Ok(intake)
     }
 }

@@ -19,8 +19,16 @@ mod end_line;
 mod error;
 mod intake;
 mod journal_intake;
+mod pair_intake;
+mod running;
+mod taking;
+mod timelines;
+mod watched;
 
 pub use answer::Answer;
-pub use audit::{judge, run};
+pub use audit::judge;
 pub use command::{Command, command_of};
 pub use error::{DeskError, UsageError};
+pub use running::run;
+pub use timelines::timeline;
+pub use watched::Watched;

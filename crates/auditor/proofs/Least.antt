@@ -5,7 +5,7 @@ use Rattle.std.proofs.lemmas.Bool.{cases_lt}
 use Rattle.binding_rules.specs.declared.role.Role.{Role}
 use Rattle.binding_rules.specs.declared.role.Role.TheVariants.{Primary, Secondary}
 use Rattle.claims.specs.declared.reference.Ref.{Ref}
-use Rattle.attribution.specs.FirstRefusal.{ComesBefore, IsLeast}
+use Rattle.causal_order.specs.LineOrder.{ComesBefore, IsLeast}
 use Rattle.auditor.specs.Refusals.{ComesFirst}
 
 -- ---- the order of lines

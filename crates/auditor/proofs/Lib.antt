@@ -8,4 +8,7 @@ pub mod OpenLines
 pub mod Others
 pub mod ShortCuts
 pub mod Tiling
+pub mod Pairs
+pub mod OneAnswer
 pub mod TextVerdicts
+pub mod TextLaws

@@ -8,7 +8,8 @@ use Rattle.claims.specs.declared.reference.Ref.{Ref}
 use Rattle.causal_order.specs.Journals.{Journals}
 use Rattle.claims.specs.declared.certificate.Certificate.{Certificate}
 use Rattle.attribution.specs.Acceptance.{IsNamed, IsCovered}
-use Rattle.attribution.specs.FirstRefusal.{IsLeast, IsUncovered}
+use Rattle.causal_order.specs.LineOrder.{IsLeast}
+use Rattle.attribution.specs.FirstRefusal.{IsUncovered}
 use Rattle.attribution.specs.Listing.{IsListing}
 use Rattle.attribution.specs.Tests.{delegation_of, is_named}
 use Rattle.attribution.proofs.Deciding.{told_tells, decides_named}

@@ -11,7 +11,8 @@ use Rattle.claims.specs.declared.certificate.Piece.{Piece}
 use Rattle.attribution.specs.declared.delegation.Delegation.{Delegation}
 use Rattle.attribution.specs.Delegation.{of_lease}
 use Rattle.attribution.specs.Acceptance.{GivesBack, IsDischarged}
-use Rattle.attribution.specs.FirstRefusal.{IsLeast, CutsShort}
+use Rattle.causal_order.specs.LineOrder.{IsLeast}
+use Rattle.attribution.specs.FirstRefusal.{CutsShort}
 use Rattle.attribution.specs.Listing.{Concerns, IsListing}
 use Rattle.attribution.specs.Tests.{lease_of, discharges}
 use Rattle.attribution.proofs.Deciding.{lease_grants, decides_discharges}

@@ -1,6 +1,7 @@
 -- What is accepted of texts is accepted of what they spell.
-use Rattle.std.proofs.Common.{◌≡◌, ℕ, List, Result, Ok, sym, subst, ◌∙◌, inl, inr, refl}
+use Rattle.std.proofs.Common.{◌≡◌, ℕ, List, Result, Ok, subst, ◌∙◌, inl, inr}
 use Rattle.std.specs.Prelude.{IfOk}
+use Rattle.binding_rules.specs.declared.role.Role.{Role}
 use Rattle.binding_rules.specs.declared.role.Role.TheVariants.{Primary, Secondary}
 use Rattle.journal_lines.specs.declared.fault.JournalFault.{JournalFault}
 use Rattle.journal_lines.specs.declared.line.Journal.{Journal as Lines}
@@ -17,16 +18,19 @@ use Rattle.book_rules.specs.NextHead.{IsLegal}
 use Rattle.attribution.proofs.Refusals.{accepted_from}
 use Rattle.attribution.proofs.Headline.{headline}
 use Rattle.attribution.proofs.Lawful.{lawful}
-use Rattle.auditor.specs.declared.texts.AuditError.{AuditError}
+use Rattle.auditor.specs.declared.error.AuditError.{AuditError}
+use Rattle.auditor.specs.declared.pair.Checked.TheVariants.{Legal}
+use Rattle.journal_merge.specs.declared.merged.Merged.{Merged}
+use Rattle.auditor.specs.Pair.{IsChecked}
+use Rattle.auditor.proofs.Pairs.{refused_not_accepted}
 use Rattle.causal_order.specs.Journals.{journals_of}
-use Rattle.auditor.specs.Texts.{IsUnbroken, IsVerdictOfJournals, IsVerdictOfParsed, ParsedIsTrueInEveryRun, TextsAreTrueInEveryRun}
+use Rattle.auditor.specs.Texts.{SpellsJournal, IsVerdictOfJournals, IsVerdictOfParsed, ParsedIsTrueInEveryRun, TextsAreTrueInEveryRun}
 
 -- ---- the headline over texts
 
-unbroken : (js : Journals) (a b : Lines) (skew transit : ℕ) (claim : Claim) → js ≡ journals_of a b → IsVerdictOfJournals a b skew transit claim Accepted → IsVerdict js skew transit claim Accepted
-unbroken js a b skew transit claim e (inl h) = let x = h.2 in absurd (cc)
-unbroken js a b skew transit claim e (inr (h, inl k)) = let x = k.2 in absurd (cc)
-unbroken js a b skew transit claim e (inr (h, inr k)) = subst (λ x. IsVerdict x skew transit claim Accepted) (sym e) k.1
+over_certificate : (a b : Lines) (skew transit : ℕ) (claim : Claim) → IsVerdictOfJournals a b skew transit claim Accepted → IsVerdict (journals_of a b) skew transit claim Accepted
+over_certificate a b skew transit claim (inl h) = absurd (refused_not_accepted a b h)
+over_certificate a b skew transit claim (inr h) = h.1
 
 pub accepted_parsed : CertificatesAreSpelled → (a b : Result Lines JournalFault) (certificate : List ℕ) (skew transit : ℕ) (r : Result Verdict AuditError) → r ≡ Ok Accepted → IfOk r (IsVerdictOfParsed a b skew transit (certificate_of certificate)) → ParsedIsTrueInEveryRun a b certificate skew transit
 accepted_parsed spelled a b certificate skew transit r accepted h ja jb claim ra rb sc =
@@ -35,18 +39,22 @@ accepted_parsed spelled a b certificate skew transit r accepted h ja jb claim ra
     let first = subst (λ x. IsVerdictOfParsed x b skew transit (certificate_of certificate) Accepted) ra read in
     let second = subst (λ x. IsVerdictOfParsed (Ok ja) x skew transit (certificate_of certificate) Accepted) rb first in
     let third : IsVerdictOfJournals ja jb skew transit claim Accepted = subst (λ x. IsVerdictOfParsed (Ok ja) (Ok jb) skew transit x Accepted) rc second in
-    headline IsLegal lawful (journals_of ja jb) skew transit claim (accepted_from (journals_of ja jb) skew transit claim (unbroken (journals_of ja jb) ja jb skew transit claim refl third))
+    headline IsLegal lawful (journals_of ja jb) skew transit claim (accepted_from (journals_of ja jb) skew transit claim (over_certificate ja jb skew transit claim third))
 
--- where no rule is broken the verdict is that on the certificate
-pub both_unbroken : (a b : Lines) (skew transit : ℕ) (claim : Claim) (js : Journals) (v : Verdict) → IsUnbroken Primary a → IsUnbroken Secondary b → js ≡ journals_of a b → IsVerdict js skew transit claim v
+-- over a legal pair the verdict is that on the certificate
+pub over_legal : (a b : Lines) (skew transit : ℕ) (claim : Claim) (js : Journals) (v : Verdict) (m : Merged) → IsChecked a b (Legal m) → js ≡ journals_of a b → IsVerdict js skew transit claim v
     → IsVerdictOfJournals a b skew transit claim v
-both_unbroken a b skew transit claim js v p q e h = inr (p, inr (q, subst (λ x. IsVerdict x skew transit claim v) e h))
+over_legal a b skew transit claim js v m h e verdict = inr (h.0, subst (λ x. IsVerdict x skew transit claim v) e verdict)
+
+-- what a text spells is read
+pub side_read : SideGivesWhatItSpells → (side : Role) (text : List ℕ) (j : Lines) → SpellsJournal side text j → journal_of_side side text ≡ Ok j
+side_read spelled side text j s = (spelled side text j).1 (s.written, s.role, s.spelled)
 
 -- what is true of readings is true of the texts
 pub texts_parsed : SideGivesWhatItSpells → (a b certificate : List ℕ) (skew transit : ℕ) (ra rb : Result Lines JournalFault) → ra ≡ journal_of_side Primary a → rb ≡ journal_of_side Secondary b
     → ParsedIsTrueInEveryRun ra rb certificate skew transit → TextsAreTrueInEveryRun a b certificate skew transit
 texts_parsed spelled a b certificate skew transit ra rb ea eb h ja jb claim sa sb sc =
-    h ja jb claim (ea ∙ (spelled Primary a ja).1 (sa.written, sa.role, sa.spelled)) (eb ∙ (spelled Secondary b jb).1 (sb.written, sb.role, sb.spelled)) sc
+    h ja jb claim (ea ∙ side_read spelled Primary a ja sa) (eb ∙ side_read spelled Secondary b jb sb) sc
 
 -- the verdict on what was read
 pub verdict_of : (a b : Result Lines JournalFault) (certificate : List ℕ) (skew transit : ℕ) (r : Result Verdict AuditError) (ja jb : Lines) (claim : Claim)

@@ -9,7 +9,8 @@ use Rattle.claims.specs.declared.certificate.Clear.{Clear}
 use Rattle.claims.specs.declared.certificate.Foreign.{Foreign}
 use Rattle.attribution.specs.declared.delegation.Delegation.{Delegation}
 use Rattle.attribution.specs.Acceptance.{GivesBack, IsCleared, IsGranted, Discharges, IsDischarged, ReasonHolds}
-use Rattle.attribution.specs.FirstRefusal.{ComesBefore, IsLeast, HoldsBefore, IsFirstNot, CutsShort}
+use Rattle.causal_order.specs.LineOrder.{ComesBefore, IsLeast}
+use Rattle.attribution.specs.FirstRefusal.{HoldsBefore, IsFirstNot, CutsShort}
 
 -- each piece is carried by its grant
 abbrev pub AreGranted : Journals → (skew transit : ℕ) → Certificate → Type 0

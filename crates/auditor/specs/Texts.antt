@@ -1,9 +1,8 @@
 -- The verdict on three texts, and what is then true.
-use Rattle.std.specs.Prelude.{◌≡◌, ◌⊎◌, ℕ, List, Result, Ok, Err}
+use Rattle.std.specs.Prelude.{◌≡◌, ◌↔◌, ◌⊎◌, ℕ, List, Result, Ok, Err}
 use Rattle.binding_rules.specs.declared.role.Role.{Role}
 use Rattle.binding_rules.specs.declared.role.Role.TheVariants.{Primary, Secondary}
 use Rattle.journal_lines.specs.declared.line.Journal.{Journal as Lines}
-use Rattle.journal_lines.specs.Head.{volume_number}
 use Rattle.journal_lines.specs.declared.fault.JournalFault.{JournalFault}
 use Rattle.journal_text.specs.Spelling.{journal_text, IsWritten as IsWrittenJournal}
 use Rattle.journal_text.specs.Faults.{journal_of_side}
@@ -12,28 +11,17 @@ use Rattle.claims.specs.declared.certificate.Certificate.{Certificate as Claim}
 use Rattle.claims.specs.declared.fault.CertificateFault.{CertificateFault}
 use Rattle.certificate.specs.Spelling.{certificate_text, IsWritten as IsWrittenCertificate}
 use Rattle.certificate.specs.Faults.{certificate_of}
-use Rattle.book_rules.specs.declared.rule.Rule.{Rule as RuleValue}
-use Rattle.book_rules.specs.Volumes.{IsVolume, IsFirstBroken}
 use Rattle.attribution.specs.declared.verdict.Verdict.{Verdict}
-use Rattle.attribution.specs.declared.verdict.Verdict.TheVariants.{Journal, Certificate, Rule}
+use Rattle.attribution.specs.declared.verdict.Verdict.TheVariants.{Accepted, Journal, Certificate}
 use Rattle.book_rules.specs.NextHead.{IsLegal}
-use Rattle.attribution.specs.Acceptance.{IsTrueInEveryRun}
+use Rattle.attribution.specs.Acceptance.{IsAccepted, IsTrueInEveryRun}
 use Rattle.attribution.specs.FirstRefusal.{IsVerdict}
+use Rattle.auditor.specs.Pair.{IsPairRefused, IsPairLegal}
 
--- the journal's first line that breaks a rule, and the least that it breaks
-abbrev pub IsBroken : Role → Lines → Verdict → Type 0
-IsBroken side j v =
-    (n : ℕ) × (r : RuleValue) × (v ≡ Rule side n r) × IsFirstBroken side (volume_number j.head) j.lines n r
-
-abbrev pub IsUnbroken : Role → Lines → Type 0
-IsUnbroken side j = IsVolume side (volume_number j.head) j.lines
-
--- a broken rule of A's journal, then one of B's, and then the certificate over both
+-- a refusal of both journals, and then the certificate over them
 abbrev pub IsVerdictOfJournals : Lines → Lines → (skew transit : ℕ) → Claim → Verdict → Type 0
 IsVerdictOfJournals a b skew transit claim v =
-    IsBroken Primary a v
-    ⊎ (IsUnbroken Primary a
-    × (IsBroken Secondary b v ⊎ (IsUnbroken Secondary b × IsVerdict (journals_of a b) skew transit claim v)))
+    IsPairRefused a b v ⊎ (IsPairLegal a b × IsVerdict (journals_of a b) skew transit claim v)
 
 -- the faults of the certificate's text before those
 abbrev pub IsVerdictOfClaim : Lines → Lines → (skew transit : ℕ) → Result Claim CertificateFault → Verdict → Type 0
@@ -79,3 +67,26 @@ abbrev pub TextsAreTrueInEveryRun : (a b certificate : List ℕ) → (skew trans
 TextsAreTrueInEveryRun a b certificate skew transit = (ja jb : Lines) (claim : Claim)
     → SpellsJournal Primary a ja → SpellsJournal Secondary b jb → SpellsCertificate certificate claim
     → IsTrueInEveryRun IsLegal (journals_of ja jb) skew transit claim
+
+-- ---- laws of verdicts on texts
+
+-- each text is spelled, the journals keep the rules and can both be true, and the certificate is accepted over them
+pub record AreAccepted (a b certificate : List ℕ) (skew transit : ℕ) : Type 0 where
+  pub primary : Lines
+  pub secondary : Lines
+  pub claim : Claim
+  pub primary_spelled : SpellsJournal Primary a primary
+  pub secondary_spelled : SpellsJournal Secondary b secondary
+  pub claim_spelled : SpellsCertificate certificate claim
+  pub legal : IsPairLegal primary secondary
+  pub accepted : IsAccepted (journals_of primary secondary) skew transit claim
+
+-- the verdict is that it accepts exactly where the texts are accepted
+abbrev pub TextsAcceptTheAccepted : Type 0
+TextsAcceptTheAccepted = (a b certificate : List ℕ) (skew transit : ℕ)
+    → IsVerdictOfTexts a b certificate skew transit Accepted ↔ AreAccepted a b certificate skew transit
+
+-- there is no second verdict on three texts
+abbrev pub OneTextVerdict : Type 0
+OneTextVerdict = (a b certificate : List ℕ) (skew transit : ℕ) (v w : Verdict)
+    → IsVerdictOfTexts a b certificate skew transit v → IsVerdictOfTexts a b certificate skew transit w → v ≡ w

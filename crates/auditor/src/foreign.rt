@@ -2,7 +2,8 @@
 
 ghost use Rattle.std.specs.Prelude.{◌↔◌, IsTrue, MatchOption};
 ghost use Rattle.attribution.specs.Acceptance.{IsNamed, IsCovered};
-ghost use Rattle.attribution.specs.FirstRefusal.{IsLeast, IsUncovered};
+ghost use Rattle.causal_order.specs.LineOrder.{IsLeast};
+ghost use Rattle.attribution.specs.FirstRefusal.{IsUncovered};
 ghost use Rattle.auditor.specs.Refusals.{IsOthers, AreReasoned, IsUnreasoned};
 
 use crate::grants::{delegation_at, reason_holds};

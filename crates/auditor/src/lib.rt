@@ -2,10 +2,11 @@
 //!
 //! `audit` judges over any [`LineSource`], `audit_bytes` over three texts. Their clause `verdict` is the definition
 //! of the verdict, their clause `headline` the theorem: what is accepted is true in every run of the pair that leaves
-//! these journals. `reason_holds` is one foreign entry's reason. [`PlainSource`] is two journals, looked through at
-//! each question. specs/Texts is the verdict on texts, with the rules of both journals before the certificate's
-//! conditions; specs/Closing is what a source owes; specs/Bounds, Opened, Overlaps and Refusals are for bodies
-//! only.
+//! these journals. `reason_holds` is one foreign entry's reason, `check_pair` what two journals come to before any
+//! certificate: whether they keep the rules and can both be true. [`PlainSource`] is two journals, looked through at
+//! each question. specs/Pair is what refuses two journals, specs/Texts the verdict on texts, with that before the
+//! certificate's conditions; specs/Closing is what a source owes; specs/Bounds, Opened, Overlaps and Refusals are for
+//! bodies only.
 //!
 //! ```text
 //! let verdict = audit_bytes(alloc, journal_a, journal_b, certificate, skew, Transit::ZERO)?;
@@ -14,10 +15,13 @@
 #![tactic(auto)]
 
 mod auditing;
+mod error;
 mod foreign;
 mod grants;
+mod laws;
 mod opened;
 mod order;
+mod pair;
 mod pieces;
 mod plain;
 mod releases;
@@ -25,7 +29,10 @@ mod source;
 mod texts;
 
 pub use auditing::audit;
+pub use error::AuditError;
 pub use grants::reason_holds;
+pub use laws::{pair_is_checked_once, text_verdict_is_one};
+pub use pair::{Checked, check_pair};
 pub use plain::PlainSource;
 pub use source::LineSource;
-pub use texts::{AuditError, audit_bytes, audit_read};
+pub use texts::{audit_bytes, audit_read};

@@ -1,7 +1,7 @@
 //! The order in which refusals name lines.
 
 ghost use Rattle.std.specs.Prelude.{◌↔◌, IsTrue};
-ghost use Rattle.attribution.specs.FirstRefusal.{ComesBefore};
+ghost use Rattle.causal_order.specs.LineOrder.{ComesBefore};
 ghost use Rattle.auditor.specs.Refusals.{ComesFirst};
 
 use binding_rules::Role;

@@ -4,7 +4,8 @@ ghost use Rattle.std.specs.Prelude.{◌↔◌, IsTrue, MatchOption};
 ghost use Rattle.prefix_range.specs.Prefix.{Overlaps};
 ghost use Rattle.claims.specs.declared.reference.Ref.{Ref as RefValue};
 ghost use Rattle.attribution.specs.Acceptance.{GivesBack, IsCleared, Discharges, IsDischarged};
-ghost use Rattle.attribution.specs.FirstRefusal.{IsLeast, CutsShort};
+ghost use Rattle.causal_order.specs.LineOrder.{IsLeast};
+ghost use Rattle.attribution.specs.FirstRefusal.{CutsShort};
 ghost use Rattle.auditor.specs.Refusals.{AreDischarged, CutsLeaseShort, DischargesBy, IsCutShortAt};
 
 use crate::grants::{gives_back, is_written_from, lease_at};

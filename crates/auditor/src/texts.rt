@@ -1,48 +1,27 @@
 //! The audit of journals that were read and of texts.
 
-ghost use Rattle.std.specs.Prelude.{◌≡◌, IfOk, MatchOption};
+ghost use Rattle.std.specs.Prelude.{◌≡◌, IfOk};
 ghost use Rattle.std.specs.Result.{ForOk};
 ghost use Rattle.journal_text.specs.Faults.{journal_of_side};
 ghost use Rattle.certificate.specs.Faults.{certificate_of};
 ghost use Rattle.journal_text.specs.Closed.{IsClosed};
-ghost use Rattle.auditor.specs.Texts.{IsBroken, IsUnbroken, IsVerdictOfJournals};
-ghost use Rattle.auditor.specs.Texts.{IsVerdictOfParsed, IsVerdictOfTexts, ParsedIsTrueInEveryRun};
-ghost use Rattle.auditor.specs.Texts.{TextsAreTrueInEveryRun};
+ghost use Rattle.auditor.specs.Texts.{IsVerdictOfJournals, IsVerdictOfParsed, IsVerdictOfTexts};
+ghost use Rattle.auditor.specs.Texts.{ParsedIsTrueInEveryRun, TextsAreTrueInEveryRun};
 
 use crate::auditing::audit;
+use crate::error::AuditError;
+use crate::pair::{Checked, check_pair};
 use crate::plain::PlainSource;
 use attribution::Verdict;
 use binding_rules::Role;
-use book_rules::{ReplayError, Table};
 use certificate::{CertificateError, certificates_are_spelled};
 use claims::Certificate;
 use journal_lines::{Journal, JournalFault};
 use journal_text::{JournalError, read_side, text_gives_what_it_spells, written_is_closed};
 use lead_time::{Skew, Transit};
 use std::alloc::Global;
-use thiserror::Error;
 
-/// Why there is no verdict.
-#[derive(Clone, Copy, Debug, PartialEq, Eq, Error)]
-pub enum AuditError {
-    /// A growth was refused.
-    #[error("out of memory")]
-    Memory,
-}
-
-/// The refusal of a journal whose lines break a rule of its side, or `None` where they keep them all.
-fn broken_rule(alloc: Global, side: Role, journal: &Journal) -> Result<Option<Verdict>, AuditError>
-    ensures { IfOk result (λ refusal. MatchOption refusal (IsUnbroken side journal.now) (IsBroken side journal.now)) }
-{
-    match Table::replay(alloc, side, journal.head, journal.lines.as_slice()) {
-        Ok(_table) => Ok(None),
-        Err(ReplayError::Broken { line, rule }) => Ok(Some(Verdict::Rule(side, line, rule))),
-        Err(ReplayError::Memory) => Err(AuditError::Memory),
-    }
-}
-
-/// The refusal of A's journal, or of B's, where it breaks a rule; else the verdict of `audit`.
-#[tactic(auto, using(crate::proofs::TextVerdicts::both_unbroken))]
+/// What refuses the two journals; else the verdict of `audit`.
 fn verdict_on_journals(
     alloc: Global,
     primary: &Journal,
@@ -55,10 +34,7 @@ fn verdict_on_journals(
     requires secondary_closed { IsClosed secondary.now.lines }
     ensures { IfOk result (IsVerdictOfJournals primary.now secondary.now skew transit claim.now) }
 {
-    if let Some(refusal) = broken_rule(alloc, Role::Primary, primary)? {
-        return Ok(refusal);
-    }
-    if let Some(refusal) = broken_rule(alloc, Role::Secondary, secondary)? {
+    if let Checked::Refused(refusal) = check_pair(alloc, primary, secondary)? {
         return Ok(refusal);
     }
     let source = PlainSource::new(primary, secondary);
@@ -94,8 +70,8 @@ fn verdict_on_parsed(
 }
 
 /// Judges the certificate that a text spells over what reading the journals of side A and of side B gave: the first
-/// of the faults of A's journal, of B's and of the certificate's text, then of the rules that A's journal breaks and
-/// B's, then the verdict of `audit`. `Memory` where a growth was refused.
+/// of the faults of A's journal, of B's and of the certificate's text, then what `check_pair` refuses, then the verdict
+/// of `audit`. `Memory` where a growth was refused.
 pub fn audit_read(
     alloc: Global,
     a: Result<Journal, JournalFault>,
@@ -132,10 +108,9 @@ fn parsed_journal(
 }
 
 /// Judges the certificate that the third text spells over the journals of side A and side B that the first two
-/// spell: the first of the faults of A's text, of B's and of the certificate's, then of the rules that A's journal
-/// breaks and B's, then the verdict of `audit`. The skew is the most by which a reading of either journal and true time
-/// differ, the transit the most by which an answer reaches its client after its grant. `Memory` where a growth was
-/// refused.
+/// spell: the first of the faults of A's text, of B's and of the certificate's, then what `check_pair` refuses, then
+/// the verdict of `audit`. The skew is the most by which a reading of either journal and true time differ, the transit
+/// the most by which an answer reaches its client after its grant. `Memory` where a growth was refused.
 pub fn audit_bytes(
     alloc: Global,
     a: &[u8],

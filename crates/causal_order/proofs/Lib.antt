@@ -2,3 +2,4 @@ pub mod Sameness
 pub mod Deciding
 pub mod Walking
 pub mod Clocks
+pub mod LineOrder

@@ -1,4 +1,5 @@
 pub mod Journals
 pub mod Order
+pub mod LineOrder
 pub mod Tests
 pub mod Bounds

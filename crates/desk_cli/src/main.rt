@@ -3,7 +3,7 @@
 //! the desk from answering (2).
 #![tactic(auto)]
 
-use attribution_desk::{DeskError, UsageError, command_of, run};
+use attribution_desk::{DeskError, UsageError, Watched, command_of, run};
 use std::process::ExitCode;
 use std::{env, io};
 use thiserror::Error;
@@ -34,7 +34,9 @@ fn usage_fault(error: io::Error) -> UsageError {
 fn answered(rt: &HostRuntime) -> Result<u8, Fault> {
     let words = words_given(rt).map_err(Fault::Usage)?;
     let command = command_of(rt.alloc(), &words).map_err(Fault::Usage)?;
-    run(rt.alloc(), &command, &mut rt.stdin(), &mut rt.stdout()).map_err(Fault::Desk)
+    let mut reader = Watched::new(rt.stdin());
+    let mut writer = Watched::new(rt.stdout());
+    run(rt.alloc(), &command, &mut reader, &mut writer).map_err(Fault::Desk)
 }
 
 fn main(rt: HostRuntime) -> ExitCode {

@@ -1,26 +1,22 @@
-//! Inputs of the desk that come in chunks, and readers and writers that fail.
+//! Inputs of the desk that come in chunks.
 
 use crate::inputs::{SKEW, WHOLE_HOUR};
-use attribution_desk::{Command, DeskError, judge, run};
+use attribution_desk::{Command, DeskError, Watched, judge, run};
 use lead_time::{Skew, Transit};
 use std::alloc::Global;
 use std::io;
-use std::io::{ErrorKind, Read, Write};
+use std::io::Read;
 use std::test::Fail;
 
-/// Gives at most so many octets at a time, and fails behind the last where it has to.
+/// Gives at most so many octets at a time.
 #[derive(Drop)]
 struct Trickle<'a> {
     rest: &'a [u8],
     length: usize,
-    fails: bool,
 }
 
 impl Read for Trickle<'_> {
     fn read(&mut self, buffer: &mut [u8]) -> io::Result<usize> {
-        if self.fails && self.rest.is_empty() {
-            return Err(io::Error::from(ErrorKind::Other));
-        }
         let length = self.length.min(buffer.len());
         self.rest.read(&mut buffer[..length])
     }
@@ -41,14 +37,13 @@ fn line_in_chunks(
     length: usize,
     skew: Skew,
 ) -> Result<Vec<u8>, DeskError> {
-    let mut reader = Trickle {
+    let mut reader = Watched::new(Trickle {
         rest: input.as_bytes(),
         length,
-        fails: false,
-    };
-    let mut line = Vec::new(alloc);
-    run(alloc, &audit(skew), &mut reader, &mut line)?;
-    Ok(line)
+    });
+    let mut writer = Watched::new(Vec::new(alloc));
+    run(alloc, &audit(skew), &mut reader, &mut writer)?;
+    Ok(writer.into_device())
 }
 
 /// More octets than a line of these inputs has.
@@ -98,44 +93,5 @@ fn judges_chunks_of_each_length(rt: HostRuntime) -> Result<(), Fail> {
             assert_eq!(rt; line.as_slice(), wanted.as_bytes(), "in chunks of {length}");
         }
     }
-    Ok(())
-}
-
-/// Takes nothing.
-#[derive(Drop)]
-struct Full;
-
-impl Write for Full {
-    fn write(&mut self, _octets: &[u8]) -> io::Result<usize> {
-        Ok(0)
-    }
-
-    fn flush(&mut self) -> io::Result<()> {
-        Ok(())
-    }
-}
-
-#[test]
-fn tells_failing_ends(rt: HostRuntime) -> Result<(), Fail> {
-    let skew = Skew::new(SKEW)?;
-    let audit = audit(skew);
-    let mut line = Vec::new(rt.alloc());
-    for input in [WHOLE_HOUR, "pd-journal 1 B\n"] {
-        let mut reader = Trickle {
-            rest: input.as_bytes(),
-            length: 9,
-            fails: true,
-        };
-        assert_eq!(rt;
-            run(rt.alloc(), &audit, &mut reader, &mut line),
-            Err(DeskError::Read)
-        );
-    }
-    assert!(rt; line.is_empty());
-    let mut input = WHOLE_HOUR.as_bytes();
-    assert_eq!(rt;
-        run(rt.alloc(), &audit, &mut input, &mut Full),
-        Err(DeskError::Write)
-    );
     Ok(())
 }

@@ -27,7 +27,10 @@ fn finds_commands(rt: HostRuntime) -> Result<(), Fail> {
     };
     let words = ["desk_cli", "audit", "--transit-ms", "3600000", "--skew-ms", "2000"];
     assert_eq!(rt; command(rt.alloc(), &words)?, Ok(longest));
-    let others: [&[&str]; 12] = [
+    let found = command(rt.alloc(), &["desk_cli", "timeline"])?;
+    assert_eq!(rt; found, Ok(Command::Timeline));
+    let others: [&[&str]; 13] = [
+        &["desk_cli", "timeline", "--skew-ms", "2000"],
         &["desk_cli"],
         &["desk_cli", "audit"],
         &["desk_cli", "audit", "--skew-ms", "02000"],

@@ -1,4 +1,4 @@
-//! Vectors from outside for the desk: words, inputs in chunks, and the lines that it answers.
+//! Vectors from outside for the desk: words, inputs in chunks, devices that fail, timelines, and the lines that it answers.
 #![tactic(auto)]
 
 #[cfg(test)]
@@ -8,4 +8,8 @@ mod chunks;
 #[cfg(test)]
 mod commands;
 #[cfg(test)]
+mod devices;
+#[cfg(test)]
 mod inputs;
+#[cfg(test)]
+mod timelines;

@@ -2,7 +2,7 @@ use Rattle.std.specs.Prelude.{MatchOption}
 use Rattle.std.proofs.Common.{subst}
 use Rattle.claims.specs.declared.reference.Ref.{Ref}
 use Rattle.attribution.specs.declared.delegation.Delegation.{Delegation}
-use Rattle.attribution.specs.FirstRefusal.{IsLeast}
+use Rattle.causal_order.specs.LineOrder.{IsLeast}
 use Rattle.auditor.specs.Refusals.{CutsLeaseShort}
 use Rattle.auditor.proofs.ShortCuts.{cut_by_search}
 use Rattle.auditor.proofs.releases.cutting_release.Goals as goal

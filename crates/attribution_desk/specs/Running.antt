@@ -1,0 +1,18 @@
+-- What carrying out a command comes to.
+use Rattle.std.specs.Prelude.{ℕ, List, Option, IfSome}
+use Rattle.std.specs.Io.KnownBytes.{Appends}
+use Rattle.attribution_desk.specs.declared.command.Command.{Command}
+use Rattle.attribution_desk.specs.declared.command.Command.TheVariants.{Audit, Timeline}
+use Rattle.attribution_desk.specs.Answer.{IsAnswer}
+use Rattle.attribution_desk.specs.Timeline.{IsTimeline}
+
+-- the text and the status with which a command answers this input
+abbrev pub Answers : Command → List ℕ → List ℕ → ℕ → Type 0
+Answers (Audit skew transit) input text status = IsAnswer input skew transit text status
+Answers Timeline input text status = IsTimeline input text status
+
+-- where it is known what the reader had to give, the answer to all of that was written, behind what the writer held
+abbrev pub IsWritten :
+    (List ℕ → List ℕ → ℕ → Type 0) → Option (List ℕ) → Option (List ℕ) → Option (List ℕ) → ℕ → Type 0
+IsWritten answers given held written status =
+    IfSome given (λ input. (text : List ℕ) × answers input text status × Appends held written text)

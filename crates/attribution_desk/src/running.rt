@@ -1,0 +1,32 @@
+//! Carrying out commands.
+
+ghost use Rattle.std.specs.Prelude.{◌≡◌, ◌⊎◌, true, IfOk, IsErrOf};
+ghost use Rattle.attribution_desk.specs.Running.{Answers, IsWritten};
+
+use crate::audit::audit_input;
+use crate::command::Command;
+use crate::error::DeskError;
+use crate::timelines::timeline_input;
+use crate::watched::Watched;
+use std::alloc::Global;
+use std::io::{Read, Write};
+
+/// Carries out a command: reads all of the input, writes the answer and gives the status. `Read` where the input fails
+/// or goes on for too long, `Write` where the output fails, `Memory` where a growth was refused.
+pub fn run<R: Read, W: Write>(
+    alloc: Global,
+    command: &Command,
+    reader: &mut Watched<R>,
+    writer: &mut Watched<W>,
+) -> Result<u8, DeskError>
+    ensures written { IfOk result (IsWritten (Answers command.now) (R.remaining reader.old.device)
+        (W.contents writer.old.device) (W.contents writer.new.device)) }
+    // A reader that is well and has turns left isn't blamed, nor is a writer that is well.
+    ensures read { IsErrOf result DeskError.Read → (reader.new.failed ≡ true) ⊎ (reader.new.turns ≡ 0) }
+    ensures write { IsErrOf result DeskError.Write → writer.new.failed ≡ true }
+{
+    match command {
+        Command::Audit { skew, transit } => audit_input(alloc, *skew, *transit, reader, writer),
+        Command::Timeline => timeline_input(alloc, reader, writer),
+    }
+}
