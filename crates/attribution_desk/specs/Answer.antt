@@ -22,5 +22,5 @@ abbrev pub IsAnswer : List ℕ → (skew transit : ℕ) → List ℕ → ℕ →
 IsAnswer input skew transit line status =
     (v : Verdict)
     × IsVerdictOfTexts (first_text input) (first_text (text_behind input)) (text_behind (text_behind input))
-        skew transit v
+    skew transit v
     × (line ≡ verdict_line v) × (status ≡ status_of v)

@@ -15,12 +15,7 @@ use std::io::{Read, Write};
 
 /// The verdict on the input's three texts, journal A, journal B and the certificate, as a line and a status;
 /// `Memory` where a growth was refused.
-pub fn judge(
-    alloc: Global,
-    input: &[u8],
-    skew: Skew,
-    transit: Transit,
-) -> Result<Answer, DeskError>
+pub fn judge(alloc: Global, input: &[u8], skew: Skew, transit: Transit) -> Result<Answer, DeskError>
     ensures answer { IfOk result (λ answer. IsAnswer input.now skew transit answer.line.items answer.status) }
     ensures refused { IfErr result (λ e. e ≡ DeskError.Memory) }
 {

@@ -53,14 +53,7 @@ impl Intake {
         written_is_closed();
         let primary = self.primary.finish();
         let secondary = self.secondary.finish();
-        match audit_read(
-            alloc,
-            primary,
-            secondary,
-            &self.certificate,
-            skew,
-            transit,
-        ) {
+        match audit_read(alloc, primary, secondary, &self.certificate, skew, transit) {
             Ok(verdict) => Answer::new(alloc, &verdict),
             Err(AuditError::Memory) => Err(DeskError::Memory),
         }

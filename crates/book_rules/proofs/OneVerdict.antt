@@ -19,7 +19,7 @@ pub legal_unbroken : LegalIsUnbroken
 legal_unbroken role volume lines n r legal x =
     x.broken.broken (first_or_later (blank role volume) x.before x.line x.behind (subst (AreSteps (blank role volume)) x.are legal) r)
 
-one_rule : (b : Book) (l : Line) (r s : Rule) → IsLeastBroken b l r → IsLeastBroken b l s → r ≡ s
+pub one_rule : (b : Book) (l : Line) (r s : Rule) → IsLeastBroken b l r → IsLeastBroken b l s → r ≡ s
 one_rule b l r s x y = elim (cases_lt (rule_number r) (rule_number s)) [
   | inl less ↦ absurd (x.broken (y.least r less))
   | inr le ↦ elim (cases_lt (rule_number s) (rule_number r)) [

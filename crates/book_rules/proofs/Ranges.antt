@@ -1,14 +1,14 @@
 -- A pool's units lie in rows of their own size.
-use Rattle.std.proofs.Common.{◌≡◌, ℕ, ◌+◌, ◌-◌, ◌*◌, ◌/◌, ◌%◌, ◌^◌, ◌<◌, ◌≤◌, Bool, true, ap, ap₂, sym, ◌∙◌, arith, refl}
-use Rattle.std.proofs.lemmas.Nat.{pow-add, pow_pos, div_below, div-add-mod', le-div, row_fits}
+use Rattle.std.proofs.Common.{◌≡◌, ℕ, ◌+◌, ◌-◌, ◌*◌, ◌/◌, ◌%◌, ◌^◌, ◌<◌, ◌≤◌, Bool, true, ap, ap₂, sym, ◌∙◌, arith, refl, subst}
+use Rattle.std.proofs.lemmas.Nat.{pow-add, pow_pos, div_below, div-add-mod', div-mul-add, le-div, row_fits}
 use Rattle.std.proofs.lemmas.Bool.Decides.{nat_tests}
 use Rattle.std.proofs.Math.Pow.{pow-lt, pow_mono}
 use Rattle.std.specs.Prelude.{◌↔◌, false}
-use Rattle.std.proofs.Math.Nat.{div-mul-le_self, lt-div-mul-add, div-div-eq-div-mul, div-eq_of_eq-mul_right, mul_comm, mul_assoc, add-mul}
+use Rattle.std.proofs.Math.Nat.{mul-mod_left, div-eq_of_eq-mul_left, div-mul-le_self, lt-div-mul-add, div-div-eq-div-mul, div-eq_of_eq-mul_right, mul_comm, mul_assoc, add-mul}
 use Rattle.prefix_range.specs.Prefix.{Prefix, size_of, IsPrefix, Contains}
 use Rattle.book_rules.specs.declared.pool.Pool.{Pool}
 use Rattle.book_rules.specs.Book.{is_in, units_in}
-use Rattle.book_rules.specs.Places.{IsPool, index_in}
+use Rattle.book_rules.specs.Places.{IsPool, IsUnitAt, index_in}
 
 pub size_positive : (length : ℕ) → 0 < size_of length
 size_positive length = pow_pos (128 - length)
@@ -125,3 +125,68 @@ few_bits k le = pow_mono {i = k} {j = 16} le
 
 pub many_bits : (k : ℕ) → 16 < k → 65536 < 2 ^ k
 many_bits k lt = pow-lt {i = 16} {j = k} lt
+
+-- the pool's address is so many rows of its units
+aligned_pool : (pool : Pool) → IsPool pool → pool.prefix.address / size_of pool.unit_length * size_of pool.unit_length ≡ pool.prefix.address
+aligned_pool pool h =
+    let s = size_of pool.unit_length in
+    let k = pool.prefix.address / size_of pool.prefix.length in
+    let many = rows pool.prefix.length pool.unit_length h.longer h.short in
+    let times : pool.prefix.address ≡ k * units_in pool * s =
+    sym (row pool.prefix h.prefix) ∙ (ap (λ (n : ℕ). k * n) many ∙ (ap (λ (n : ℕ). k * n) (mul_comm s (units_in pool)) ∙ sym (mul_assoc k (units_in pool) s))) in
+    let whole : pool.prefix.address / s ≡ k * units_in pool = div-eq_of_eq-mul_left (size_positive pool.unit_length) times in
+    rw whole (sym times)
+
+abbrev pub placed : Pool → ℕ → Prefix
+placed pool i = record { address = pool.prefix.address + i * size_of pool.unit_length; length = pool.unit_length }
+
+-- the units of a pool end with it
+pub placed_below : (pool : Pool) (i : ℕ) → IsPool pool → i < units_in pool → i * size_of pool.unit_length + size_of pool.unit_length ≤ size_of pool.prefix.length
+placed_below pool i h lt =
+    let fits : i * size_of pool.unit_length + size_of pool.unit_length ≤ units_in pool * size_of pool.unit_length = row_fits i (size_of pool.unit_length) (units_in pool) (size_of pool.unit_length) lt (omega arith) in
+    let many = rows pool.prefix.length pool.unit_length h.longer h.short in
+    let turned : units_in pool * size_of pool.unit_length ≡ size_of pool.unit_length * units_in pool = mul_comm (units_in pool) (size_of pool.unit_length) in
+    omega (arith, fits, many, turned)
+
+pub unit_placed_at : (pool : Pool) (i : ℕ) (p : Prefix) → IsPool pool → i < units_in pool → p ≡ placed pool i → IsUnitAt pool i p
+unit_placed_at pool i p h lt is =
+    let s = size_of pool.unit_length in
+    let k = pool.prefix.address / s in
+    let positive : 0 < s = size_positive pool.unit_length in
+    let below = placed_below pool i h lt in
+    let end = ends_within pool.prefix h.prefix in
+    let start : k * s ≡ pool.prefix.address = aligned_pool pool h in
+    let sum : pool.prefix.address + i * s ≡ (k + i) * s = ap (λ (n : ℕ). n + i * s) (sym start) ∙ sym (add-mul k i s) in
+    let big = row pool.prefix h.prefix in
+    let K = pool.prefix.address / size_of pool.prefix.length in
+    let first : (pool.prefix.address + i * s) / size_of pool.prefix.length ≡ K =
+    ap (λ (n : ℕ). (n + i * s) / size_of pool.prefix.length) (sym big) ∙ div-mul-add K (size_of pool.prefix.length) (i * s) (omega (arith, below, positive)) in
+    let at : (pool.prefix.address + i * s) / s ≡ k + i = ap (λ (n : ℕ). n / s) sum ∙ div-eq_of_eq-mul_left positive refl in
+    subst (IsUnitAt pool i) (sym is) (record {
+      whole = record { short = h.short; address = omega (arith, below, end, positive); host_bits = rw sum (mul-mod_left (k + i) s) };
+      within = is_within pool (placed pool i) (record { bits = refl; first = first });
+      place = omega (arith, at);
+      address = refl;
+    })
+
+-- the only unit of a pool of its own length
+pub whole_pool : (pool : Pool) (i : ℕ) (p : Prefix) → IsPool pool → i < units_in pool → pool.unit_length ≡ 0 → p ≡ pool.prefix → IsUnitAt pool i p
+whole_pool pool i p h lt zero is =
+    let le = h.longer in
+    let bits : pool.prefix.length ≡ pool.unit_length = omega arith in
+    let one : units_in pool ≡ 1 = ap (λ (n : ℕ). 2 ^ (pool.unit_length - n)) bits ∙ (let z : pool.unit_length - pool.unit_length ≡ 0 = omega arith in ap (λ (n : ℕ). 2 ^ n) z) in
+    let none : i ≡ 0 = omega (arith, lt, one) in
+    let sum : pool.prefix.address ≡ pool.prefix.address + i * size_of pool.unit_length = rw none (omega arith) in
+    unit_placed_at pool i p h lt (is ∙ ap₂ prefix_at sum bits)
+
+-- each unit of a pool is the one at its place
+pub unit_of_place : (pool : Pool) (i : ℕ) (p q : Prefix) → IsPool pool → IsUnitAt pool i p → IsPrefix q → is_in pool q ≡ true → index_in pool q ≡ i → q ≡ p
+unit_of_place pool i p q h at good is e =
+    one_index pool q p h (within pool q is) (within pool p at.within) good.host_bits (let w = at.whole in w.host_bits) (e ∙ sym at.place)
+
+pub placed_fits : (pool : Pool) (i : ℕ) → IsPool pool → i < units_in pool → pool.prefix.address + i * size_of pool.unit_length < 2 ^ 128
+placed_fits pool i h lt =
+    let below = placed_below pool i h lt in
+    let end = ends_within pool.prefix h.prefix in
+    let positive = size_positive pool.unit_length in
+    omega (arith, below, end, positive)

@@ -96,7 +96,7 @@ unit_nowhere t p e = by_test (p.address % size_of p.length == 0) where
   by_test false = refl
   by_test true = rw e refl
 
-disjoint_push : (pools : List Pool) (more : Pool) → AreDisjoint pools → ((q : Pool) → Has pools q → Overlaps q.prefix more.prefix → ⊥) → AreDisjoint (pools ++ more ∷ [])
+pub disjoint_push : (pools : List Pool) (more : Pool) → AreDisjoint pools → ((q : Pool) → Has pools q → Overlaps q.prefix more.prefix → ⊥) → AreDisjoint (pools ++ more ∷ [])
 disjoint_push [] more d apart = (λ q has. absurd (omega (arith, has.1)), tt)
 disjoint_push (pool ∷ pools) more d apart = (
   λ q has meets. (elim (Contains-push_cases pools more q has) [

@@ -4,7 +4,10 @@ use Rattle.prefix_range.specs.Prefix.{Prefix}
 use Rattle.book_rules.specs.declared.standing.Standing.{Standing}
 use Rattle.book_rules.specs.Places.{Delegable, unit_at}
 
--- each line counts at most one change of a unit, and a later volume begins with at most 2^48
+-- each line counts at most one change of a unit, one message and one restart, and a later volume begins with at most
+-- 2^48 of each
 pub record Fits (s : Standing) (t : Delegable) : Type 0 where
   pub few : s.count ≤ 2 ^ 20
   pub mine : (p : Prefix) → (unit_at t p).mine ≤ 2 ^ 48 + s.count
+  pub serial : s.serial ≤ 2 ^ 48 + s.count
+  pub restart : s.restart ≤ 2 ^ 48 + s.count

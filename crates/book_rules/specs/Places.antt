@@ -1,5 +1,5 @@
 -- For bodies only: where the units of a table stand, pool behind pool.
-use Rattle.std.specs.Prelude.{◌≡◌, ℕ, ◌+◌, ◌-◌, ◌/◌, ◌%◌, ◌≤◌, ◌==◌, ⊤, Contains as Has, List, [], ◌∷◌, length, All}
+use Rattle.std.specs.Prelude.{◌≡◌, ℕ, ◌+◌, ◌-◌, ◌*◌, ◌/◌, ◌%◌, ◌≤◌, ◌==◌, ⊤, Contains as Has, List, [], ◌∷◌, length, All}
 use Rattle.std.specs.Prelude.{get_or}
 use Rattle.std.specs.Prelude.{true, false, Option, Some, None, if◌then◌else◌}
 use Rattle.std.specs.List.{sum_by}
@@ -24,6 +24,12 @@ abbrev pub AreDisjoint : List Pool → Type 0
 AreDisjoint [] = ⊤
 AreDisjoint (pool ∷ pools) = ((q : Pool) → Has pools q → Overlaps pool.prefix q.prefix → ⊥) × AreDisjoint pools
 
+-- pools as legal lines name them
+pub record ArePools (pools : List Pool) : Type 0 where
+  pub each : All IsPool pools
+  pub disjoint : AreDisjoint pools
+  pub few : sum_by units_in pools ≤ 65536
+
 -- what a unit adds to the count of marked ones
 abbrev pub mark_of : UnitValue → ℕ
 mark_of u = if u.marked then 1 else 0
@@ -38,6 +44,13 @@ pub record IsDelegable (pools : List Pool) (units : List UnitValue) (marks : ℕ
 -- the place of a unit in its pool
 abbrev pub index_in : Pool → Prefix → ℕ
 index_in pool p = p.address / size_of p.length - pool.prefix.address / size_of p.length
+
+-- the prefix is the pool's unit at a place
+pub record IsUnitAt (pool : Pool) (index : ℕ) (p : Prefix) : Type 0 where
+  pub whole : IsPrefix p
+  pub within : is_in pool p ≡ true
+  pub place : index_in pool p ≡ index
+  pub address : p.address ≡ pool.prefix.address + index * size_of pool.unit_length
 
 -- the place of a unit among those of the pools, counted on from n
 unfoldable pub place_on : ℕ → List Pool → Prefix → Option ℕ

@@ -46,3 +46,4 @@ pub use place::Place;
 pub use pool::Pool;
 pub use rule::{RULES, Rule};
 pub use table::Table;
+pub use volume_rules::are_apart;

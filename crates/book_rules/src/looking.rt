@@ -1,7 +1,8 @@
 //! What a table tells of its book.
 
-ghost use Rattle.std.specs.Prelude.{◌≡◌, ◌^◌, ◌≤◌, MatchOption, true, false};
+ghost use Rattle.std.specs.Prelude.{◌≡◌, ◌^◌, ◌<◌, ◌≤◌, MatchOption, true, false};
 ghost use Rattle.book_rules.specs.Book.{is_unit};
+ghost use Rattle.book_rules.specs.Places.{ArePools};
 ghost use Rattle.book_rules.specs.State.{state};
 
 use crate::pool::Pool;
@@ -84,14 +85,16 @@ impl Table {
 
     /// The serial of the last message sent.
     pub fn serial(&self) -> Counter
-        ensures { result ≡ (state self.now).serial }
+        ensures serial { result ≡ (state self.now).serial }
+        ensures fits { result < 2 ^ 49 }
     {
         self.standing.serial
     }
 
     /// The number of the last restart.
     pub fn restart(&self) -> Counter
-        ensures { result ≡ (state self.now).restart }
+        ensures restart { result ≡ (state self.now).restart }
+        ensures fits { result < 2 ^ 49 }
     {
         self.standing.restart
     }
@@ -119,7 +122,8 @@ impl Table {
 
     /// The pools, in the order of their lines.
     pub fn pools(&self) -> &[Pool]
-        ensures { result.now ≡ (state self.now).pools }
+        ensures pools { result.now ≡ (state self.now).pools }
+        ensures whole { ArePools result.now }
     {
         self.units.pools()
     }

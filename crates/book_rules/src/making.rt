@@ -1,6 +1,6 @@
 //! The state before the first line.
 
-ghost use Rattle.std.specs.Prelude.{◌≡◌};
+ghost use Rattle.std.specs.Prelude.{◌≡◌, IfOk};
 ghost use Rattle.journal_lines.specs.Head.{volume_number};
 ghost use Rattle.book_rules.specs.Book.{blank};
 ghost use Rattle.book_rules.specs.State.{state};
@@ -12,7 +12,7 @@ use crate::units::Units;
 use binding_rules::{Counter, Role};
 use journal_lines::Head;
 use lead_time::{Reading, Skew, Transit};
-use std::alloc::Global;
+use std::alloc::{AllocError, Global};
 
 /// No time at all.
 fn first_reading() -> Reading
@@ -62,5 +62,16 @@ impl Table {
             standing,
             units: Units::new(alloc),
         }
+    }
+
+    /// The same table, in memory of its own.
+    pub fn copy(&self) -> Result<Table, AllocError>
+        ensures { IfOk result (λ t. state t ≡ state self.now) }
+    {
+        let units = self.units.copy()?;
+        Ok(Table {
+            standing: self.standing,
+            units,
+        })
     }
 }

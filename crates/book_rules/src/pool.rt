@@ -1,8 +1,18 @@
 //! A pool of delegable prefixes.
 
-ghost use Rattle.std.specs.Prelude.{◌≡◌, ◌-◌, ◌≤◌, ◌↔◌, true, IsTrue};
+ghost use Rattle.std.specs.Prelude.{◌≡◌, ◌-◌, ◌<◌, ◌≤◌, ◌↔◌, true, IsTrue};
+ghost use Rattle.prefix_range.specs.Prefix.{size_of};
 
 use prefix_range::Prefix;
+
+/// How many addresses a prefix of this length has, where these aren't all addresses.
+fn addresses(length: u8) -> u128
+    requires some { 1 ≤ length }
+    requires short { length ≤ 128 }
+    ensures { result ≡ size_of length }
+{
+    1u128 << (128 - length)
+}
 
 /// A pool: the prefixes of `unit_length` bits in `prefix` are its units (RFC 8415, section 6.3).
 #[derive(Clone, Copy, Debug, PartialEq, Eq)]
@@ -13,7 +23,7 @@ pub struct Pool {
 
 impl Pool {
     ghost use Rattle.book_rules.specs.Book.{is_in, units_in};
-    ghost use Rattle.book_rules.specs.Places.{IsPool, index_in};
+    ghost use Rattle.book_rules.specs.Places.{IsPool, IsUnitAt, index_in};
 
     /// The pool of this prefix with units of this length.
     pub(crate) fn new(prefix: &Prefix, unit_length: u8) -> Pool
@@ -48,13 +58,29 @@ impl Pool {
         if unit.len() == 0 {
             return 0;
         }
-        let size = 1u128 << (128 - unit.len());
+        let size = addresses(unit.len());
         (unit.first() / size - self.prefix.first() / size) as usize
+    }
+
+    /// The unit at a place of the pool, counted from 0 in the order of addresses.
+    pub fn unit(&self, index: usize) -> Prefix
+        requires pool { IsPool self.now }
+        requires within { index < units_in self.now }
+        ensures { IsUnitAt self.now index result }
+    {
+        if self.unit_length == 0 {
+            return self.prefix;
+        }
+        let address = self.prefix.first() + index as u128 * addresses(self.unit_length);
+        match Prefix::new(address, self.unit_length) {
+            Ok(unit) => unit,
+            Err(_) => unreachable!(),
+        }
     }
 
     /// How many units the pool has.
     #[tactic(auto, using(crate::proofs::Ranges::few_bits, crate::proofs::Ranges::many_bits))]
-    pub(crate) fn count(&self) -> usize
+    pub fn count(&self) -> usize
         requires longer { self.now.prefix.length ≤ self.now.unit_length }
         requires few { units_in self.now ≤ 65536 }
         ensures { result ≡ units_in self.now }
@@ -64,7 +90,7 @@ impl Pool {
 
     /// Whether the pool has at most 65,536 units.
     #[tactic(auto, using(crate::proofs::Ranges::few_bits, crate::proofs::Ranges::many_bits))]
-    pub(crate) fn is_small(&self) -> bool
+    pub fn is_small(&self) -> bool
         requires { self.now.prefix.length ≤ self.now.unit_length }
         ensures { IsTrue result ↔ (units_in self.now ≤ 65536) }
     {

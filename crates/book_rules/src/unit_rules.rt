@@ -152,9 +152,9 @@ impl Table {
         }
     }
 
-    /// Whether a unit may be seized now.
-    fn is_seizable(&self, now: Reading, unit: &Unit) -> bool
-        ensures { IsTrue result ↔ IsSeizable (state self.now) now unit.now self.now.standing.down }
+    /// Whether a unit of a partner that is down may be seized at a reading.
+    pub fn is_seizable(&self, now: Reading, unit: &Unit) -> bool
+        ensures { IsTrue result ↔ IsSeizable (state self.now) now unit.now (state self.now).down }
     {
         let standing = &self.standing;
         match standing.down {

@@ -1,6 +1,6 @@
 //! The units of a server's pools.
 
-ghost use Rattle.std.specs.Prelude.{◌≡◌, ◌+◌, ◌<◌, ◌≤◌, ◌↔◌, ◌∷◌, ◌++◌, [], IsTrue, IfSome, IfErr, OnOk, true, length};
+ghost use Rattle.std.specs.Prelude.{◌≡◌, ◌+◌, ◌<◌, ◌≤◌, ◌↔◌, ◌∷◌, ◌++◌, [], IsTrue, IfSome, IfOk, IfErr, OnOk, true, length};
 ghost use Rattle.std.specs.Prelude.{if◌then◌else◌, All, Contains as Has};
 ghost use Rattle.std.specs.List.{sum_by};
 ghost use Rattle.prefix_range.specs.Prefix.{Prefix as PrefixValue, IsPrefix, Overlaps};
@@ -8,7 +8,7 @@ ghost use Rattle.book_rules.specs.declared.pool.Pool.{Pool as PoolValue};
 ghost use Rattle.book_rules.specs.Book.{is_unit, units_in};
 ghost use Rattle.book_rules.specs.Effects.{same_prefix};
 ghost use Rattle.book_rules.specs.Changes.{with_change, ChangesUnit};
-ghost use Rattle.book_rules.specs.Places.{IsPool, place_on, unit_at, mark_of, AreUnmarked};
+ghost use Rattle.book_rules.specs.Places.{IsPool, place_on, unit_at, mark_of, ArePools, AreUnmarked};
 
 use crate::change::Change;
 use crate::pool::Pool;
@@ -84,7 +84,8 @@ impl Units {
 
     /// The pools.
     pub(crate) fn pools(&self) -> &[Pool]
-        ensures { result.now ≡ self.now.pools }
+        ensures pools { result.now ≡ self.now.pools }
+        ensures whole { ArePools result.now }
     {
         &self.pools
     }
@@ -160,6 +161,19 @@ impl Units {
                 Err(error)
             }
         }
+    }
+
+    /// The same pools and units, in memory of their own.
+    pub(crate) fn copy(&self) -> Result<Units, AllocError>
+        ensures { IfOk result (λ u. u ≡ self.now) }
+    {
+        let pools = self.pools.clone()?;
+        let units = self.units.clone()?;
+        Ok(Units {
+            pools,
+            units,
+            marks: self.marks,
+        })
     }
 
     /// Whether no unit is marked.

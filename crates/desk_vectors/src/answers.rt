@@ -51,7 +51,9 @@ fn names_faults_of_texts(rt: HostRuntime) -> Result<(), Fail> {
     ];
     for (input, line) in cases {
         assert_eq!(rt;
-            judge(rt.alloc(), input.as_bytes(), skew, Transit::ZERO)?.line.as_slice(),
+            judge(rt.alloc(), input.as_bytes(), skew, Transit::ZERO)?
+                .line
+                .as_slice(),
             line.as_bytes()
         );
     }

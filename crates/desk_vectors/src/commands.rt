@@ -25,7 +25,14 @@ fn finds_commands(rt: HostRuntime) -> Result<(), Fail> {
         skew: Skew::new(2000)?,
         transit: Transit::new(3_600_000)?,
     };
-    let words = ["desk_cli", "audit", "--transit-ms", "3600000", "--skew-ms", "2000"];
+    let words = [
+        "desk_cli",
+        "audit",
+        "--transit-ms",
+        "3600000",
+        "--skew-ms",
+        "2000",
+    ];
     assert_eq!(rt; command(rt.alloc(), &words)?, Ok(longest));
     let found = command(rt.alloc(), &["desk_cli", "timeline"])?;
     assert_eq!(rt; found, Ok(Command::Timeline));
@@ -38,8 +45,22 @@ fn finds_commands(rt: HostRuntime) -> Result<(), Fail> {
         &["desk_cli", "audit", "--skew-ms", "86400001"],
         &["desk_cli", "audit", "--transit-ms", "500"],
         &["desk_cli", "audit", "--skew-ms", "2000", "--transit-ms"],
-        &["desk_cli", "audit", "--skew-ms", "2000", "--transit-ms", "3600001"],
-        &["desk_cli", "audit", "--skew-ms", "2000", "--transit-ms", "1e3"],
+        &[
+            "desk_cli",
+            "audit",
+            "--skew-ms",
+            "2000",
+            "--transit-ms",
+            "3600001",
+        ],
+        &[
+            "desk_cli",
+            "audit",
+            "--skew-ms",
+            "2000",
+            "--transit-ms",
+            "1e3",
+        ],
         &["desk_cli", "audit", "--skew-ms", "2000", "more"],
         &["desk_cli", "audit", "--help"],
         &["desk_cli", "judge", "--skew-ms", "2000"],

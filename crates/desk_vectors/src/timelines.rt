@@ -121,7 +121,11 @@ const RUNS: [(&str, &str, u8); 8] = [
     (CIRCULAR, "refused X3 Circular\n", 1),
     (ILLEGAL, "B1 4 state normal\nA1 5 close\nB2 5 close\n", 0),
     ("", "refused J1 Head A\n", 1),
-    ("pd-journal 1 A\n1 5 close\nend 1\n", "refused J1 Head B\n", 1),
+    (
+        "pd-journal 1 A\n1 5 close\nend 1\n",
+        "refused J1 Head B\n",
+        1,
+    ),
     (
         "pd-journal 1 A\n1 5 close\nend 1\npd-journal 1 B\n1 5 close\nend 1\nend\n",
         "refused J5 End B\n",

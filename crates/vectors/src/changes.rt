@@ -1,14 +1,21 @@
 //! Accepted inputs with one part changed, and what the audit of their lines answers then.
 
+ghost use Rattle.std.specs.Prelude.{◌^◌, ◌<◌, length, IfOk, IfSome};
+ghost use Rattle.causal_order.specs.Journals.{journals_of};
+ghost use Rattle.journal_merge.specs.Interleaving.{IsInterleaving};
+
 use crate::three_texts::cut;
 use attribution::{Verdict, verdict_line};
 use auditor::{PlainSource, audit};
 use certificate::CertificateError;
-use journal_text::{read, written_is_closed};
+use journal_merge::{MergeError, Merged, merge};
+use journal_text::{Journal, read, written_is_closed};
 use lead_time::{Skew, Transit};
+use line_index::LineIndex;
 use std::alloc::{AllocError, Global};
 use std::process::Abort;
 use std::test::Fail;
+use std::thread::Threads;
 
 pub const SKEW: u64 = 2000;
 
@@ -29,8 +36,24 @@ pub const REASON: &str = "refused C10 Reason A3\n";
 /// A part of an input, what is put in its place, and the answer then.
 pub type Change = (&'static str, &'static str, &'static str);
 
-/// The verdict on an input's certificate over the lines of its journals, whatever rules these break.
+/// The journals' lines in one order, where they have one.
+fn merged(alloc: Global, primary: &Journal, secondary: &Journal) -> Result<Option<Merged>, Fail>
+    requires few_primary { length primary.now.lines < 2 ^ 32 }
+    requires few_secondary { length secondary.now.lines < 2 ^ 32 }
+    ensures { IfOk result
+        (λ found. IfSome found (λ m. IsInterleaving (journals_of primary.now secondary.now) m.refs)) }
+{
+    match merge(alloc, primary, secondary) {
+        Ok(merged) => Ok(Some(merged)),
+        Err(MergeError::Memory) => Err(AllocError)?,
+        Err(_) => Ok(None),
+    }
+}
+
+/// The verdict on an input's certificate over the lines of its journals, whatever rules these break: by a walk over
+/// them and, where their messages fit one another, by their index.
 pub fn verdict_on(
+    rt: &(impl Abort + Threads + Sync),
     alloc: Global,
     input: &str,
     skew: Skew,
@@ -43,7 +66,12 @@ pub fn verdict_on(
     match certificate::read(alloc, texts.certificate.as_bytes()) {
         Ok(claim) => {
             let source = PlainSource::new(&primary, &secondary);
-            Ok(audit(&source, &claim, skew, transit))
+            let verdict = audit(&source, &claim, skew, transit);
+            if let Some(merged) = merged(alloc, &primary, &secondary)? {
+                let index = LineIndex::build(rt, alloc, &primary, &secondary, &merged)?;
+                assert_eq!(rt; audit(&index, &claim, skew, transit), verdict);
+            }
+            Ok(verdict)
         }
         Err(CertificateError::Fault(fault)) => Ok(Verdict::Certificate(fault)),
         Err(CertificateError::Memory) => Err(AllocError)?,
@@ -52,32 +80,32 @@ pub fn verdict_on(
 
 /// That the verdict on an input has this line, with answers as long under way as said, in milliseconds.
 pub fn check_in_transit(
-    rt: &impl Abort,
+    rt: &(impl Abort + Threads + Sync),
     alloc: Global,
     input: &str,
     transit: u64,
     line: &str,
 ) -> Result<(), Fail> {
-    let verdict = verdict_on(alloc, input, Skew::new(SKEW)?, Transit::new(transit)?)?;
+    let verdict = verdict_on(rt, alloc, input, Skew::new(SKEW)?, Transit::new(transit)?)?;
     assert_eq!(rt; verdict_line(alloc, &verdict)?.as_slice(), line.as_bytes());
     Ok(())
 }
 
 /// That the verdict on an input has this line, with clocks as far from true time as said, in milliseconds.
 pub fn check_answer(
-    rt: &impl Abort,
+    rt: &(impl Abort + Threads + Sync),
     alloc: Global,
     input: &str,
     skew: u64,
     line: &str,
 ) -> Result<(), Fail> {
-    let verdict = verdict_on(alloc, input, Skew::new(skew)?, Transit::ZERO)?;
+    let verdict = verdict_on(rt, alloc, input, Skew::new(skew)?, Transit::ZERO)?;
     assert_eq!(rt; verdict_line(alloc, &verdict)?.as_slice(), line.as_bytes());
     Ok(())
 }
 
 pub fn check_changes(
-    rt: &impl Abort,
+    rt: &(impl Abort + Threads + Sync),
     alloc: Global,
     input: &str,
     changes: &[Change],

@@ -255,7 +255,7 @@ fn refuses_without_any_line(rt: HostRuntime) -> Result<(), Fail> {
             let Some(left) = without_line(rt.alloc(), input, number)? else {
                 panic!(rt; "the certificate has no line {number}");
             };
-            let verdict = verdict_on(rt.alloc(), left.as_str(), skew, Transit::ZERO)?;
+            let verdict = verdict_on(&rt, rt.alloc(), left.as_str(), skew, Transit::ZERO)?;
             assert_ne!(rt; verdict, Verdict::Accepted);
         }
         assert_eq!(rt; without_line(rt.alloc(), input, lines)?, None);

@@ -18,6 +18,8 @@ mod round_trips;
 #[cfg(test)]
 mod rules;
 #[cfg(test)]
+mod sources;
+#[cfg(test)]
 mod texts;
 #[cfg(test)]
 mod three_texts;

@@ -103,7 +103,8 @@ end 6",
 5 3650000 expire 2001:0db8:0000:0000:0000:0000:0000:0000/56
 6 3700000 close
 end 6",
-        ACCEPTED,
+        // no rule is broken, but the secondary never sent that
+        "refused X1 Unsent A4\n",
     ),
     (
         PRIMARY_CLOSE,

@@ -10,6 +10,8 @@ pub invariant_of-result : goal.invariant_of-result
 invariant_of-result c = record {
   fits = record {
     few = omega arith;
+    serial = omega arith;
+    restart = omega arith;
     mine = λ p. (let e : (unit_at c.new.result p).mine ≡ 0 = ap (λ (t : Delegable). (unit_at t p).mine) c.new.ensures ∙ rw (none_changed p) refl in omega (arith, e));
   };
 }

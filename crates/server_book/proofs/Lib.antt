@@ -1,0 +1,9 @@
+pub mod Lowest
+pub mod Refusals
+pub mod Kept
+pub mod Pools
+pub mod Found
+pub mod OneName
+pub mod OneAnswer
+pub mod IaReplies
+pub mod FirstLines

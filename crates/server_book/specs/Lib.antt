@@ -1,0 +1,10 @@
+pub mod Replayed
+pub mod Bindings
+pub mod Named
+pub mod Answer
+pub mod Settings
+pub mod Messages
+pub mod Document
+pub mod Laws
+pub mod Queries
+pub mod Searching

@@ -1,0 +1,165 @@
+//! What a client's message orders, and the message that answers it.
+
+ghost use Rattle.std.specs.Prelude.{◌≡◌, ◌≤◌, ◌++◌, [], length, IfOk, IfErr, OnOk};
+ghost use Rattle.server_book.specs.Messages.{asked_in, order_by, order_of, written_of, and_reply, replies_of};
+ghost use Rattle.server_book.specs.Messages.{kind_of, is_release, answer_of};
+
+use crate::error::BookError;
+use crate::order::{Asked, Order};
+use client_id::{Duid, Iaid};
+use dhcp6_pd::{
+    ClientKind, ClientMessage, IaPd, IaReply, IaReplyAnswer, InterfaceId, Relay, RelayList,
+    ServerKind, ServerMessage,
+};
+use lists::Listed;
+use prefix_range::Prefix;
+use std::alloc::{AllocError, Global};
+
+/// What became of one IA_PD of a client's message.
+#[derive(Clone, Copy, Debug, PartialEq, Eq)]
+pub enum IaAnswer {
+    /// The client has this prefix for so many seconds.
+    Given { prefix: Prefix, valid: u32 },
+    /// There is no prefix for it.
+    NoPrefix,
+    /// It has no such binding.
+    NoBinding,
+    /// Its prefix was taken back: the answer says nothing of it.
+    Released,
+}
+
+fn order_by(kind: ClientKind, asked: Asked) -> Order
+    ensures { result ≡ order_by kind asked }
+{
+    match kind {
+        ClientKind::Solicit | ClientKind::Request => Order::Request(asked),
+        ClientKind::Renew | ClientKind::Rebind => Order::Renew(asked),
+        ClientKind::Release => Order::Release(asked),
+    }
+}
+
+/// The order of a message's IA_PD at a place, counted from 0; `None` past the last. A SOLICIT's is to be offered, not
+/// applied.
+pub fn order_of(message: &ClientMessage, place: usize) -> Option<Order>
+    ensures { result ≡ order_of message.now place }
+{
+    match message.ias.as_slice().get(place) {
+        Some(ia) => Some(order_by(
+            message.kind,
+            Asked {
+                client: message.client,
+                iaid: ia.iaid,
+                hint: ia.hint,
+            },
+        )),
+        None => None,
+    }
+}
+
+fn written_of(answer: &IaAnswer) -> Option<IaReplyAnswer>
+    ensures { result ≡ written_of answer.now }
+{
+    match answer {
+        IaAnswer::Given { prefix, valid } => Some(IaReplyAnswer::Given {
+            prefix: *prefix,
+            valid: *valid,
+        }),
+        IaAnswer::NoPrefix => Some(IaReplyAnswer::NoPrefix),
+        IaAnswer::NoBinding => Some(IaReplyAnswer::NoBinding),
+        IaAnswer::Released => None,
+    }
+}
+
+/// Adds what is written of an answer.
+fn add_reply(replies: &mut Vec<IaReply>, iaid: Iaid, answer: &IaAnswer) -> Result<(), AllocError>
+    ensures { OnOk result (replies.new.items ≡ replies.old.items ++ and_reply iaid (written_of answer.now) []) }
+{
+    match written_of(answer) {
+        Some(answer) => replies.extend_from_slice(&[IaReply { iaid, answer }]),
+        None => Ok(()),
+    }
+}
+
+fn replies_of(alloc: Global, ias: &[IaPd], answers: &[IaAnswer]) -> Result<Vec<IaReply>, AllocError>
+    requires { length answers.now ≡ length ias.now }
+    ensures { IfOk result (λ v. v.items ≡ replies_of ias.now answers.now) }
+{
+    let mut replies = Vec::new(alloc);
+    for (place, ia) in ias.iter().enumerate() {
+        add_reply(&mut replies, ia.iaid, &answers[place])?;
+    }
+    Ok(replies)
+}
+
+fn copy_of_interface(
+    alloc: Global,
+    interface: &Option<InterfaceId>,
+) -> Result<Option<InterfaceId>, AllocError>
+    ensures { IfOk result (λ i. i ≡ interface.now) }
+{
+    match interface {
+        Some(id) => {
+            let id = InterfaceId::from_bytes(alloc, id.as_bytes())?;
+            Ok(Some(id))
+        }
+        None => Ok(None),
+    }
+}
+
+fn copy_of_relay(alloc: Global, relay: &Relay) -> Result<Relay, AllocError>
+    ensures { IfOk result (λ r. r ≡ relay.now) }
+{
+    let interface = copy_of_interface(alloc, &relay.interface)?;
+    Ok(Relay {
+        hops: relay.hops,
+        link: relay.link,
+        peer: relay.peer,
+        interface,
+    })
+}
+
+fn copy_of_relays(alloc: Global, relays: &[Relay]) -> Result<RelayList, AllocError>
+    ensures { IfOk result (λ r. r ≡ relays.now) }
+{
+    let mut copies = Vec::with_capacity(alloc, relays.len())?;
+    for relay in relays {
+        let copy = copy_of_relay(alloc, relay)?;
+        copies.push(copy)?;
+    }
+    Ok(Listed::new(copies))
+}
+
+fn kind_of(kind: ClientKind) -> ServerKind
+    ensures { result ≡ kind_of kind }
+{
+    match kind {
+        ClientKind::Solicit => ServerKind::Advertise,
+        _ => ServerKind::Reply,
+    }
+}
+
+/// The message of the server `own` that answers a client's message with one answer for each of its IA_PDs, in their
+/// order. It refuses for want of memory alone.
+pub fn answer_of(
+    alloc: Global,
+    message: &ClientMessage,
+    own: &Duid,
+    answers: &[IaAnswer],
+) -> Result<ServerMessage, BookError>
+    requires some { 1 ≤ length message.now.ias }
+    requires each { length answers.now ≡ length message.now.ias }
+    ensures answered { IfOk result (λ s. s ≡ answer_of message.now own.now answers.now) }
+    ensures refused { IfErr result (λ e. e ≡ BookError.Memory) }
+{
+    let relays = copy_of_relays(alloc, message.relays.as_slice())?;
+    let ias = replies_of(alloc, message.ias.as_slice(), answers)?;
+    Ok(ServerMessage {
+        relays,
+        kind: kind_of(message.kind),
+        xid: message.xid,
+        client: message.client,
+        server: *own,
+        success: matches!(&message.kind, ClientKind::Release),
+        ias: Listed::new(ias),
+    })
+}

@@ -1,0 +1,205 @@
+//! The index of two journals gives the lines that a walk over them gives.
+
+ghost use Rattle.std.specs.Prelude.{◌<◌};
+
+use auditor::{LineSource, PlainSource};
+use binding_rules::Role;
+use causal_order::Ref;
+use journal_merge::merge;
+use journal_text::{read, written_is_closed};
+use line_index::LineIndex;
+use prefix_range::{Prefix, push_prefix, read_canonical};
+use std::alloc::{AllocError, Global};
+use std::process::Abort;
+use std::test::Fail;
+use std::thread::Threads;
+use text_fields::push_number;
+
+/// The lines that a source gives for a prefix.
+fn given<S: LineSource>(
+    alloc: Global,
+    source: &S,
+    prefix: &Prefix,
+) -> Result<Vec<Ref>, AllocError> {
+    let mut refs = Vec::new(alloc);
+    for index in 0..source.overlap_count(prefix) {
+        refs.push(source.overlap_at(prefix, index))?;
+    }
+    Ok(refs)
+}
+
+/// Grants, releases and a carry line: units of /56 side by side, a /48 and a /64 round and in the second, and the ends
+/// of all addresses.
+const PRIMARY: &str = "pd-journal 2 A 2
+1 5 grant 00030001020000000001 00000001 2001:0db8:0000:0100:0000:0000:0000:0000/56 3600
+2 5 carry 00030001020000000001 00000001 2001:0db8:0000:0100:0000:0000:0000:0000/56 3600000
+3 5 grant 00030001020000000001 00000001 2001:0db8:0000:0000:0000:0000:0000:0000/48 3600
+4 5 release 00030001020000000001 00000001 2001:0db8:0000:0200:0000:0000:0000:0000/56
+5 5 expire 2001:0db8:0000:0100:0000:0000:0000:0000/56
+6 5 grant 00030001020000000001 00000001 ffff:ffff:ffff:ffff:ffff:ffff:ffff:ffff/128 3600
+7 5 close
+end 7
+";
+
+const SECONDARY: &str = "pd-journal 1 B
+1 5 release 00030001020000000001 00000001 2001:0db8:0000:0100:0000:0000:0000:0000/64
+2 5 grant 00030001020000000001 00000001 0000:0000:0000:0000:0000:0000:0000:0000/0 3600
+3 5 grant 00030001020000000001 00000001 2001:0db8:0000:0100:0000:0000:0000:0000/56 3600
+4 5 grant 00030001020000000001 00000001 0000:0000:0000:0000:0000:0000:0000:0000/128 3600
+5 5 close
+end 5
+";
+
+/// Prefixes, and the lines that concern each, in the order of their prefixes' lengths and addresses.
+const ASKED: [(&str, &str); 9] = [
+    (
+        "2001:0db8:0000:0100:0000:0000:0000:0000/56",
+        "B2 A3 A1 A2 B3 B1",
+    ),
+    (
+        "2001:0db8:0000:01ff:ffff:ffff:ffff:ffff/128",
+        "B2 A3 A1 A2 B3",
+    ),
+    (
+        "2001:0db8:0000:0100:0000:0000:0000:0000/128",
+        "B2 A3 A1 A2 B3 B1",
+    ),
+    ("2001:0db8:0000:0200:0000:0000:0000:0000/64", "B2 A3 A4"),
+    ("2001:0db8:0000:0300:0000:0000:0000:0000/56", "B2 A3"),
+    ("2001:0db8:0001:0000:0000:0000:0000:0000/48", "B2"),
+    (
+        "2001:0db8:0000:0000:0000:0000:0000:0000/47",
+        "B2 A3 A1 A2 B3 A4 B1",
+    ),
+    (
+        "0000:0000:0000:0000:0000:0000:0000:0000/0",
+        "B2 A3 A1 A2 B3 A4 B1 B4 A6",
+    ),
+    ("ffff:ffff:ffff:ffff:ffff:ffff:ffff:fffe/127", "B2 A6"),
+];
+
+/// References as text: `A1 B2 ..`.
+fn spelled(alloc: Global, refs: &[Ref]) -> Result<Vec<u8>, AllocError> {
+    let mut text = Vec::new(alloc);
+    for at in refs {
+        if !text.is_empty() {
+            text.push(b' ')?;
+        }
+        text.push(match at.side {
+            Role::Primary => b'A',
+            Role::Secondary => b'B',
+        })?;
+        push_number(&mut text, u64::from(at.number))?;
+    }
+    Ok(text)
+}
+
+#[test]
+fn finds_what_overlaps(rt: HostRuntime) -> Result<(), Fail> {
+    written_is_closed();
+    let a = read(rt.alloc(), PRIMARY.as_bytes())?;
+    let b = read(rt.alloc(), SECONDARY.as_bytes())?;
+    let merged = merge(rt.alloc(), &a, &b)?;
+    let index = LineIndex::build(&rt, rt.alloc(), &a, &b, &merged)?;
+    for (prefix, lines) in ASKED {
+        let prefix = read_canonical(prefix.as_bytes())?;
+        let refs = given(rt.alloc(), &index, &prefix)?;
+        assert_eq!(rt; spelled(rt.alloc(), &refs)?.as_slice(), lines.as_bytes());
+    }
+    Ok(())
+}
+
+/// Numbers that look random, the same in each run.
+#[derive(Clone, Copy)]
+struct Numbers {
+    state: u64,
+}
+
+impl Numbers {
+    /// The next, below this limit.
+    fn below(&mut self, limit: u64) -> u64
+        requires { 0 < limit }
+        ensures { result < limit }
+    {
+        self.state = self
+            .state
+            .wrapping_mul(6_364_136_223_846_793_005)
+            .wrapping_add(1_442_695_040_888_963_407);
+        (self.state >> 33) % limit
+    }
+
+    /// A prefix of any length, one of few of that length.
+    fn prefix(&mut self) -> Result<Prefix, Fail> {
+        let mut address = 0x2001_0db8_u128 << 96;
+        for place in [127_u32, 96, 79, 72, 71, 64, 63, 1, 0] {
+            if self.below(3) == 0 {
+                address ^= 1_u128.checked_shl(place).unwrap_or(0);
+            }
+        }
+        let bits = self.below(129) as u32;
+        let rest = 128 - bits;
+        let address = address.checked_shr(rest).unwrap_or(0);
+        Ok(Prefix::new(address.checked_shl(rest).unwrap_or(0), bits as u8)?)
+    }
+}
+
+/// A journal of so many lines that speak of prefixes, under this head line.
+fn journal(alloc: Global, numbers: &mut Numbers, head: &str, count: u64) -> Result<Vec<u8>, Fail> {
+    let mut text = head.as_bytes().to_vec(alloc)?;
+    for number in 1..=count {
+        push_number(&mut text, number)?;
+        let kind = numbers.below(3);
+        text.extend_from_slice(match kind {
+            0 => b" 5 grant 000300 00000001 ".as_slice(),
+            1 => b" 5 release 000300 00000001 ".as_slice(),
+            _ => b" 5 carry 000300 00000001 ".as_slice(),
+        })?;
+        push_prefix(&mut text, &numbers.prefix()?)?;
+        text.extend_from_slice(match kind {
+            1 => b"\n".as_slice(),
+            _ => b" 7\n".as_slice(),
+        })?;
+    }
+    push_number(&mut text, count.saturating_add(1))?;
+    text.extend_from_slice(b" 5 close\nend ")?;
+    push_number(&mut text, count.saturating_add(1))?;
+    text.push(b'\n')?;
+    Ok(text)
+}
+
+/// That both give the same lines for prefixes of every length.
+fn check_same(
+    rt: &(impl Abort + Threads + Sync),
+    alloc: Global,
+    numbers: &mut Numbers,
+    primary: &[u8],
+    secondary: &[u8],
+) -> Result<(), Fail> {
+    written_is_closed();
+    let a = read(alloc, primary)?;
+    let b = read(alloc, secondary)?;
+    let plain = PlainSource::new(&a, &b);
+    let merged = merge(alloc, &a, &b)?;
+    let index = LineIndex::build(rt, alloc, &a, &b, &merged)?;
+    for _ in 0..200 {
+        let prefix = numbers.prefix()?;
+        let walked = given(alloc, &plain, &prefix)?;
+        let found = given(alloc, &index, &prefix)?;
+        assert_eq!(rt; walked.len(), found.len());
+        for at in &walked {
+            assert!(rt; found.contains(at));
+        }
+    }
+    Ok(())
+}
+
+#[test]
+fn gives_what_a_walk_gives(rt: HostRuntime) -> Result<(), Fail> {
+    let mut numbers = Numbers { state: 19 };
+    for (first, second) in [(0, 0), (1, 0), (0, 3), (40, 60), (150, 120)] {
+        let primary = journal(rt.alloc(), &mut numbers, "pd-journal 1 A\n", first)?;
+        let secondary = journal(rt.alloc(), &mut numbers, "pd-journal 2 B 2\n", second)?;
+        check_same(&rt, rt.alloc(), &mut numbers, &primary, &secondary)?;
+    }
+    Ok(())
+}
