@@ -73,4 +73,5 @@ def main():
     measure_foreign(sys.argv[2] if len(sys.argv) > 2 else "1000")
 
 
-main()
+if __name__ == "__main__":
+    main()

@@ -90,19 +90,24 @@ pub fn take(book: &mut Book, now: Reading, message: PartnerMessage) -> Result<Ou
     }
 }
 
+/// What a book sends by an order, as its partner takes it.
+fn sent(book: &mut Book, now: Reading, order: &Order) -> Option<PartnerMessage> {
+    let reply = book.apply(now, order);
+    match &reply {
+        Ok(Reply::Sent { serial, body }) => Some(PartnerMessage {
+            term: 0,
+            serial: *serial,
+            body: *body,
+        }),
+        _ => None,
+    }
+}
+
 /// What a book makes of what another is ordered to send.
 pub fn pass(from: &mut Book, to: &mut Book, now: Reading, order: &Order) -> Result<Outcome, Fail> {
-    match from.apply(now, order) {
-        Ok(Reply::Sent { serial, body }) => take(
-            to,
-            now,
-            PartnerMessage {
-                term: 0,
-                serial,
-                body,
-            },
-        ),
-        _ => Err(Fail::from("nothing was sent")),
+    match sent(from, now, order) {
+        Some(message) => take(to, now, message),
+        None => Err(Fail::from("nothing was sent")),
     }
 }
 

@@ -42,10 +42,15 @@ fn refused(error: BookError) -> Result<IaAnswer, Fail> {
 
 /// What an order gets.
 fn applied(book: &mut Book, order: &Order) -> Result<IaAnswer, Fail> {
-    match book.apply(at(10_000)?, order) {
-        Ok(Reply::Granted { prefix, valid }) => Ok(IaAnswer::Given { prefix, valid }),
+    let now = at(10_000)?;
+    let reply = book.apply(now, order);
+    match &reply {
+        Ok(Reply::Granted { prefix, valid }) => Ok(IaAnswer::Given {
+            prefix: *prefix,
+            valid: *valid,
+        }),
         Ok(_) => Ok(IaAnswer::Released),
-        Err(error) => refused(error),
+        Err(error) => refused(*error),
     }
 }
 
