@@ -1,6 +1,6 @@
 -- For bodies only: where the units of a table stand, pool behind pool.
-use Rattle.std.specs.Prelude.{◌≡◌, ℕ, ◌+◌, ◌-◌, ◌*◌, ◌/◌, ◌%◌, ◌≤◌, ◌==◌, ⊤, Contains as Has, List, [], ◌∷◌}
-use Rattle.std.specs.Prelude.{length, All, get_or}
+use Rattle.std.specs.Prelude.{◌≡◌, ℕ, ◌+◌, ◌-◌, ◌*◌, ◌/◌, ◌%◌, ◌≤◌, ◌==◌, ⊤, Contains as Has, List, [], ◌∷◌, length, All}
+use Rattle.std.specs.Prelude.{get_or}
 use Rattle.std.specs.Prelude.{true, false, Option, Some, None, if◌then◌else◌}
 use Rattle.std.specs.List.{sum_by}
 use Rattle.prefix_range.specs.Prefix.{Prefix, IsPrefix, Overlaps, size_of}

@@ -1,7 +1,7 @@
 //! The units of a server's pools.
 
-ghost use Rattle.std.specs.Prelude.{◌≡◌, ◌+◌, ◌<◌, ◌≤◌, ◌↔◌, ◌∷◌, ◌++◌, [], IsTrue, IfSome, IfOk, IfErr, OnOk, true};
-ghost use Rattle.std.specs.Prelude.{length, if◌then◌else◌, All, Contains as Has};
+ghost use Rattle.std.specs.Prelude.{◌≡◌, ◌+◌, ◌<◌, ◌≤◌, ◌↔◌, ◌∷◌, ◌++◌, [], IsTrue, IfSome, IfOk, IfErr, OnOk, true, length};
+ghost use Rattle.std.specs.Prelude.{if◌then◌else◌, All, Contains as Has};
 ghost use Rattle.std.specs.List.{sum_by};
 ghost use Rattle.prefix_range.specs.Prefix.{Prefix as PrefixValue, IsPrefix, Overlaps};
 ghost use Rattle.book_rules.specs.declared.pool.Pool.{Pool as PoolValue};

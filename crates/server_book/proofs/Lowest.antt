@@ -1,6 +1,7 @@
 -- The lowest unit of a kind, pool by pool.
 use Rattle.std.proofs.Common.{◌≡◌, ℕ, ◌+◌, ◌*◌, ◌<◌, ◌≤◌, ◌⊎◌, ◌||◌, Bool, true, false, nat_le, List, [], ◌∷◌, ◌++◌, length, take, get_or, ap, sym, ◌∙◌, subst, arith, inl, inr, refl, Option, Some, None, add-one}
-use Rattle.std.specs.Prelude.{if◌then◌else◌}
+use Rattle.std.specs.Prelude.{if◌then◌else◌, All}
+use Rattle.std.specs.List.{sum_by}
 use Rattle.std.proofs.Math.Nat.{eq-or-lt_of_le, mul-le-mul_right}
 use Rattle.std.proofs.Math.Seq.{take-suc}
 use Rattle.std.proofs.lemmas.List.{take_all}
@@ -13,8 +14,8 @@ use Rattle.book_rules.specs.Book.{Book, is_in, is_unit, units_in}
 use Rattle.book_rules.specs.Places.{IsPool, IsUnitAt, ArePools, index_in}
 use Rattle.book_rules.proofs.Ranges.{within, index_below, unit_of_place, unit_placed_at, placed}
 use Rattle.server_book.specs.declared.searching.Wanted.{Wanted}
-use Rattle.server_book.specs.Bindings.{IsLowest, IsLeastOf}
-use Rattle.server_book.specs.Searching.{IsSome, IsThere, IsThereIn, lower_of}
+use Rattle.server_book.specs.Bindings.{IsUnitOf, IsLowest, IsLeastOf}
+use Rattle.server_book.specs.Searching.{IsWanted, IsThere, IsThereIn, lower_of}
 
 -- none of a pool's units up to a place is wanted
 pub record NoneBefore (b : Book) (w : Wanted) (from : ℕ) (pool : Pool) (i : ℕ) : Type 0 where
@@ -138,5 +139,5 @@ pub pool_in : (pools : List Pool) (i : ℕ) (pool : Pool) → ArePools pools →
 pool_in pools i pool h lt is = subst IsPool (sym is) (All-get_or IsPool pools i pool lt h.each)
 
 -- from the first address on is anywhere
-pub least_anywhere : (b : Book) (w : Wanted) (o : Option Prefix) → IsLeastOf (IsThere b w 0) o → IsLeastOf (IsSome b w) o
-least_anywhere b w o h = least_map (IsThere b w 0) (IsSome b w) o (λ q is. (is.0, is.1)) (λ q is. (is.0, is.1, omega arith)) h
+pub least_anywhere : (b : Book) (w : Wanted) (o : Option Prefix) → IsLeastOf (IsThere b w 0) o → IsLeastOf (λ p. IsUnitOf b p × IsWanted b w (b.units p)) o
+least_anywhere b w o h = least_map (IsThere b w 0) (λ p. IsUnitOf b p × IsWanted b w (b.units p)) o (λ q is. (is.0, is.1)) (λ q is. (is.0, is.1, omega arith)) h

@@ -7,8 +7,7 @@ use Rattle.book_rules.specs.declared.pool.Pool.{Pool}
 use Rattle.book_rules.specs.Book.{Book, is_in}
 use Rattle.book_rules.specs.UnitRules.{IsActiveFor, IsSeizable}
 use Rattle.server_book.specs.declared.searching.Wanted.{Wanted}
-use Rattle.server_book.specs.declared.searching.Wanted.TheVariants.{Usable, Bound, Expirable, Seizable, Pending}
-use Rattle.server_book.specs.declared.searching.Wanted.TheVariants.{Due, Marked}
+use Rattle.server_book.specs.declared.searching.Wanted.TheVariants.{Usable, Bound, Expirable, Seizable, Pending, Due, Marked}
 use Rattle.server_book.specs.Bindings.{IsUnitOf}
 use Rattle.server_book.specs.Queries.{MayExpire}
 
@@ -20,9 +19,6 @@ IsWanted b (Seizable now) u = IsSeizable b now u b.down
 IsWanted b Pending u = u.pending ≢ None
 IsWanted b Due u = u.due ≢ None
 IsWanted b Marked u = u.marked ≡ true
-
-abbrev pub IsSome : Book → Wanted → Prefix → Type 0
-IsSome b w p = IsUnitOf b p × IsWanted b w (b.units p)
 
 -- of the units from an address on
 abbrev pub IsThere : Book → Wanted → ℕ → Prefix → Type 0

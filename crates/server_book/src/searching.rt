@@ -4,9 +4,9 @@ ghost use Rattle.std.specs.Prelude.{◌≡◌, ◌≤◌, ◌↔◌, IsTrue};
 ghost use Rattle.book_rules.specs.Book.{units_in};
 ghost use Rattle.book_rules.specs.Places.{IsPool};
 ghost use Rattle.book_rules.specs.State.{state};
-ghost use Rattle.server_book.specs.Bindings.{IsLeastOf};
+ghost use Rattle.server_book.specs.Bindings.{IsUnitOf, IsLeastOf};
 ghost use Rattle.server_book.specs.Queries.{MayExpire};
-ghost use Rattle.server_book.specs.Searching.{IsWanted, IsSome, IsThere, IsThereIn, lower_of};
+ghost use Rattle.server_book.specs.Searching.{IsWanted, IsThere, IsThereIn, lower_of};
 
 use binding_rules::{Binding, Status, Unit, grantable, renewable};
 use book_rules::{Pool, Table};
@@ -105,7 +105,7 @@ pub(crate) fn lowest_from(table: &Table, wanted: &Wanted, from: u128) -> Option<
 
 /// The lowest unit that is wanted.
 pub(crate) fn lowest(table: &Table, wanted: &Wanted) -> Option<Prefix>
-    ensures { IsLeastOf (IsSome (state table.now) wanted.now) result }
+    ensures { IsLeastOf (λ p. IsUnitOf (state table.now) p × IsWanted (state table.now) wanted.now ((state table.now).units p)) result }
 {
     lowest_from(table, wanted, 0)
 }
