@@ -63,30 +63,6 @@ fn tells_a_read_that_fails(rt: HostRuntime) -> Result<(), Fail> {
     Ok(())
 }
 
-/// Gives an octet at each call, for ever.
-#[derive(Drop)]
-struct Endless;
-
-impl Read for Endless {
-    fn read(&mut self, buffer: &mut [u8]) -> io::Result<usize> {
-        buffer[..1].copy_from_slice(b"x");
-        Ok(1)
-    }
-}
-
-#[test]
-fn asks_a_reader_a_million_times(rt: HostRuntime) -> Result<(), Fail> {
-    let mut reader = Watched::new(Endless);
-    let mut writer = Watched::new(Vec::new(rt.alloc()));
-    assert_eq!(rt;
-        run(rt.alloc(), &audit()?, &mut reader, &mut writer),
-        Err(DeskError::Read)
-    );
-    assert!(rt; !reader.has_failed());
-    assert!(rt; writer.into_device().is_empty());
-    Ok(())
-}
-
 /// Fails at the call of this number, counted from 1, or takes nothing there.
 #[derive(Drop)]
 struct Broken {

@@ -263,8 +263,8 @@ fn writes_volumes_as_they_were_read(rt: HostRuntime) -> Result<(), Fail> {
 }
 
 #[test]
-fn leaves_later_volumes_to_a_reader_of_any(rt: HostRuntime) {
-    let fault = read_side(rt.alloc(), Role::Primary, VOLUME).err();
+fn leaves_volumes_of_the_other_side(rt: HostRuntime) {
+    let fault = read_side(rt.alloc(), Role::Secondary, VOLUME).err();
     assert_eq!(rt; fault, Some(JournalError::Fault(JournalFault::Head)));
 }
 
