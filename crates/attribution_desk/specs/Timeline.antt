@@ -10,7 +10,8 @@ use Rattle.claims.specs.declared.reference.Ref.{Ref}
 use Rattle.causal_order.specs.Journals.{Journals, journals_of, line_of}
 use Rattle.journal_merge.specs.declared.merged.Merged.{Merged}
 use Rattle.journal_merge.specs.declared.merged.MergeError.{MergeError}
-use Rattle.journal_merge.specs.declared.merged.MergeError.TheVariants.{Unsent as NeverSent, Differs as SentOtherwise, Circular as InACircle, Memory}
+use Rattle.journal_merge.specs.declared.merged.MergeError.TheVariants.{Unsent as NeverSent, Differs as SentOtherwise}
+use Rattle.journal_merge.specs.declared.merged.MergeError.TheVariants.{Circular as InACircle, Memory}
 use Rattle.journal_merge.specs.Answer.{IsAnswer as IsMerge}
 use Rattle.attribution.specs.declared.verdict.Verdict.{Verdict}
 use Rattle.attribution.specs.declared.verdict.Verdict.TheVariants.{Journal as JournalVerdict, Unsent, Differs, Circular}
@@ -50,4 +51,5 @@ IsTimelineOf (Ok a) (Ok b) text status =
 -- of an input: journal A, and journal B, which is all that follows
 abbrev pub IsTimeline : List ℕ → List ℕ → ℕ → Type 0
 IsTimeline input text status =
-    IsTimelineOf (journal_of_side Primary (first_text input)) (journal_of_side Secondary (text_behind input)) text status
+    IsTimelineOf (journal_of_side Primary (first_text input)) (journal_of_side Secondary (text_behind input))
+        text status

@@ -3,6 +3,7 @@ pub mod PlaceLaws
 pub mod TableLaws
 pub mod MarkLaws
 pub mod Orders
+pub mod RuleGroups
 pub mod RuleNumbers
 pub mod EffectLaws
 pub mod StepLaws
@@ -13,3 +14,4 @@ pub mod Settings
 pub mod NextHead
 pub mod Sorting
 pub mod OneNext
+pub mod OwnReplies

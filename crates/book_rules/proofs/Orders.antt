@@ -10,7 +10,7 @@ use Rattle.std.proofs.lemmas.Cmp.{nat_list_cmp_total, tied_itself}
 use Rattle.journal_lines.specs.declared.kept.Carried.{Carried}
 use Rattle.book_rules.specs.HeadOrder.{IsHolderBefore}
 
-same_octets : (xs ys : List ℕ) → slice_cmp nat_cmp xs ys ≡ Equal → xs ≡ ys
+pub same_octets : (xs ys : List ℕ) → slice_cmp nat_cmp xs ys ≡ Equal → xs ≡ ys
 same_octets xs ys e = let t : bytes_eq xs ys ≡ true = sym (is_eq-slice_cmp xs ys) ∙ ap is_eq e in (bytes_eq-Decides xs ys).0 t
 
 -- of one client the identity associations decide

@@ -3,6 +3,7 @@ pub mod HeadOrder
 pub mod VolumeRules
 pub mod UnitRules
 pub mod MessageRules
+pub mod RuleGroups
 pub mod Rules
 pub mod Effects
 pub mod Volumes
@@ -14,3 +15,4 @@ pub mod Places
 pub mod Fits
 pub mod State
 pub mod Changes
+pub mod Pending

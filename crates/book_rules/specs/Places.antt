@@ -1,6 +1,6 @@
 -- For bodies only: where the units of a table stand, pool behind pool.
-use Rattle.std.specs.Prelude.{◌≡◌, ℕ, ◌+◌, ◌-◌, ◌*◌, ◌/◌, ◌%◌, ◌≤◌, ◌==◌, ⊤, Contains as Has, List, [], ◌∷◌, length, All}
-use Rattle.std.specs.Prelude.{get_or}
+use Rattle.std.specs.Prelude.{◌≡◌, ℕ, ◌+◌, ◌-◌, ◌*◌, ◌/◌, ◌%◌, ◌≤◌, ◌==◌, ⊤, Contains as Has, List, [], ◌∷◌}
+use Rattle.std.specs.Prelude.{length, All, get_or}
 use Rattle.std.specs.Prelude.{true, false, Option, Some, None, if◌then◌else◌}
 use Rattle.std.specs.List.{sum_by}
 use Rattle.prefix_range.specs.Prefix.{Prefix, IsPrefix, Overlaps, size_of}
@@ -40,6 +40,11 @@ pub record IsDelegable (pools : List Pool) (units : List UnitValue) (marks : ℕ
   pub whole : length units ≡ sum_by units_in pools
   pub few : sum_by units_in pools ≤ 65536
   pub marked : marks ≡ sum_by mark_of units
+
+-- with a fresh one beside them, for what is no unit
+pub record AreKept (pools : List Pool) (units : List UnitValue) (marks : ℕ) (blank : UnitValue) : Type 0 where
+  pub delegable : IsDelegable pools units marks
+  pub is_fresh : blank ≡ fresh
 
 -- the place of a unit in its pool
 abbrev pub index_in : Pool → Prefix → ℕ

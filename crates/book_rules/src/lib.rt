@@ -40,7 +40,7 @@ mod units;
 mod volume_rules;
 
 pub use error::ReplayError;
-pub use laws::{first_broken_is_one, next_volume_is_legal};
+pub use laws::{first_broken_is_one, next_volume_is_legal, replies_are_own};
 pub use message_rules::{due_update, seized_update};
 pub use place::Place;
 pub use pool::Pool;

@@ -134,7 +134,7 @@ impl Table {
             (λ u. (is_unit (state self.now).pools prefix.now ≡ true) × (u ≡ (state self.now).units prefix.now)) }
     {
         if self.units.has(prefix) {
-            Some(self.units.unit(prefix))
+            Some(*self.units.unit(prefix))
         } else {
             None
         }

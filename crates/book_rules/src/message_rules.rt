@@ -108,7 +108,7 @@ impl Table {
         ensures { IsTrue result ↔ TellsChange (state self.now) body.now }
     {
         match body {
-            Body::Update(update) => is_told(&self.units.unit(&update.prefix), update),
+            Body::Update(update) => is_told(self.units.unit(&update.prefix), update),
             _ => true,
         }
     }

@@ -54,7 +54,7 @@ impl Table {
         match event {
             Event::Grant(lease) => {
                 let unit = self.units.unit(&lease.prefix);
-                grantable(self.standing.role, &unit) || renewable(&unit, &lease.client, lease.iaid)
+                grantable(self.standing.role, unit) || renewable(unit, &lease.client, lease.iaid)
             }
             _ => true,
         }
@@ -82,7 +82,7 @@ impl Table {
                 client,
                 iaid,
                 prefix,
-            } => renewable(&self.units.unit(prefix), client, *iaid),
+            } => renewable(self.units.unit(prefix), client, *iaid),
             _ => true,
         }
     }
@@ -109,7 +109,7 @@ impl Table {
         match event {
             Event::Backup(prefix) => {
                 let unit = self.units.unit(prefix);
-                self.standing.role == Role::Primary && is_free(&unit)
+                self.standing.role == Role::Primary && is_free(unit)
             }
             _ => true,
         }
@@ -122,7 +122,7 @@ impl Table {
         match event {
             Event::Reclaim(prefix) => {
                 let unit = self.units.unit(prefix);
-                self.standing.role == Role::Primary && is_free_backup(&unit)
+                self.standing.role == Role::Primary && is_free_backup(unit)
             }
             _ => true,
         }
@@ -180,7 +180,7 @@ impl Table {
     {
         match event {
             Event::Seize(prefix) => {
-                self.units.has(prefix) && self.is_seizable(now, &self.units.unit(prefix))
+                self.units.has(prefix) && self.is_seizable(now, self.units.unit(prefix))
             }
             _ => true,
         }

@@ -1,7 +1,7 @@
 //! The units of a server's pools.
 
-ghost use Rattle.std.specs.Prelude.{◌≡◌, ◌+◌, ◌<◌, ◌≤◌, ◌↔◌, ◌∷◌, ◌++◌, [], IsTrue, IfSome, IfOk, IfErr, OnOk, true, length};
-ghost use Rattle.std.specs.Prelude.{if◌then◌else◌, All, Contains as Has};
+ghost use Rattle.std.specs.Prelude.{◌≡◌, ◌+◌, ◌<◌, ◌≤◌, ◌↔◌, ◌∷◌, ◌++◌, [], IsTrue, IfSome, IfOk, IfErr, OnOk, true};
+ghost use Rattle.std.specs.Prelude.{length, if◌then◌else◌, All, Contains as Has};
 ghost use Rattle.std.specs.List.{sum_by};
 ghost use Rattle.prefix_range.specs.Prefix.{Prefix as PrefixValue, IsPrefix, Overlaps};
 ghost use Rattle.book_rules.specs.declared.pool.Pool.{Pool as PoolValue};
@@ -47,16 +47,18 @@ pub(crate) struct Units {
     units: Vec<Unit>,
     /// How many of the units are marked.
     marks: usize,
+    /// What is lent where a prefix is no unit.
+    blank: Unit,
 }
 
 impl Model for Units {
-    ghost use Rattle.book_rules.specs.Places.{Delegable, IsDelegable};
+    ghost use Rattle.book_rules.specs.Places.{Delegable, AreKept};
 
     ghost Value = { Delegable };
 
     ghost view = { λ t. record { pools = t.pools.items; units = t.units.items } };
 
-    ghost invariant = { λ t. IsDelegable t.pools.items t.units.items t.marks };
+    ghost invariant = { λ t. AreKept t.pools.items t.units.items t.marks t.blank };
 }
 
 impl Units {
@@ -68,6 +70,7 @@ impl Units {
             pools: Vec::new(alloc),
             units: Vec::new(alloc),
             marks: 0,
+            blank: Unit::fresh(),
         }
     }
 
@@ -109,12 +112,12 @@ impl Units {
     }
 
     /// The unit of a prefix, or a fresh one where the prefix is none.
-    pub(crate) fn unit(&self, prefix: &Prefix) -> Unit
-        ensures { result ≡ unit_at self.now prefix.now }
+    pub(crate) fn unit(&self, prefix: &Prefix) -> &Unit
+        ensures { result.now ≡ unit_at self.now prefix.now }
     {
         match self.place(prefix) {
-            Some(place) => self.units[place],
-            None => Unit::fresh(),
+            Some(place) => &self.units[place],
+            None => &self.blank,
         }
     }
 
@@ -173,6 +176,7 @@ impl Units {
             pools,
             units,
             marks: self.marks,
+            blank: Unit::fresh(),
         })
     }
 

@@ -1,4 +1,4 @@
-//! Vectors from outside for the desk: words, inputs in chunks, devices that fail, timelines, and the lines that it answers.
+//! Vectors from outside for the desk: words, inputs in chunks, devices that fail, timelines, and the lines it answers.
 #![tactic(auto)]
 
 #[cfg(test)]

@@ -1,5 +1,5 @@
 -- The IA_PDs of an answer, one by one.
-use Rattle.std.proofs.Common.{◌≡◌, ℕ, ◌+◌, ◌<◌, ◌≤◌, List, [], ◌∷◌, ◌++◌, length, drop, drop-cons, get_or, ap, ap₂, sym, ◌∙◌, arith, refl, Option, Some, None, add-one, append_assoc}
+use Rattle.std.proofs.Common.{◌≡◌, ℕ, ◌+◌, ◌<◌, ◌≤◌, List, [], ◌∷◌, ◌++◌, length, drop, drop-cons, get_or, ap, ap₂, sym, ◌∙◌, refl, Option, Some, None, add-one, append_assoc}
 use Rattle.std.specs.Prelude.{suc}
 use Rattle.std.proofs.lemmas.List.{drop_all, append-nil}
 use Rattle.dhcp6_pd.specs.declared.message.IaPd.{IaPd}

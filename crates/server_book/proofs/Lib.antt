@@ -7,3 +7,11 @@ pub mod OneName
 pub mod OneAnswer
 pub mod IaReplies
 pub mod FirstLines
+pub mod Owed
+pub mod OwedLaws
+pub mod Due
+pub mod KeptUnits
+pub mod KeptLines
+pub mod Counts
+pub mod Rolls
+pub mod NextBooks

@@ -1,21 +1,20 @@
 -- The lowest unit of a kind, pool by pool.
 use Rattle.std.proofs.Common.{◌≡◌, ℕ, ◌+◌, ◌*◌, ◌<◌, ◌≤◌, ◌⊎◌, ◌||◌, Bool, true, false, nat_le, List, [], ◌∷◌, ◌++◌, length, take, get_or, ap, sym, ◌∙◌, subst, arith, inl, inr, refl, Option, Some, None, add-one}
-use Rattle.std.specs.Prelude.{if◌then◌else◌, All}
-use Rattle.std.specs.List.{sum_by}
+use Rattle.std.specs.Prelude.{◌%◌, if◌then◌else◌, All}
 use Rattle.std.proofs.Math.Nat.{eq-or-lt_of_le, mul-le-mul_right}
 use Rattle.std.proofs.Math.Seq.{take-suc}
 use Rattle.std.proofs.lemmas.List.{take_all}
 use Rattle.std.proofs.lemmas.List.Sums.{get_or-le-sum_by}
-use Rattle.std.proofs.lemmas.List.Elements.{All-get_or}
+use Rattle.std.proofs.lemmas.List.Elements.{All-get_or, All-head, All-tail}
 use Rattle.std.proofs.lemmas.Bool.Decides.{nat_tests}
 use Rattle.prefix_range.specs.Prefix.{Prefix, IsPrefix, size_of}
 use Rattle.book_rules.specs.declared.pool.Pool.{Pool}
 use Rattle.book_rules.specs.Book.{Book, is_in, is_unit, units_in}
 use Rattle.book_rules.specs.Places.{IsPool, IsUnitAt, ArePools, index_in}
-use Rattle.book_rules.proofs.Ranges.{within, index_below, unit_of_place, unit_placed_at, placed}
+use Rattle.book_rules.proofs.Ranges.{within, index_below, one_index, unit_of_place, unit_placed_at, placed}
 use Rattle.server_book.specs.declared.searching.Wanted.{Wanted}
-use Rattle.server_book.specs.Bindings.{IsUnitOf, IsLowest, IsLeastOf}
-use Rattle.server_book.specs.Searching.{IsWanted, IsThere, IsThereIn, lower_of}
+use Rattle.server_book.specs.Bindings.{IsLowest, IsLeastOf}
+use Rattle.server_book.specs.Searching.{IsSome, IsThere, IsThereIn, lower_of}
 
 -- none of a pool's units up to a place is wanted
 pub record NoneBefore (b : Book) (w : Wanted) (from : ℕ) (pool : Pool) (i : ℕ) : Type 0 where
@@ -84,7 +83,7 @@ lower_least P Q R (Some x) (Some y) p q r hx hy = by_test (nat_le x.address y.ad
       (q y hy.0, λ z is. elim (r z is) [ inl a ↦ (let k = hx.1 z a in omega (arith, k, le)) | inr a ↦ hy.1 z a ])
 
 -- a prefix is a unit of the pools up to here, or of the next
-unit_last : (pools : List Pool) (pool : Pool) (p : Prefix) → is_unit (pools ++ pool ∷ []) p ≡ (is_unit pools p || is_in pool p)
+pub unit_last : (pools : List Pool) (pool : Pool) (p : Prefix) → is_unit (pools ++ pool ∷ []) p ≡ (is_unit pools p || is_in pool p)
 unit_last [] pool p = by_test (is_in pool p) where
   by_test : (t : Bool) → (t || false) ≡ t
   by_test true = refl
@@ -94,15 +93,15 @@ unit_last (x ∷ xs) pool p = ap (λ t. is_in x p || t) (unit_last xs pool p) �
   or_over true s t = refl
   or_over false s t = refl
 
-either : (s t : Bool) → (s || t) ≡ true → (s ≡ true) ⊎ (t ≡ true)
+pub either : (s t : Bool) → (s || t) ≡ true → (s ≡ true) ⊎ (t ≡ true)
 either true t e = inl refl
 either false t e = inr e
 
-either_first : (s t : Bool) → s ≡ true → (s || t) ≡ true
+pub either_first : (s t : Bool) → s ≡ true → (s || t) ≡ true
 either_first true t e = refl
 either_first false t e = absurd (cc)
 
-either_last : (s t : Bool) → t ≡ true → (s || t) ≡ true
+pub either_last : (s t : Bool) → t ≡ true → (s || t) ≡ true
 either_last true t e = refl
 either_last false t e = e
 
@@ -139,5 +138,21 @@ pub pool_in : (pools : List Pool) (i : ℕ) (pool : Pool) → ArePools pools →
 pool_in pools i pool h lt is = subst IsPool (sym is) (All-get_or IsPool pools i pool lt h.each)
 
 -- from the first address on is anywhere
-pub least_anywhere : (b : Book) (w : Wanted) (o : Option Prefix) → IsLeastOf (IsThere b w 0) o → IsLeastOf (λ p. IsUnitOf b p × IsWanted b w (b.units p)) o
-least_anywhere b w o h = least_map (IsThere b w 0) (λ p. IsUnitOf b p × IsWanted b w (b.units p)) o (λ q is. (is.0, is.1)) (λ q is. (is.0, is.1, omega arith)) h
+pub least_anywhere : (b : Book) (w : Wanted) (o : Option Prefix) → IsLeastOf (IsThere b w 0) o → IsLeastOf (IsSome b w) o
+least_anywhere b w o h = least_map (IsThere b w 0) (IsSome b w) o (λ q is. (is.0, is.1)) (λ q is. (is.0, is.1, omega arith)) h
+
+-- what begins with a unit is the unit at its place
+unit_whole_in : (pool : Pool) (p : Prefix) → IsPool pool → is_in pool p ≡ true → p.address % size_of p.length ≡ 0 → IsPrefix p
+unit_whole_in pool p good is whole =
+    let i = index_in pool p in
+    let at = unit_placed_at pool i (placed pool i) good (index_below pool p good (within pool p is)) refl in
+    let there = at.whole in
+    let same = one_index pool p (placed pool i) good (within pool p is) (within pool (placed pool i) at.within) whole there.host_bits (sym at.place) in
+    subst IsPrefix (sym same) there
+
+pub unit_whole : (pools : List Pool) (p : Prefix) → All IsPool pools → is_unit pools p ≡ true → p.address % size_of p.length ≡ 0 → IsPrefix p
+unit_whole [] p good is whole = absurd (cc)
+unit_whole (x ∷ xs) p good is whole = elim (either (is_in x p) (is_unit xs p) is) [
+  | inl a ↦ unit_whole_in x p (All-head IsPool x xs good) a whole
+  | inr a ↦ unit_whole xs p (All-tail IsPool x xs good) a whole
+]

@@ -1,23 +1,21 @@
 -- An order has one answer, or one first refusal, and not both.
-use Rattle.std.proofs.Common.{◌≡◌, ℕ, ◌+◌, ◌<◌, ◌≤◌, ◌⊎◌, ap, ap₂, sym, ◌∙◌, subst, arith, inl, inr, refl}
+use Rattle.std.proofs.Common.{◌≡◌, ℕ, ap, ap₂, sym, ◌∙◌, subst, arith, inl, inr, refl}
 use Rattle.std.proofs.lemmas.Bool.{cases_lt}
 use Rattle.journal_lines.specs.declared.event.Event.{Event}
 use Rattle.journal_lines.specs.declared.line.Line.{Line}
-use Rattle.journal_lines.specs.declared.line.Journal.{Journal}
 use Rattle.book_rules.specs.declared.rule.Rule.{Rule as RuleName}
 use Rattle.book_rules.specs.Book.{Book}
 use Rattle.book_rules.specs.Places.{AreDisjoint}
 use Rattle.book_rules.specs.Rules.{IsStep, IsLeastBroken}
 use Rattle.book_rules.proofs.OneVerdict.{one_rule}
 use Rattle.server_book.specs.declared.order.Order.{Order}
-use Rattle.server_book.specs.declared.reply.Reply.{Reply}
 use Rattle.server_book.specs.declared.error.BookError.{BookError}
 use Rattle.server_book.specs.declared.error.BookError.TheVariants.{NotServing, Full, NoBinding, NoPrefix, Rule, Memory}
 use Rattle.server_book.specs.Named.{IsNamed}
-use Rattle.server_book.specs.Answer.{reading_of, next_line, reply_to, Applies, rank, IsServed, IsAnswer, IsFirstRefusal}
-use Rattle.server_book.specs.Replayed.{state_of, IsLegal}
+use Rattle.server_book.specs.Answer.{reading_of, next_line, reply_to, Applies, rank, IsServed}
+use Rattle.server_book.specs.Replayed.{state_of}
 use Rattle.server_book.specs.Laws.{OneAnswer, OneRefusal, NotBoth}
-use Rattle.server_book.proofs.OneName.{legal_disjoint, one_named, AreAlike}
+use Rattle.server_book.proofs.OneName.{legal_disjoint, one_named}
 use Rattle.server_book.proofs.Refusals.{named_not_unbound, named_not_out}
 
 abbrev line_at : ℕ → ℕ → Event → Line

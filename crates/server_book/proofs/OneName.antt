@@ -1,5 +1,5 @@
 -- An order names one event, or made-up messages that break one rule.
-use Rattle.std.proofs.Common.{◌≡◌, ℕ, ◌+◌, ◌/◌, ◌<◌, ◌≤◌, ◌⊎◌, ◌||◌, Bool, true, false, List, [], ◌∷◌, ◌++◌, length, ap, ap₂, sym, ◌∙◌, subst, arith, inl, inr, refl, Option, Some, None}
+use Rattle.std.proofs.Common.{◌≡◌, ℕ, ◌/◌, ◌<◌, ◌≤◌, ◌⊎◌, ◌||◌, Bool, true, false, List, [], ◌∷◌, length, ap, ap₂, sym, ◌∙◌, subst, arith, inl, inr, refl, Some, None}
 use Rattle.std.specs.Prelude.{Contains as Has, suc}
 use Rattle.std.proofs.lemmas.Bool.{cases_lt}
 use Rattle.prefix_range.specs.Prefix.{Prefix, IsPrefix, Overlaps, size_of}
@@ -15,13 +15,14 @@ use Rattle.journal_lines.specs.declared.line.Line.{Line}
 use Rattle.journal_lines.specs.declared.line.Journal.{Journal}
 use Rattle.book_rules.specs.declared.pool.Pool.{Pool}
 use Rattle.book_rules.specs.declared.rule.Rule.{Rule}
-use Rattle.book_rules.specs.declared.rule.Rule.TheVariants.{Sequence, Opening, Pools, Unit as UnitRule, Waiting, Grant, Lifetime, Release, Expiry, Backup, Reclaim, Serial, Update, Reply, Contact as ContactRule, Down, Restart, Head, Transit, Seize}
+use Rattle.book_rules.specs.declared.rule.Rule.TheVariants.{Sequence, Opening, Pools, Unit as UnitRule, Waiting, Grant, Lifetime, Release, Expiry, Backup, Reclaim, Serial, Update, Reply}
 use Rattle.journal_lines.specs.Head.{volume_number}
-use Rattle.book_rules.specs.Book.{Book, blank, is_in, is_unit, IsCalm}
+use Rattle.book_rules.specs.Book.{Book, blank, is_in, is_unit}
 use Rattle.book_rules.specs.Places.{AreDisjoint}
 use Rattle.book_rules.specs.VolumeRules.{KeepsPools, KeepsSequence}
 use Rattle.book_rules.specs.Rules.{Keeps, IsStep, IsLeastBroken, rule_number}
-use Rattle.book_rules.specs.MessageRules.{IsTold, IsAnswer as IsAnswerTo, due_update, seized_update}
+use Rattle.book_rules.specs.UnitRules.{NamesUnit}
+use Rattle.book_rules.specs.MessageRules.{TellsChange, IsTold, IsAnswer as IsAnswerTo, due_update, seized_update}
 use Rattle.book_rules.specs.Effects.{effect, after}
 use Rattle.book_rules.specs.Volumes.{AreSteps, book_after}
 use Rattle.book_rules.proofs.RuleNumbers.{one_number}
@@ -31,7 +32,7 @@ use Rattle.book_rules.proofs.TableLaws.{disjoint_push}
 use Rattle.server_book.specs.declared.order.Asked.{Asked}
 use Rattle.server_book.specs.declared.order.Order.{Order}
 use Rattle.server_book.specs.declared.order.Order.TheVariants.{Request, Renew, Release as ReleaseOrder, SendUpdate, SendReply, SendContact}
-use Rattle.server_book.specs.Bindings.{IsUnitOf, IsUsable, IsBoundTo, IsLowest, IsHinted, IsBound, IsOffered}
+use Rattle.server_book.specs.Bindings.{IsUnitOf, IsUsable, IsBoundTo, IsLowest, IsBound, IsOffered}
 use Rattle.server_book.specs.Named.{lease_of, message_of, IsUpdateOf, IsReplyOf, IsNamed}
 use Rattle.server_book.specs.Answer.{next_line}
 use Rattle.server_book.specs.Replayed.{state_of, IsLegal}
@@ -99,38 +100,31 @@ pub record AreAlike (b : Book) (r : ℕ) (e f : Event) : Type 0 where
 in_sequence : (b : Book) (r : ℕ) (e f : Event) → KeepsSequence b (next_line b r e) → KeepsSequence b (next_line b r f)
 in_sequence b r e f h = record { number = h.number; few = h.few; later = h.later; reading = h.reading; is_open = h.is_open }
 
+-- what a message keeps of the rules before one that looks at what it says, another of the same unit keeps
+send_rules : (b : Book) (r n : ℕ) (m k : Body) → n ≤ 14 → (NamesUnit b m → NamesUnit b k) → (13 < n → TellsChange b m → TellsChange b k) → (x : Rule) → rule_number x < n
+    → Keeps b (next_line b r (Send (message_of b m))) x → Keeps b (next_line b r (Send (message_of b k))) x
+send_rules b r n m k le unit tells Sequence lt h = in_sequence b r _ _ h
+send_rules b r n m k le unit tells Opening lt h = h
+send_rules b r n m k le unit tells Pools lt h = h
+send_rules b r n m k le unit tells UnitRule lt h = unit h
+send_rules b r n m k le unit tells Waiting lt h = h
+send_rules b r n m k le unit tells Grant lt h = h
+send_rules b r n m k le unit tells Lifetime lt h = h
+send_rules b r n m k le unit tells Release lt h = h
+send_rules b r n m k le unit tells Expiry lt h = h
+send_rules b r n m k le unit tells Backup lt h = h
+send_rules b r n m k le unit tells Reclaim lt h = h
+send_rules b r n m k le unit tells Serial lt h = h
+send_rules b r n m k le unit tells Update lt h = tells lt h
+send_rules b r n m k le unit tells x lt h = absurd (omega (arith, lt, le))
+
 update_rules : (b : Book) (r : ℕ) (m k : UpdateValue) → m.prefix ≡ k.prefix → (x : Rule) → rule_number x < 13
     → Keeps b (next_line b r (Send (message_of b (UpdateBody m)))) x → Keeps b (next_line b r (Send (message_of b (UpdateBody k)))) x
-update_rules b r m k same Sequence lt h = in_sequence b r _ _ h
-update_rules b r m k same Opening lt h = h
-update_rules b r m k same Pools lt h = h
-update_rules b r m k same UnitRule lt h = subst (λ (p : Prefix). is_unit b.pools p ≡ true) same h
-update_rules b r m k same Waiting lt h = h
-update_rules b r m k same Grant lt h = h
-update_rules b r m k same Lifetime lt h = h
-update_rules b r m k same Release lt h = h
-update_rules b r m k same Expiry lt h = h
-update_rules b r m k same Backup lt h = h
-update_rules b r m k same Reclaim lt h = h
-update_rules b r m k same Serial lt h = h
-update_rules b r m k same x lt h = absurd (omega (arith, lt))
+update_rules b r m k same = send_rules b r 13 (UpdateBody m) (UpdateBody k) (omega arith) (subst (λ (p : Prefix). is_unit b.pools p ≡ true) same) (λ lt. absurd (omega (arith, lt)))
 
 reply_rules : (b : Book) (r : ℕ) (m k : BindReply) → m.prefix ≡ k.prefix → (x : Rule) → rule_number x < 14
     → Keeps b (next_line b r (Send (message_of b (ReplyBody m)))) x → Keeps b (next_line b r (Send (message_of b (ReplyBody k)))) x
-reply_rules b r m k same Sequence lt h = in_sequence b r _ _ h
-reply_rules b r m k same Opening lt h = h
-reply_rules b r m k same Pools lt h = h
-reply_rules b r m k same UnitRule lt h = subst (λ (p : Prefix). is_unit b.pools p ≡ true) same h
-reply_rules b r m k same Waiting lt h = h
-reply_rules b r m k same Grant lt h = h
-reply_rules b r m k same Lifetime lt h = h
-reply_rules b r m k same Release lt h = h
-reply_rules b r m k same Expiry lt h = h
-reply_rules b r m k same Backup lt h = h
-reply_rules b r m k same Reclaim lt h = h
-reply_rules b r m k same Serial lt h = h
-reply_rules b r m k same Update lt h = h
-reply_rules b r m k same x lt h = absurd (omega (arith, lt))
+reply_rules b r m k same = send_rules b r 14 (ReplyBody m) (ReplyBody k) (omega arith) (subst (λ (p : Prefix). is_unit b.pools p ≡ true) same) (λ lt h. h)
 
 -- ---- one event
 

@@ -1,15 +1,10 @@
 -- Pools that settings name.
-use Rattle.std.proofs.Common.{◌≡◌, ℕ, ◌+◌, ◌<◌, ◌≤◌, List, [], ◌∷◌, ◌++◌, length, take, drop, drop-cons, length-drop, ◌-◌, get_or, ap, sym, ◌∙◌, subst, arith, inl, inr, refl, add-one}
-use Rattle.std.specs.Prelude.{◌↔◌, All, Contains as Has, zero, suc}
-use Rattle.std.specs.List.{sum_by}
-use Rattle.std.proofs.Math.Seq.{take-suc}
+use Rattle.std.proofs.Common.{◌≡◌, ℕ, ◌+◌, ◌<◌, ◌≤◌, List, ◌∷◌, length, take, drop, drop-cons, length-drop, ◌-◌, get_or, ap, sym, subst, arith, add-one}
+use Rattle.std.specs.Prelude.{suc}
 use Rattle.std.proofs.lemmas.List.{take_all, drop_all}
-use Rattle.std.proofs.lemmas.List.Sums.{sum_by-append, sum_by-cons, sum_by-take-le, sum_by_more_le}
-use Rattle.std.proofs.lemmas.List.Elements.{All-get_or, All-from_get_or}
 use Rattle.prefix_range.specs.Prefix.{Prefix, Overlaps}
 use Rattle.book_rules.specs.declared.pool.Pool.{Pool}
-use Rattle.book_rules.specs.Book.{units_in}
-use Rattle.book_rules.specs.Places.{IsPool, AreDisjoint}
+use Rattle.book_rules.specs.Places.{AreDisjoint}
 use Rattle.book_rules.specs.VolumeRules.{AreApart}
 
 -- no two of these have an address in common exactly where no two of the rest do

@@ -1,11 +1,9 @@
 -- Which refusal comes first.
 use Rattle.std.proofs.Common.{◌≡◌, ◌≢◌, ℕ, ◌<◌, arith, subst, inl, inr, Result, Ok, Err}
 use Rattle.std.specs.Prelude.{IfErr}
-use Rattle.prefix_range.specs.Prefix.{Prefix}
 use Rattle.journal_lines.specs.declared.event.Event.{Event}
 use Rattle.journal_lines.specs.declared.line.Line.{Line}
 use Rattle.book_rules.specs.Book.{Book}
-use Rattle.server_book.specs.declared.order.Asked.{Asked}
 use Rattle.server_book.specs.declared.order.Order.{Order}
 use Rattle.server_book.specs.declared.order.Order.TheVariants.{Request, Renew, Release}
 use Rattle.server_book.specs.declared.error.BookError.{BookError}

@@ -1,6 +1,6 @@
 -- The settings that a TOML document has.
-use Rattle.std.specs.Prelude.{◌≡◌, ℕ, ℤ, pos, negsuc, ⊤, List, [], ◌∷◌, length, codes, Option, Some, None, IsUtf8}
-use Rattle.std.specs.Prelude.{bytes_eq, ◌&&◌, nat_le, if◌then◌else◌, option_map, Result, Ok, Err}
+use Rattle.std.specs.Prelude.{◌≡◌, ℕ, ℤ, pos, negsuc, ⊤, List, [], ◌∷◌, codes, Option, Some, None, IsUtf8}
+use Rattle.std.specs.Prelude.{bytes_eq, nat_le, if◌then◌else◌, option_map, Result, Ok, Err}
 use Rattle.toml.specs.Data.{Data, Items, no_items, item, Members, get_member, as_str, as_integer, as_array, as_table}
 use Rattle.toml.specs.Parse.{parse_document}
 use Rattle.text_fields.specs.Parsing.{◌>>=◌}

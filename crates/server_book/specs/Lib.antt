@@ -8,3 +8,6 @@ pub mod Document
 pub mod Laws
 pub mod Queries
 pub mod Searching
+pub mod NextBook
+pub mod Owed
+pub mod Keeping

@@ -1,6 +1,5 @@
 -- What a client's message orders, and what it is answered (RFC 8415, section 18.3).
 use Rattle.std.specs.Prelude.{ℕ, Bool, true, false, List, [], ◌∷◌, Option, Some, None, option_map, slice_get}
-use Rattle.prefix_range.specs.Prefix.{Prefix}
 use Rattle.dhcp6_pd.specs.declared.message.ClientKind.{ClientKind}
 use Rattle.dhcp6_pd.specs.declared.message.ClientKind.TheVariants.{Solicit, Request as RequestKind, Renew as RenewKind}
 use Rattle.dhcp6_pd.specs.declared.message.ClientKind.TheVariants.{Rebind, Release as ReleaseKind}

@@ -1,5 +1,5 @@
 -- The event that an order names.
-use Rattle.std.specs.Prelude.{◌≡◌, ◌⊎◌, ℕ, ◌+◌, false, max, Some, None}
+use Rattle.std.specs.Prelude.{◌≡◌, ◌⊎◌, ℕ, ◌+◌, false, Some, None}
 use Rattle.prefix_range.specs.Prefix.{Prefix}
 use Rattle.lead_time.specs.Lease.{allowed_lifetime}
 use Rattle.binding_rules.specs.declared.unit.Unit.{Unit as UnitValue}

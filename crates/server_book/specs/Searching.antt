@@ -1,5 +1,5 @@
 -- For bodies only: the lowest unit of a kind.
-use Rattle.std.specs.Prelude.{◌≡◌, ◌≢◌, ℕ, ◌≤◌, nat_le, true, Option, Some, None, if◌then◌else◌}
+use Rattle.std.specs.Prelude.{◌≡◌, ◌≢◌, ℕ, ◌^◌, ◌<◌, ◌≤◌, nat_le, true, Option, Some, None, if◌then◌else◌}
 use Rattle.prefix_range.specs.Prefix.{Prefix}
 use Rattle.binding_rules.specs.declared.unit.Unit.{Unit as UnitValue}
 use Rattle.binding_rules.specs.Giving.{is_own}
@@ -7,7 +7,8 @@ use Rattle.book_rules.specs.declared.pool.Pool.{Pool}
 use Rattle.book_rules.specs.Book.{Book, is_in}
 use Rattle.book_rules.specs.UnitRules.{IsActiveFor, IsSeizable}
 use Rattle.server_book.specs.declared.searching.Wanted.{Wanted}
-use Rattle.server_book.specs.declared.searching.Wanted.TheVariants.{Usable, Bound, Expirable, Seizable, Pending, Due, Marked}
+use Rattle.server_book.specs.declared.searching.Wanted.TheVariants.{Usable, Bound, Expirable, Seizable, Pending}
+use Rattle.server_book.specs.declared.searching.Wanted.TheVariants.{Due, Marked, Overcounted}
 use Rattle.server_book.specs.Bindings.{IsUnitOf}
 use Rattle.server_book.specs.Queries.{MayExpire}
 
@@ -19,6 +20,10 @@ IsWanted b (Seizable now) u = IsSeizable b now u b.down
 IsWanted b Pending u = u.pending ≢ None
 IsWanted b Due u = u.due ≢ None
 IsWanted b Marked u = u.marked ≡ true
+IsWanted b Overcounted u = 2 ^ 48 < u.mine
+
+abbrev pub IsSome : Book → Wanted → Prefix → Type 0
+IsSome b w p = IsUnitOf b p × IsWanted b w (b.units p)
 
 -- of the units from an address on
 abbrev pub IsThere : Book → Wanted → ℕ → Prefix → Type 0

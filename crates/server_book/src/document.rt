@@ -6,8 +6,9 @@ ghost use Rattle.toml.specs.View.{view, table_view, items_view};
 ghost use Rattle.text_fields.specs.Parsing.{Finds};
 ghost use Rattle.client_id.specs.Duid.{duid_word};
 ghost use Rattle.server_book.specs.Settings.{ServerSettings, AreWithin};
-ghost use Rattle.server_book.specs.Document.{IsDocument, role_of, prefix_of, up_to, text_at, number_at, role_in, duid_in};
-ghost use Rattle.server_book.specs.Document.{transit_in, pool_of, pools_of, pools_in, named_in, AreRead, Reads};
+ghost use Rattle.server_book.specs.Document.{IsDocument, role_of, prefix_of, up_to, text_at, number_at, role_in};
+ghost use Rattle.server_book.specs.Document.{duid_in, transit_in, pool_of, pools_of, pools_in, named_in};
+ghost use Rattle.server_book.specs.Document.{AreRead, Reads};
 ghost use Rattle.book_rules.specs.Places.{AreDisjoint};
 
 use crate::error::OpenError;

@@ -4,9 +4,9 @@ ghost use Rattle.std.specs.Prelude.{◌≡◌, ◌≤◌, ◌↔◌, IsTrue};
 ghost use Rattle.book_rules.specs.Book.{units_in};
 ghost use Rattle.book_rules.specs.Places.{IsPool};
 ghost use Rattle.book_rules.specs.State.{state};
-ghost use Rattle.server_book.specs.Bindings.{IsUnitOf, IsLeastOf};
+ghost use Rattle.server_book.specs.Bindings.{IsLeastOf};
 ghost use Rattle.server_book.specs.Queries.{MayExpire};
-ghost use Rattle.server_book.specs.Searching.{IsWanted, IsThere, IsThereIn, lower_of};
+ghost use Rattle.server_book.specs.Searching.{IsWanted, IsSome, IsThere, IsThereIn, lower_of};
 
 use binding_rules::{Binding, Status, Unit, grantable, renewable};
 use book_rules::{Pool, Table};
@@ -30,7 +30,12 @@ pub(crate) enum Wanted {
     Due,
     /// One that was seized, which the partner has yet to acknowledge.
     Marked,
+    /// One whose count of changes is over what a later volume may begin with.
+    Overcounted,
 }
+
+/// The greatest count that a later volume may begin with: 2^48.
+pub(crate) const GREATEST_START: u64 = 281_474_976_710_656;
 
 fn may_expire(now: Reading, unit: &Unit) -> bool
     ensures { IsTrue result ↔ MayExpire now unit.now }
@@ -49,6 +54,7 @@ fn is_wanted(table: &Table, wanted: &Wanted, unit: &Unit) -> bool
         Wanted::Pending => unit.pending.is_some(),
         Wanted::Due => unit.due.is_some(),
         Wanted::Marked => unit.marked,
+        Wanted::Overcounted => unit.mine.number() > GREATEST_START,
     }
 }
 
@@ -105,7 +111,7 @@ pub(crate) fn lowest_from(table: &Table, wanted: &Wanted, from: u128) -> Option<
 
 /// The lowest unit that is wanted.
 pub(crate) fn lowest(table: &Table, wanted: &Wanted) -> Option<Prefix>
-    ensures { IsLeastOf (λ p. IsUnitOf (state table.now) p × IsWanted (state table.now) wanted.now ((state table.now).units p)) result }
+    ensures { IsLeastOf (IsSome (state table.now) wanted.now) result }
 {
     lowest_from(table, wanted, 0)
 }

@@ -124,8 +124,8 @@ fn are_whole(pools: &[Pool]) -> bool
 
 impl Settings {
     /// Settings of these parts: `skew` and `transit` bound how far clocks and answers may be off, `mclt` and `life` are
-    /// the maximum client lead time and the desired lifetime in seconds. `Settings` where one is out of its limits, then
-    /// `Overlap` where two pools have an address in common.
+    /// the maximum client lead time and the desired lifetime in seconds. `Settings` where one is out of its limits,
+    /// then `Overlap` where two pools have an address in common.
     pub fn new(
         role: Role,
         duid: Duid,

@@ -1,4 +1,4 @@
-use Rattle.std.proofs.Common.{arith, rules, ap, sym, ◌∙◌, ◌++◌, drop, ◌+◌, List}
+use Rattle.std.proofs.Common.{arith, ap, ◌∙◌, ◌++◌, drop, ◌+◌, List}
 use Rattle.dhcp6_pd.specs.declared.message.IaReply.{IaReply}
 use Rattle.server_book.specs.Messages.{replies_of}
 use Rattle.server_book.proofs.IaReplies.{reply_further, replies_end}

@@ -1,4 +1,4 @@
-use Rattle.std.proofs.Common.{arith, rules}
+use Rattle.std.proofs.Common.{arith}
 use Rattle.server_book.proofs.Lowest.{none_further, none_at_all, found_first}
 use Rattle.server_book.proofs.searching.lowest_in.Goals as goal
 

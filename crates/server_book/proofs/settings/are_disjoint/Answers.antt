@@ -1,5 +1,5 @@
-use Rattle.std.proofs.Common.{arith, rules}
-use Rattle.server_book.proofs.Pools.{all_disjoint, next_disjoint, next_apart, last_disjoint}
+use Rattle.std.proofs.Common.{arith}
+use Rattle.server_book.proofs.Pools.{all_disjoint, next_disjoint, next_apart}
 use Rattle.server_book.proofs.settings.are_disjoint.Goals as goal
 
 pub loop-index-init : goal.loop-index-init

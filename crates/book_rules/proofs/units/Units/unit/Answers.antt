@@ -12,4 +12,4 @@ returns-in-Some c =
     read ∙ ap (λ (t : Delegable). unit_at t c.args.prefix.now) c.self.view_is
 
 pub returns-in-None : goal.returns-in-None
-returns-in-None c = c.fresh.ensures ∙ unit_nowhere _ _ (sym c.place.ensures.place ∙ c.in-None.is)
+returns-in-None c = c.self.invariant.is_fresh ∙ unit_nowhere _ _ (sym c.place.ensures.place ∙ c.in-None.is)

@@ -1,0 +1,4 @@
+pub mod Verdicts
+pub mod Counting
+pub mod Drawing
+pub mod Findings
