@@ -52,4 +52,4 @@ IsTimelineOf (Ok a) (Ok b) text status =
 abbrev pub IsTimeline : List ℕ → List ℕ → ℕ → Type 0
 IsTimeline input text status =
     IsTimelineOf (journal_of_side Primary (first_text input)) (journal_of_side Secondary (text_behind input))
-        text status
+    text status
