@@ -12,18 +12,28 @@ use crate::watched::Watched;
 use lead_time::{Skew, Transit};
 use std::alloc::Global;
 use std::io::{Read, Write};
+use std::thread::Threads;
 
 /// The verdict on the input's three texts, journal A, journal B and the certificate, as a line and a status;
 /// `Memory` where a growth was refused.
-pub fn judge(alloc: Global, input: &[u8], skew: Skew, transit: Transit) -> Result<Answer, DeskError>
+pub fn judge(
+    rt: &(impl Threads + Sync),
+    alloc: Global,
+    input: &[u8],
+    skew: Skew,
+    transit: Transit,
+) -> Result<Answer, DeskError>
     ensures answer { IfOk result (λ answer. IsAnswer input.now skew transit answer.line.items answer.status) }
     ensures refused { IfErr result (λ e. e ≡ DeskError.Memory) }
 {
-    Intake::new(alloc).take(input)?.answer(alloc, skew, transit)
+    Intake::new(alloc)
+        .take(input)?
+        .answer(rt, alloc, skew, transit)
 }
 
 /// Writes the verdict on all that a reader gives.
-pub(crate) fn audit_input<R: Read, W: Write>(
+pub(crate) fn audit_input<T: Threads + Sync, R: Read, W: Write>(
+    rt: &T,
     alloc: Global,
     skew: Skew,
     transit: Transit,
@@ -36,7 +46,7 @@ pub(crate) fn audit_input<R: Read, W: Write>(
     ensures write { IsErrOf result DeskError.Write → writer.new.failed ≡ true }
 {
     let intake = take_all(alloc, reader, Intake::new(alloc))?;
-    let answer = intake.answer(alloc, skew, transit)?;
+    let answer = intake.answer(rt, alloc, skew, transit)?;
     writer.write_out(&answer.line)?;
     Ok(answer.status)
 }

@@ -3,6 +3,8 @@
 ghost use Rattle.std.specs.Prelude.{◌≡◌};
 ghost use Rattle.attribution_desk.specs.declared.error.DeskError.TheVariants.{Memory};
 
+use auditor::AuditError;
+use line_index::IndexError;
 use std::alloc::AllocError;
 use thiserror::Error;
 
@@ -34,6 +36,22 @@ impl From<AllocError> for DeskError {
     ghost from_gives = { λ _ e. e ≡ Memory };
 
     fn from(_e: AllocError) -> DeskError {
+        DeskError::Memory
+    }
+}
+
+impl From<AuditError> for DeskError {
+    ghost from_gives = { λ _ e. e ≡ Memory };
+
+    fn from(_e: AuditError) -> DeskError {
+        DeskError::Memory
+    }
+}
+
+impl From<IndexError> for DeskError {
+    ghost from_gives = { λ _ e. e ≡ Memory };
+
+    fn from(_e: IndexError) -> DeskError {
         DeskError::Memory
     }
 }

@@ -7,12 +7,13 @@ ghost use Rattle.attribution_desk.specs.Intake.{HasTaken};
 use crate::answer::Answer;
 use crate::error::DeskError;
 use crate::journal_intake::JournalIntake;
+use crate::judging::verdict_on_parsed;
 use crate::taking::Taking;
-use auditor::{AuditError, audit_read};
 use binding_rules::Role;
 use journal_text::{text_gives_what_it_spells, written_is_closed};
 use lead_time::{Skew, Transit};
 use std::alloc::Global;
+use std::thread::Threads;
 
 /// The input's three texts, journal A, journal B and the certificate, as far as they have come: the lines of the
 /// journals, and the octets of the certificate.
@@ -38,6 +39,7 @@ impl Intake {
     /// The answer to the input that was taken; `Memory` where a growth was refused.
     pub(crate) fn answer(
         self,
+        rt: &(impl Threads + Sync),
         alloc: Global,
         skew: Skew,
         transit: Transit,
@@ -53,10 +55,16 @@ impl Intake {
         written_is_closed();
         let primary = self.primary.finish();
         let secondary = self.secondary.finish();
-        match audit_read(alloc, primary, secondary, &self.certificate, skew, transit) {
-            Ok(verdict) => Answer::new(alloc, &verdict),
-            Err(AuditError::Memory) => Err(DeskError::Memory),
-        }
+        let verdict = verdict_on_parsed(
+            rt,
+            alloc,
+            primary,
+            secondary,
+            &self.certificate,
+            skew,
+            transit,
+        )?;
+        Answer::new(alloc, &verdict)
     }
 }
 

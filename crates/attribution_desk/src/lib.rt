@@ -19,6 +19,7 @@ mod end_line;
 mod error;
 mod intake;
 mod journal_intake;
+mod judging;
 mod pair_intake;
 mod running;
 mod taking;

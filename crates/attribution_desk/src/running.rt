@@ -10,10 +10,12 @@ use crate::timelines::timeline_input;
 use crate::watched::Watched;
 use std::alloc::Global;
 use std::io::{Read, Write};
+use std::thread::Threads;
 
 /// Carries out a command: reads all of the input, writes the answer and gives the status. `Read` where the input fails
 /// or goes on for too long, `Write` where the output fails, `Memory` where a growth was refused.
-pub fn run<R: Read, W: Write>(
+pub fn run<T: Threads + Sync, R: Read, W: Write>(
+    rt: &T,
     alloc: Global,
     command: &Command,
     reader: &mut Watched<R>,
@@ -26,7 +28,7 @@ pub fn run<R: Read, W: Write>(
     ensures write { IsErrOf result DeskError.Write → writer.new.failed ≡ true }
 {
     match command {
-        Command::Audit { skew, transit } => audit_input(alloc, *skew, *transit, reader, writer),
+        Command::Audit { skew, transit } => audit_input(rt, alloc, *skew, *transit, reader, writer),
         Command::Timeline => timeline_input(alloc, reader, writer),
     }
 }

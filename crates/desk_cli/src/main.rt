@@ -36,7 +36,7 @@ fn answered(rt: &HostRuntime) -> Result<u8, Fault> {
     let command = command_of(rt.alloc(), &words).map_err(Fault::Usage)?;
     let mut reader = Watched::new(rt.stdin());
     let mut writer = Watched::new(rt.stdout());
-    run(rt.alloc(), &command, &mut reader, &mut writer).map_err(Fault::Desk)
+    run(rt, rt.alloc(), &command, &mut reader, &mut writer).map_err(Fault::Desk)
 }
 
 fn main(rt: HostRuntime) -> ExitCode {

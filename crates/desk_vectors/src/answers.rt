@@ -10,10 +10,10 @@ fn never_accepts_a_cut_input(rt: HostRuntime) -> Result<(), Fail> {
     let skew = Skew::new(SKEW)?;
     let bytes = WHOLE_HOUR.as_bytes();
     for length in 0..bytes.len() {
-        let answer = judge(rt.alloc(), &bytes[..length], skew, Transit::ZERO)?;
+        let answer = judge(&rt, rt.alloc(), &bytes[..length], skew, Transit::ZERO)?;
         assert_eq!(rt; answer.status, 1, "cut to {length}");
     }
-    assert_eq!(rt; judge(rt.alloc(), bytes, skew, Transit::ZERO)?.status, 0);
+    assert_eq!(rt; judge(&rt, rt.alloc(), bytes, skew, Transit::ZERO)?.status, 0);
     Ok(())
 }
 
@@ -51,7 +51,7 @@ fn names_faults_of_texts(rt: HostRuntime) -> Result<(), Fail> {
     ];
     for (input, line) in cases {
         assert_eq!(rt;
-            judge(rt.alloc(), input.as_bytes(), skew, Transit::ZERO)?
+            judge(&rt, rt.alloc(), input.as_bytes(), skew, Transit::ZERO)?
                 .line
                 .as_slice(),
             line.as_bytes()

@@ -7,6 +7,7 @@ use std::alloc::Global;
 use std::io;
 use std::io::Read;
 use std::test::Fail;
+use std::thread::Threads;
 
 /// Gives at most so many octets at a time.
 #[derive(Drop)]
@@ -32,6 +33,7 @@ fn audit(skew: Skew) -> Command {
 
 /// What the desk writes for an input that is read in chunks of this length.
 fn line_in_chunks(
+    rt: &(impl Threads + Sync),
     alloc: Global,
     input: &str,
     length: usize,
@@ -42,7 +44,7 @@ fn line_in_chunks(
         length,
     });
     let mut writer = Watched::new(Vec::new(alloc));
-    run(alloc, &audit(skew), &mut reader, &mut writer)?;
+    run(rt, alloc, &audit(skew), &mut reader, &mut writer)?;
     Ok(writer.into_device())
 }
 
@@ -86,10 +88,10 @@ const INPUTS: [(&str, &str); 6] = [
 fn judges_chunks_of_each_length(rt: HostRuntime) -> Result<(), Fail> {
     let skew = Skew::new(SKEW)?;
     for (input, wanted) in INPUTS {
-        let whole = judge(rt.alloc(), input.as_bytes(), skew, Transit::ZERO)?;
+        let whole = judge(&rt, rt.alloc(), input.as_bytes(), skew, Transit::ZERO)?;
         assert_eq!(rt; whole.line.as_slice(), wanted.as_bytes());
         for length in 1..input.len().min(MOST) {
-            let line = line_in_chunks(rt.alloc(), input, length, skew)?;
+            let line = line_in_chunks(&rt, rt.alloc(), input, length, skew)?;
             assert_eq!(rt; line.as_slice(), wanted.as_bytes(), "in chunks of {length}");
         }
     }

@@ -48,7 +48,7 @@ fn tells_a_read_that_fails(rt: HostRuntime) -> Result<(), Fail> {
                 fails_at,
             });
             let mut writer = Watched::new(Vec::new(rt.alloc()));
-            let status = run(rt.alloc(), &command, &mut reader, &mut writer);
+            let status = run(&rt, rt.alloc(), &command, &mut reader, &mut writer);
             let wanted = if fails_at <= calls {
                 Err(DeskError::Read)
             } else {
@@ -103,7 +103,7 @@ fn tells_a_write_that_fails(rt: HostRuntime) -> Result<(), Fail> {
                 fails_at,
                 tells,
             });
-            let status = run(rt.alloc(), &Command::Timeline, &mut reader, &mut writer);
+            let status = run(&rt, rt.alloc(), &Command::Timeline, &mut reader, &mut writer);
             let calls = CHAINED_IN_ORDER.len().div_ceil(512) as u32;
             let wanted = if fails_at <= calls {
                 Err(DeskError::Write)

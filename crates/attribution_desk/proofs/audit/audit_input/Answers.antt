@@ -5,7 +5,7 @@ use Rattle.attribution_desk.proofs.AllRead.{written}
 use Rattle.attribution_desk.proofs.audit.audit_input.Goals as goal
 
 pub answer-requires : goal.answer-requires
-answer-requires g c = let taken = c.in_ok-intake.ensures.taken in (taken.0, taken.1 [] c.new.ensures)
+answer-requires g c = let taken = c.in_ok-intake.ensures.taken in (c.type_bounds.sync-T, (taken.0, taken.1 [] c.new.ensures))
 
 pub returns-clause-written : goal.returns-clause-written
 returns-clause-written g c =
