@@ -15,3 +15,8 @@ pub mod KeptLines
 pub mod Counts
 pub mod Rolls
 pub mod NextBooks
+pub mod Charts
+pub mod PoolCharts
+pub mod Searches
+pub mod Subjects
+pub mod Registers

@@ -18,6 +18,8 @@
 
 mod answering;
 mod book;
+mod chart;
+mod charting;
 mod document;
 mod error;
 mod heading;
@@ -25,12 +27,16 @@ mod holding;
 mod keeping;
 mod laws;
 mod looking;
+mod marking;
+mod marks;
 mod messages;
 mod naming;
 mod opening;
 mod order;
 mod owing;
+mod pool_chart;
 mod queries;
+mod register;
 mod replaying;
 mod reply;
 mod rolling;
