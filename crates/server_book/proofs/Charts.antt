@@ -8,7 +8,7 @@ use Rattle.std.proofs.lemmas.Nat.{pow_pos}
 use Rattle.std.proofs.lemmas.Bool.Decides.{nat_tests}
 use Rattle.server_book.specs.declared.marking.Mark.{Mark}
 use Rattle.server_book.specs.declared.searching.Wanted.{Wanted}
-use Rattle.server_book.specs.declared.searching.Wanted.TheVariants.{Usable, Bound, Expirable, Seizable, Pending, Due, Marked, Overcounted}
+use Rattle.server_book.specs.declared.searching.Wanted.TheVariants.{Usable, Expirable, Seizable, Pending, Due, Marked, Overcounted}
 use Rattle.server_book.specs.declared.chart.Chart.{Chart}
 use Rattle.server_book.specs.Marks.{nothing, earlier, joined, is_by, may_be}
 use Rattle.server_book.specs.ChartForms.{at, IsJoined, IsChart}
@@ -28,7 +28,6 @@ none_by now (Some x) (Some y) e = (grind (arith, nat_tests), grind (arith, nat_t
 pub none_of_both : (w : Wanted) (a b : Mark) → may_be w (joined a b) ≡ false → (may_be w a ≡ false) × (may_be w b ≡ false)
 none_of_both Usable a b e = neither a.usable b.usable e
 none_of_both (Expirable now) a b e = none_by now a.ends b.ends e
-none_of_both (Bound k) a b e = neither a.taken b.taken e
 none_of_both (Seizable now) a b e = neither a.taken b.taken e
 none_of_both Pending a b e = neither a.pending b.pending e
 none_of_both Due a b e = neither a.due b.due e

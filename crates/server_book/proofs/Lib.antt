@@ -20,3 +20,7 @@ pub mod PoolCharts
 pub mod Searches
 pub mod Subjects
 pub mod Registers
+pub mod LeaseOrder
+pub mod Coming
+pub mod LeaseSteps
+pub mod Ends

@@ -3,11 +3,8 @@ use Rattle.std.proofs.Common.{◌≡◌, ◌≢◌, ℕ, ◌^◌, ◌<◌, ◌�
 use Rattle.std.specs.Prelude.{is_some, not}
 use Rattle.std.proofs.lemmas.Bool.Decides.{nat_tests}
 use Rattle.prefix_range.specs.Prefix.{Prefix}
-use Rattle.binding_rules.specs.declared.role.Role.{Role}
-use Rattle.binding_rules.specs.declared.role.Role.TheVariants.{Primary, Secondary}
 use Rattle.binding_rules.specs.declared.unit.UnitStatus.{UnitStatus}
 use Rattle.binding_rules.specs.declared.unit.UnitStatus.TheVariants.{Free, FreeBackup, Active, Expired, Released}
-use Rattle.binding_rules.specs.declared.unit.Binding.{Binding}
 use Rattle.binding_rules.specs.declared.unit.Unit.{Unit as UnitValue}
 use Rattle.binding_rules.specs.declared.update.Status.TheVariants.{Active as ActiveKind}
 use Rattle.binding_rules.specs.Unit.{status_of}
@@ -17,7 +14,7 @@ use Rattle.book_rules.specs.Places.{IsPool, index_in}
 use Rattle.book_rules.specs.UnitRules.{IsSeizable}
 use Rattle.book_rules.proofs.Ranges.{within, index_below}
 use Rattle.server_book.specs.declared.searching.Wanted.{Wanted}
-use Rattle.server_book.specs.declared.searching.Wanted.TheVariants.{Usable, Bound, Expirable, Seizable, Pending, Due, Marked, Overcounted}
+use Rattle.server_book.specs.declared.searching.Wanted.TheVariants.{Usable, Expirable, Seizable, Pending, Due, Marked, Overcounted}
 use Rattle.server_book.specs.declared.pool_chart.PoolChart.{PoolChart}
 use Rattle.server_book.specs.Marks.{mark_of, ends_by, is_by, may_be}
 use Rattle.server_book.specs.Charts.{leaf, IsFree}
@@ -39,10 +36,6 @@ ends_soon now FreeBackup u e own told = absurd (cc)
 ends_soon now (Expired k) u e own told = absurd (cc)
 ends_soon now (Released k) u e own told = absurd (cc)
 
-active_is_none : (role : Role) (k : Binding) → is_own role (Active k) ≡ false
-active_is_none Primary k = refl
-active_is_none Secondary k = refl
-
 seized_is_none : (b : Book) (now : ℕ) (u : UnitValue) (down : Option ℕ) → IsSeizable b now u down → is_own b.role u.status ≡ false
 seized_is_none b now u None is = absurd is
 seized_is_none b now u (Some d) is = is.0
@@ -50,7 +43,6 @@ seized_is_none b now u (Some d) is = is.0
 -- what is wanted is marked so
 pub covers : (b : Book) (w : Wanted) (u : UnitValue) → IsWanted b w u → may_be w (mark_of b.role u) ≡ true
 covers b Usable u is = is
-covers b (Bound k) u is = ap not (ap (is_own b.role) is ∙ active_is_none b.role (record { client = k.client; iaid = k.iaid }))
 covers b (Expirable now) u is = ends_soon now u.status u is.0 is.1 is.2
 covers b (Seizable now) u is = ap not (seized_is_none b now u b.down is)
 covers b Pending u is = some_of u.pending is

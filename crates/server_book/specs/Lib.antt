@@ -16,3 +16,4 @@ pub mod ChartForms
 pub mod Charts
 pub mod PoolCharts
 pub mod Subjects
+pub mod Leases

@@ -7,7 +7,7 @@ use Rattle.binding_rules.specs.declared.unit.Unit.{Unit as UnitValue}
 use Rattle.binding_rules.specs.Giving.{is_own}
 use Rattle.server_book.specs.declared.marking.Mark.{Mark}
 use Rattle.server_book.specs.declared.searching.Wanted.{Wanted}
-use Rattle.server_book.specs.declared.searching.Wanted.TheVariants.{Usable, Bound, Expirable, Seizable, Pending}
+use Rattle.server_book.specs.declared.searching.Wanted.TheVariants.{Usable, Expirable, Seizable, Pending}
 use Rattle.server_book.specs.declared.searching.Wanted.TheVariants.{Due, Marked, Overcounted}
 
 -- an active unit may be expired from here on
@@ -63,7 +63,6 @@ is_by now (Some e) = nat_le e now
 abbrev pub may_be : Wanted → Mark → Bool
 may_be Usable m = m.usable
 may_be (Expirable now) m = is_by now m.ends
-may_be (Bound k) m = m.taken
 may_be (Seizable now) m = m.taken
 may_be Pending m = m.pending
 may_be Due m = m.due

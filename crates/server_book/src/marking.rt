@@ -35,7 +35,7 @@ fn ends_of(unit: &Unit) -> Option<End>
 }
 
 /// The earlier of two ends.
-fn earlier(one: Option<End>, other: Option<End>) -> Option<End>
+pub(crate) fn earlier(one: Option<End>, other: Option<End>) -> Option<End>
     ensures { result ≡ earlier one other }
 {
     match (one, other) {
@@ -99,7 +99,7 @@ impl Mark {
                 Some(end) => ended(*now, end),
                 None => false,
             },
-            Wanted::Bound(_) | Wanted::Seizable(_) => self.taken,
+            Wanted::Seizable(_) => self.taken,
             Wanted::Pending => self.pending,
             Wanted::Due => self.due,
             Wanted::Marked => self.marked,

@@ -1,12 +1,13 @@
 //! Which units of a book wait for something to be done.
 
 ghost use Rattle.server_book.specs.Bindings.{IsLeastOf};
-ghost use Rattle.server_book.specs.Queries.{IsToExpire, IsToSeize, HasReply, HasChange, HasMark};
+ghost use Rattle.server_book.specs.Queries.{IsToExpire, IsFirstExpiry, IsToSeize, HasReply, HasChange, HasMark};
 ghost use Rattle.server_book.specs.Replayed.{state_of};
 
 use crate::book::Book;
+use crate::ending::first_end;
 use crate::searching::{Wanted, lowest, lowest_from};
-use lead_time::Reading;
+use lead_time::{End, Reading};
 use prefix_range::Prefix;
 
 impl Book {
@@ -16,6 +17,14 @@ impl Book {
         ensures { IsLeastOf (IsToExpire (state_of self.now) now) result }
     {
         lowest(self.register(), &Wanted::Expirable(now))
+    }
+
+    /// The first reading at which an Expire ends a unit, in milliseconds; none while no unit is delegated. It looks at
+    /// no unit.
+    pub fn first_expiry(&self) -> Option<End>
+        ensures { IsFirstExpiry (state_of self.now) result }
+    {
+        first_end(self.register())
     }
 
     /// The lowest unit that a Seize takes over at a reading; none while the partner isn't taken for down.

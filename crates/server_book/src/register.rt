@@ -4,52 +4,31 @@ ghost use Rattle.std.specs.Prelude.{◌≡◌, IfOk, IfErr, OnOk};
 ghost use Rattle.book_rules.specs.Effects.{after};
 ghost use Rattle.book_rules.specs.Rules.{IsStep};
 ghost use Rattle.book_rules.specs.State.{state};
+ghost use Rattle.server_book.specs.Bindings.{IsBoundTo, IsLeastOf};
+ghost use Rattle.server_book.specs.Leases.{AreLeases};
 ghost use Rattle.server_book.specs.PoolCharts.{IsFollowed};
-ghost use Rattle.server_book.specs.Subjects.{subject_of, subject_of_body, KeepsPools};
+ghost use Rattle.server_book.specs.Subjects.{KeepsPools};
 
 use crate::charting::{charts_of, follow};
+use crate::leases::{enter, leases_of, lowest_leased};
+use crate::leasing::Leased;
 use crate::pool_chart::PoolChart;
-use binding_rules::Body;
+use crate::subject::subject_of;
 use book_rules::Table;
-use journal_lines::{Event, Line};
+use client_id::{Duid, Iaid};
+use journal_lines::Line;
 use prefix_range::Prefix;
 use std::alloc::{AllocError, Global};
+use std::collections::BTreeSet;
 
-/// The unit that a message is about.
-fn subject_of_body(body: &Body) -> Option<Prefix>
-    ensures { result ≡ subject_of_body body.now }
-{
-    match body {
-        Body::Update(update) => Some(update.prefix),
-        Body::Reply(reply) => Some(reply.prefix),
-        Body::Contact { .. } => None,
-    }
-}
-
-/// The unit that a line is about: it changes no other.
-fn subject_of(event: &Event) -> Option<Prefix>
-    ensures { result ≡ subject_of event.now }
-{
-    match event {
-        Event::Unit(kept) => Some(kept.prefix),
-        Event::Grant(lease) => Some(lease.prefix),
-        Event::Release { prefix, .. } => Some(*prefix),
-        Event::Expire(prefix) => Some(*prefix),
-        Event::Backup(prefix) => Some(*prefix),
-        Event::Reclaim(prefix) => Some(*prefix),
-        Event::Seize(prefix) => Some(*prefix),
-        Event::Send(message) => subject_of_body(&message.body),
-        Event::Take(message) => subject_of_body(&message.body),
-        _ => None,
-    }
-}
-
-/// A table, and the marks of its units, by which one of a kind is found in few steps.
+/// A table, the marks of its units, by which one of a kind is found in few steps, and what each client has.
 #[derive(Drop)]
 pub(crate) struct Register {
     pub(crate) table: Table,
     pub(crate) charts: Vec<PoolChart>,
+    pub(crate) leases: BTreeSet<Leased>,
     ghost followed: { IsFollowed (state table) charts.items },
+    ghost held: { AreLeases (state table) leases },
 }
 
 impl Register {
@@ -58,7 +37,12 @@ impl Register {
         ensures { IfOk result (λ r. r.table ≡ table) }
     {
         let charts = charts_of(alloc, &table)?;
-        Ok(Register { table, charts })
+        let leases = leases_of(alloc, &table)?;
+        Ok(Register {
+            table,
+            charts,
+            leases,
+        })
     }
 
     /// Enters a line that breaks no rule and adds no pool. Where the memory is refused nothing has changed.
@@ -68,11 +52,18 @@ impl Register {
         ensures entered { OnOk result (state self.new.table ≡ after (state self.old.table) line.now) }
         ensures refused { IfErr result (λ _. state self.new.table ≡ state self.old.table) }
     {
-        self.table.enter(line)?;
+        enter(&mut self.table, &mut self.leases, line)?;
         if let Some(prefix) = subject_of(&line.event) {
             let unit = self.table.unit_or_fresh(&prefix);
             follow(&mut self.charts, self.table.role(), &prefix, &unit);
         }
         Ok(())
+    }
+
+    /// The lowest unit that a client has under an identity association.
+    pub(crate) fn lowest_bound(&self, client: &Duid, iaid: Iaid) -> Option<Prefix>
+        ensures { IsLeastOf (IsBoundTo (state self.now.table) client.now iaid) result }
+    {
+        lowest_leased(&self.leases, client, iaid)
     }
 }

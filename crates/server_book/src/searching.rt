@@ -12,7 +12,7 @@ ghost use Rattle.server_book.specs.Searching.{IsWanted, IsSome, IsThere, IsThere
 use crate::charting::addresses;
 use crate::pool_chart::PoolChart;
 use crate::register::Register;
-use binding_rules::{Binding, Status, Unit, grantable, renewable};
+use binding_rules::{Status, Unit, grantable};
 use book_rules::{Pool, Table};
 use lead_time::{Reading, ended};
 use prefix_range::Prefix;
@@ -22,8 +22,6 @@ use prefix_range::Prefix;
 pub(crate) enum Wanted {
     /// One that the server may give to any client.
     Usable,
-    /// One that is delegated under this binding.
-    Bound(Binding),
     /// One whose lease has ended.
     Expirable(Reading),
     /// One of a partner that is down, whose leases have all ended.
@@ -52,7 +50,6 @@ fn is_wanted(table: &Table, wanted: &Wanted, unit: &Unit) -> bool
 {
     match wanted {
         Wanted::Usable => grantable(table.role(), unit),
-        Wanted::Bound(binding) => renewable(unit, &binding.client, binding.iaid),
         Wanted::Expirable(now) => may_expire(*now, unit),
         Wanted::Seizable(now) => table.is_seizable(*now, unit),
         Wanted::Pending => unit.pending.is_some(),
