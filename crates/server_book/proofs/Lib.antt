@@ -15,3 +15,12 @@ pub mod KeptLines
 pub mod Counts
 pub mod Rolls
 pub mod NextBooks
+pub mod Charts
+pub mod PoolCharts
+pub mod Searches
+pub mod Subjects
+pub mod Registers
+pub mod LeaseOrder
+pub mod Coming
+pub mod LeaseSteps
+pub mod Ends

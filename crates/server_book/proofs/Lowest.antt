@@ -38,7 +38,7 @@ none_at_all b w from pool i h le none q there =
     omega (arith, below, past)
 
 -- a unit's address goes by its place
-address_at : (pool : Pool) (q : Prefix) → IsPool pool → IsPrefix q → is_in pool q ≡ true → q.address ≡ pool.prefix.address + index_in pool q * size_of pool.unit_length
+pub address_at : (pool : Pool) (q : Prefix) → IsPool pool → IsPrefix q → is_in pool q ≡ true → q.address ≡ pool.prefix.address + index_in pool q * size_of pool.unit_length
 address_at pool q h good is =
     let i = index_in pool q in
     let at = unit_placed_at pool i (placed pool i) h (index_below pool q h (within pool q is)) refl in

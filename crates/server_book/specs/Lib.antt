@@ -11,3 +11,9 @@ pub mod Searching
 pub mod NextBook
 pub mod Owed
 pub mod Keeping
+pub mod Marks
+pub mod ChartForms
+pub mod Charts
+pub mod PoolCharts
+pub mod Subjects
+pub mod Leases

@@ -5,16 +5,15 @@ use Rattle.binding_rules.specs.declared.unit.Unit.{Unit as UnitValue}
 use Rattle.binding_rules.specs.Giving.{is_own}
 use Rattle.book_rules.specs.declared.pool.Pool.{Pool}
 use Rattle.book_rules.specs.Book.{Book, is_in}
-use Rattle.book_rules.specs.UnitRules.{IsActiveFor, IsSeizable}
+use Rattle.book_rules.specs.UnitRules.{IsSeizable}
 use Rattle.server_book.specs.declared.searching.Wanted.{Wanted}
-use Rattle.server_book.specs.declared.searching.Wanted.TheVariants.{Usable, Bound, Expirable, Seizable, Pending}
+use Rattle.server_book.specs.declared.searching.Wanted.TheVariants.{Usable, Expirable, Seizable, Pending}
 use Rattle.server_book.specs.declared.searching.Wanted.TheVariants.{Due, Marked, Overcounted}
 use Rattle.server_book.specs.Bindings.{IsUnitOf}
 use Rattle.server_book.specs.Queries.{MayExpire}
 
 abbrev pub IsWanted : Book → Wanted → UnitValue → Type 0
 IsWanted b Usable u = is_own b.role u.status ≡ true
-IsWanted b (Bound k) u = IsActiveFor u k.client k.iaid
 IsWanted b (Expirable now) u = MayExpire now u
 IsWanted b (Seizable now) u = IsSeizable b now u b.down
 IsWanted b Pending u = u.pending ≢ None

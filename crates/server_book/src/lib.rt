@@ -18,25 +18,35 @@
 
 mod answering;
 mod book;
+mod chart;
+mod charting;
 mod document;
+mod ending;
 mod error;
 mod heading;
 mod holding;
 mod keeping;
 mod laws;
+mod leases;
+mod leasing;
 mod looking;
+mod marking;
+mod marks;
 mod messages;
 mod naming;
 mod opening;
 mod order;
 mod owing;
+mod pool_chart;
 mod queries;
+mod register;
 mod replaying;
 mod reply;
 mod rolling;
 mod searching;
 mod serving;
 mod settings;
+mod subject;
 
 pub use book::Book;
 pub use error::{BookError, OpenError};

@@ -1,14 +1,18 @@
 //! The lowest unit of a kind.
 
-ghost use Rattle.std.specs.Prelude.{◌≡◌, ◌≤◌, ◌↔◌, IsTrue};
-ghost use Rattle.book_rules.specs.Book.{units_in};
-ghost use Rattle.book_rules.specs.Places.{IsPool};
+ghost use Rattle.std.specs.Prelude.{◌≡◌, ◌≤◌, ◌↔◌, ℕ, IsTrue};
+ghost use Rattle.prefix_range.specs.Prefix.{Prefix as PrefixValue};
+ghost use Rattle.book_rules.specs.Places.{IsPool, IsUnitAt};
 ghost use Rattle.book_rules.specs.State.{state};
 ghost use Rattle.server_book.specs.Bindings.{IsLeastOf};
+ghost use Rattle.server_book.specs.PoolCharts.{IsMarked};
 ghost use Rattle.server_book.specs.Queries.{MayExpire};
 ghost use Rattle.server_book.specs.Searching.{IsWanted, IsSome, IsThere, IsThereIn, lower_of};
 
-use binding_rules::{Binding, Status, Unit, grantable, renewable};
+use crate::charting::addresses;
+use crate::pool_chart::PoolChart;
+use crate::register::Register;
+use binding_rules::{Status, Unit, grantable};
 use book_rules::{Pool, Table};
 use lead_time::{Reading, ended};
 use prefix_range::Prefix;
@@ -18,8 +22,6 @@ use prefix_range::Prefix;
 pub(crate) enum Wanted {
     /// One that the server may give to any client.
     Usable,
-    /// One that is delegated under this binding.
-    Bound(Binding),
     /// One whose lease has ended.
     Expirable(Reading),
     /// One of a partner that is down, whose leases have all ended.
@@ -48,7 +50,6 @@ fn is_wanted(table: &Table, wanted: &Wanted, unit: &Unit) -> bool
 {
     match wanted {
         Wanted::Usable => grantable(table.role(), unit),
-        Wanted::Bound(binding) => renewable(unit, &binding.client, binding.iaid),
         Wanted::Expirable(now) => may_expire(*now, unit),
         Wanted::Seizable(now) => table.is_seizable(*now, unit),
         Wanted::Pending => unit.pending.is_some(),
@@ -68,17 +69,32 @@ fn is_there(table: &Table, wanted: &Wanted, from: u128, prefix: &Prefix) -> bool
     }
 }
 
-/// The lowest unit of a pool that is wanted, from an address on.
-fn lowest_in(table: &Table, pool: &Pool, wanted: &Wanted, from: u128) -> Option<Prefix>
-    requires pool { IsPool pool.now }
-    requires few { units_in pool.now ≤ 65536 }
-    ensures { IsLeastOf (IsThereIn (state table.now) wanted.now from pool.now) result }
+/// A place of a pool before which no unit begins at an address or above.
+fn first_place(pool: &Pool, from: u128) -> usize
+    requires { IsPool pool.now }
+    ensures { (i : ℕ) (p : PrefixValue) → IsUnitAt pool.now i p → from ≤ p.address → result ≤ i }
 {
-    for index in 0..pool.count() {
-        let prefix = pool.unit(index);
+    let first = pool.prefix.first();
+    if from <= first || pool.unit_length == 0 {
+        return 0;
+    }
+    let size = addresses(pool.unit_length);
+    ((from - first) / size).min(65536) as usize
+}
+
+/// The lowest unit of a pool that is wanted, from an address on.
+fn lowest_in(table: &Table, chart: &PoolChart, wanted: &Wanted, from: u128) -> Option<Prefix>
+    requires { IsMarked (state table.now).role (state table.now).units chart.now }
+    ensures { IsLeastOf (IsThereIn (state table.now) wanted.now from chart.now.pool) result }
+{
+    let pool = &chart.pool;
+    let mut place = first_place(pool, from);
+    while let Some(found) = chart.chart.next(wanted, place) {
+        let prefix = pool.unit(found);
         if is_there(table, wanted, from, &prefix) {
             return Some(prefix);
         }
+        place = found + 1;
     }
     None
 }
@@ -99,19 +115,20 @@ fn lower(one: Option<Prefix>, other: Option<Prefix>) -> Option<Prefix>
 }
 
 /// The lowest unit that is wanted, from an address on.
-pub(crate) fn lowest_from(table: &Table, wanted: &Wanted, from: u128) -> Option<Prefix>
-    ensures { IsLeastOf (IsThere (state table.now) wanted.now from) result }
+pub(crate) fn lowest_from(register: &Register, wanted: &Wanted, from: u128) -> Option<Prefix>
+    ensures { IsLeastOf (IsThere (state register.now.table) wanted.now from) result }
 {
+    let table = &register.table;
     let mut best = None;
-    for pool in table.pools() {
-        best = lower(best, lowest_in(table, pool, wanted, from));
+    for chart in &register.charts {
+        best = lower(best, lowest_in(table, chart, wanted, from));
     }
     best
 }
 
 /// The lowest unit that is wanted.
-pub(crate) fn lowest(table: &Table, wanted: &Wanted) -> Option<Prefix>
-    ensures { IsLeastOf (IsSome (state table.now) wanted.now) result }
+pub(crate) fn lowest(register: &Register, wanted: &Wanted) -> Option<Prefix>
+    ensures { IsLeastOf (IsSome (state register.now.table) wanted.now) result }
 {
-    lowest_from(table, wanted, 0)
+    lowest_from(register, wanted, 0)
 }

@@ -1,22 +1,19 @@
-use Rattle.std.proofs.Common.{arith, sym, subst, Option, ◌+◌}
+use Rattle.std.proofs.Common.{arith, sym, subst, ap, ◌≡◌, ◌∙◌, ◌+◌, ◌<◌, Option, List, length, get_or}
+use Rattle.std.proofs.lemmas.List.{length-map}
 use Rattle.prefix_range.specs.Prefix.{Prefix}
 use Rattle.book_rules.specs.State.{state}
-use Rattle.server_book.proofs.Lowest.{IsLeastSo, least_at_first, least_further, least_at_last, few_in, pool_in}
+use Rattle.server_book.specs.declared.pool_chart.PoolChart.{PoolChart}
+use Rattle.server_book.specs.PoolCharts.{pools_of}
+use Rattle.server_book.proofs.Lowest.{IsLeastSo, least_further}
+use Rattle.server_book.proofs.Searches.{pool_at}
 use Rattle.server_book.proofs.searching.lowest_from.Goals as goal
 
-pub loop-pool-init : goal.loop-pool-init
-loop-pool-init c = least_at_first _ _ _ _
-
-pub lowest_in-requires-clause-pool : goal.lowest_in-requires-clause-pool
-lowest_in-requires-clause-pool c = pool_in _ c.loop-pool.pool-index _ c.pools-pool-items.ensures.whole (omega arith) c.pool-item.is
-
-pub lowest_in-requires-clause-few : goal.lowest_in-requires-clause-few
-lowest_in-requires-clause-few c = few_in _ c.loop-pool.pool-index _ c.pools-pool-items.ensures.whole (omega arith) c.pool-item.is
-
-pub loop-pool-preserved : goal.loop-pool-preserved
-loop-pool-preserved c =
-    subst (λ (o : Option Prefix). IsLeastSo (state c.args.table.now) c.args.wanted.now c.args.from c.pools-pool-items.result.now (c.loop-pool.pool-index + 1) o) (sym c.lower-best.ensures)
-    (least_further _ _ _ _ c.loop-pool.pool-index c.pool-item.result _ _ (omega arith) c.pool-item.is c.loop-pool.invariant c.lowest_in.ensures)
-
-pub returns : goal.returns
-returns c = least_at_last _ _ _ _ c.loop-pool.pool-index _ (sym c.pools-pool-items.ensures.pools) (omega arith) c.loop-pool.invariant
+pub loop-chart-preserved : goal.loop-chart-preserved
+loop-chart-preserved c =
+    let charts = c.args.register.now.charts.items in
+    let chart = c.chart-item.result in
+    let is : chart ≡ get_or charts c.loop-chart.chart-index chart = c.chart-item.is ∙ ap (λ (cs : List PoolChart). get_or cs c.loop-chart.chart-index chart) c.deref-chart-items.ensures.value in
+    let lt : c.loop-chart.chart-index < length charts = omega (arith, c.loop-chart-test.true, ap length c.deref-chart-items.ensures.value) in
+    let count = length-map charts (λ (x : PoolChart). x.pool) in
+    subst (λ (o : Option Prefix). IsLeastSo (state c.args.register.now.table) c.args.wanted.now c.args.from (pools_of charts) (c.loop-chart.chart-index + 1) o) (sym c.lower-best.ensures)
+    (least_further _ _ _ (pools_of charts) c.loop-chart.chart-index chart.pool _ _ (omega (arith, lt, count)) (pool_at charts c.loop-chart.chart-index chart lt is) c.loop-chart.invariant c.lowest_in.ensures)

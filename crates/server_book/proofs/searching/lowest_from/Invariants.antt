@@ -1,6 +1,7 @@
 use Rattle.book_rules.specs.State.{state}
+use Rattle.server_book.specs.PoolCharts.{pools_of}
 use Rattle.server_book.proofs.Lowest.{IsLeastSo}
 use Rattle.server_book.proofs.searching.lowest_from.Given as goal
 
-abbrev pub invariant-loop-pool : goal.invariant-loop-pool
-invariant-loop-pool l = IsLeastSo (state l.table) l.wanted l.from l.pool-items l.pool-index l.best
+abbrev pub invariant-loop-chart : goal.invariant-loop-chart
+invariant-loop-chart l = IsLeastSo (state l.register.table) l.wanted l.from (pools_of l.register.charts.items) l.chart-index l.best

@@ -1,12 +1,23 @@
-use Rattle.std.proofs.Common.{arith}
-use Rattle.server_book.proofs.Lowest.{none_further, none_at_all, found_first}
+use Rattle.book_rules.specs.Places.{index_in}
+use Rattle.server_book.proofs.Lowest.{none_further, found_first}
+use Rattle.server_book.proofs.PoolCharts.{stands_at}
+use Rattle.server_book.proofs.Searches.{none_passed, none_in_pool}
 use Rattle.server_book.proofs.searching.lowest_in.Goals as goal
 
-pub returns-then-is_there : goal.returns-then-is_there
-returns-then-is_there c = found_first _ _ _ _ c.loop-index.index _ c.requires.pool c.loop-index.invariant c.unit-prefix.ensures (c.is_there.ensures.0 c.if-is_there.true)
+pub loop-found-init : goal.loop-found-init
+loop-found-init c = record {
+  each = λ q there. c.first_place-place.ensures (index_in c.args.chart.now.pool q) q (stands_at c.args.chart.now.pool q c.args.chart.now.whole.legal there.1.0.whole there.0) there.1.2;
+}
 
-pub loop-index-preserved : goal.loop-index-preserved
-loop-index-preserved c = none_further _ _ _ _ c.loop-index.index _ c.requires.pool c.loop-index.invariant c.unit-prefix.ensures (λ there. (let yes = c.is_there.ensures.1 there in let no = c.if-is_there.false in absurd (cc)))
+pub returns-then-is_there : goal.returns-then-is_there
+returns-then-is_there c =
+    let none = none_passed _ _ _ c.loop-found.place c.in-Some.found c.args.chart.now c.args.chart.now.whole.legal c.requires c.in-Some.ensures.found.2 c.loop-found.invariant in
+    found_first _ _ _ _ c.in-Some.found _ c.args.chart.now.whole.legal none c.unit-prefix.ensures (c.is_there.ensures.0 c.if-is_there.true)
+
+pub loop-found-preserved : goal.loop-found-preserved
+loop-found-preserved c =
+    let none = none_passed _ _ _ c.loop-found.place c.in-Some.found c.args.chart.now c.args.chart.now.whole.legal c.requires c.in-Some.ensures.found.2 c.loop-found.invariant in
+    none_further _ _ _ _ c.in-Some.found _ c.args.chart.now.whole.legal none c.unit-prefix.ensures (λ there. (let yes = c.is_there.ensures.1 there in let out = c.if-is_there.false in absurd (cc)))
 
 pub returns : goal.returns
-returns c = none_at_all _ _ _ _ c.loop-index.index c.requires.pool (omega arith) c.loop-index.invariant
+returns c = none_in_pool _ _ _ c.loop-found.place c.args.chart.now c.args.chart.now.whole c.requires (rw c.in_default.is at c.next.ensures.none) c.loop-found.invariant

@@ -1,0 +1,17 @@
+//! Vectors from outside for a server's book: what it answers, and the journal that it leaves.
+#![tactic(auto)]
+
+#[cfg(test)]
+mod books;
+#[cfg(test)]
+mod clients;
+#[cfg(test)]
+mod datagrams;
+#[cfg(test)]
+mod pairs;
+#[cfg(test)]
+mod replays;
+#[cfg(test)]
+mod settings;
+#[cfg(test)]
+mod volumes;

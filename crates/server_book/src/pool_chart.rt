@@ -1,0 +1,14 @@
+//! A pool with a chart of its units.
+
+ghost use Rattle.server_book.specs.ChartForms.{IsChartOf};
+
+use crate::chart::Chart;
+use book_rules::Pool;
+
+/// A pool, and the marks of its units.
+#[derive(Drop)]
+pub(crate) struct PoolChart {
+    pub(crate) pool: Pool,
+    pub(crate) chart: Chart,
+    ghost whole: { IsChartOf pool chart.levels },
+}

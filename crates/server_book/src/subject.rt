@@ -1,0 +1,37 @@
+//! The unit that a line is about.
+
+ghost use Rattle.std.specs.Prelude.{◌≡◌};
+ghost use Rattle.server_book.specs.Subjects.{subject_of, subject_of_body};
+
+use binding_rules::Body;
+use journal_lines::Event;
+use prefix_range::Prefix;
+
+/// The unit that a message is about.
+fn subject_of_body(body: &Body) -> Option<Prefix>
+    ensures { result ≡ subject_of_body body.now }
+{
+    match body {
+        Body::Update(update) => Some(update.prefix),
+        Body::Reply(reply) => Some(reply.prefix),
+        Body::Contact { .. } => None,
+    }
+}
+
+/// The unit that a line is about: it changes no other.
+pub(crate) fn subject_of(event: &Event) -> Option<Prefix>
+    ensures { result ≡ subject_of event.now }
+{
+    match event {
+        Event::Unit(kept) => Some(kept.prefix),
+        Event::Grant(lease) => Some(lease.prefix),
+        Event::Release { prefix, .. } => Some(*prefix),
+        Event::Expire(prefix) => Some(*prefix),
+        Event::Backup(prefix) => Some(*prefix),
+        Event::Reclaim(prefix) => Some(*prefix),
+        Event::Seize(prefix) => Some(*prefix),
+        Event::Send(message) => subject_of_body(&message.body),
+        Event::Take(message) => subject_of_body(&message.body),
+        _ => None,
+    }
+}
