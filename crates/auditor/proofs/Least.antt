@@ -1,12 +1,13 @@
--- The least of the lines that a source gives.
-use Rattle.std.specs.Prelude.{◌≡◌, ℕ, ◌+◌, ◌<◌, ◌≤◌, List, Option, Some, None, slice_get, length}
-use Rattle.std.proofs.Common.{arith, sym, ◌∙◌, ap, subst, inl, inr}
+-- The least of the lines that a walk gives.
+use Rattle.std.specs.Prelude.{◌≡◌, ℕ, ◌+◌, ◌<◌, ◌≤◌, List, [], ◌∷◌, drop, Option, Some, None, MatchOption, slice_get, length, Contains as Has}
+use Rattle.std.proofs.Common.{zero, suc, arith, sym, ◌∙◌, ap, subst, refl, inl, inr}
 use Rattle.std.proofs.lemmas.Bool.{cases_lt}
 use Rattle.binding_rules.specs.declared.role.Role.{Role}
 use Rattle.binding_rules.specs.declared.role.Role.TheVariants.{Primary, Secondary}
 use Rattle.claims.specs.declared.reference.Ref.{Ref}
 use Rattle.causal_order.specs.LineOrder.{ComesBefore, IsLeast}
 use Rattle.auditor.specs.Refusals.{ComesFirst}
+use Rattle.auditor.proofs.Given.{Contains-get, get-Contains}
 
 -- ---- the order of lines
 
@@ -45,11 +46,11 @@ module _ (P : Ref → Type 0) (given : List Ref) where
   same_line : (i k : ℕ) (r s : Ref) → k < i + 1 → i ≤ k → slice_get given i ≡ Some r → slice_get given k ≡ Some s → r ≡ s
   same_line i k r s lt le a b = let at : i ≡ k = omega arith in let same : Some r ≡ Some s = sym a ∙ (ap (slice_get given) at ∙ b) in cc
 
-  pub none_given : IsLeastOf P given 0 None
+  none_given : IsLeastOf P given 0 None
   none_given k r lt e u = absurd (omega arith)
 
   -- a line that is not both sooner and one of which P holds
-  pub least_kept : (i : ℕ) (o : Option Ref) (r : Ref) → slice_get given i ≡ Some r → (ComesFirst r o → P r → ⊥) → IsLeastOf P given i o → IsLeastOf P given (i + 1) o
+  least_kept : (i : ℕ) (o : Option Ref) (r : Ref) → slice_get given i ≡ Some r → (ComesFirst r o → P r → ⊥) → IsLeastOf P given i o → IsLeastOf P given (i + 1) o
   least_kept i None r e n h = λ k s lt f u. elim (cases_lt k i) [
     | inl less ↦ h k s less f u
     | inr le ↦ n (omega arith) (subst P (sym (same_line i k r s lt le e f)) u)
@@ -74,14 +75,69 @@ module _ (P : Ref → Type 0) (given : List Ref) where
     ],
   )
 
-  pub least_more : (i : ℕ) (o : Option Ref) (r : Ref) → slice_get given i ≡ Some r → P r → ComesFirst r o → IsLeastOf P given i o → IsLeastOf P given (i + 1) (Some r)
+  least_more : (i : ℕ) (o : Option Ref) (r : Ref) → slice_get given i ≡ Some r → P r → ComesFirst r o → IsLeastOf P given i o → IsLeastOf P given (i + 1) (Some r)
   least_more i None r e u is h = least_at i r e u (λ k t lt f v before. h k t lt f v)
   least_more i (Some m) r e u is h = least_at i r e u (λ k t lt f v before. h.1 k t lt f v (before_trans t r m before is))
 
   -- where each line of which P holds is given
   module _ (all : (r : Ref) → P r → (k : ℕ) × (k < length given) × (slice_get given k ≡ Some r)) where
-    pub none_at_all : (i : ℕ) → length given ≤ i → IsLeastOf P given i None → (r : Ref) → P r → ⊥
+    none_at_all : (i : ℕ) → length given ≤ i → IsLeastOf P given i None → (r : Ref) → P r → ⊥
     none_at_all i le h r u = let k = all r u in h k.0 r (omega (arith, k.1)) k.2 u
 
-    pub least_of_all : (i : ℕ) (m : Ref) → length given ≤ i → IsLeastOf P given i (Some m) → IsLeast P m
+    least_of_all : (i : ℕ) (m : Ref) → length given ≤ i → IsLeastOf P given i (Some m) → IsLeast P m
     least_of_all i m le h = (h.0, λ s before u. (let k = all s u in h.1 k.0 s (omega (arith, k.1)) k.2 u before))
+
+-- ---- a walk over the given lines
+
+-- what it gave, and the least of that of which P holds
+pub record IsWalked (P : Ref → Type 0) (given left : List Ref) (least : Option Ref) : Type 0 where
+  pub count : ℕ
+  pub rest : drop count given ≡ left
+  pub found : IsLeastOf P given count least
+
+next_is : (given : List Ref) (i : ℕ) (r : Ref) (more : List Ref) → drop i given ≡ r ∷ more → (slice_get given i ≡ Some r) × (drop (i + 1) given ≡ more)
+next_is [] zero r more e = absurd (cc)
+next_is [] (suc i) r more e = absurd (cc)
+next_is (x ∷ given) zero r more e = let same : x ∷ given ≡ r ∷ more = e in (cc, cc)
+next_is (x ∷ given) (suc i) r more e =
+    let n = next_is given i r more e in
+    (n.0, ap (λ (k : ℕ). drop k (x ∷ given)) (let z : suc i + 1 ≡ suc (i + 1) = omega arith in z) ∙ n.1)
+
+all_walked : (given : List Ref) (i : ℕ) → drop i given ≡ [] → length given ≤ i
+all_walked [] i e = omega arith
+all_walked (x ∷ given) zero e = absurd (cc)
+all_walked (x ∷ given) (suc i) e = let le = all_walked given i e in omega (arith, le)
+
+module _ (P : Ref → Type 0) (given : List Ref) where
+  pub none_walked : IsWalked P given given None
+  none_walked = record { count = 0; rest = refl; found = none_given P given }
+
+  -- the next line is not both sooner and one of which P holds
+  pub one_kept : (left more : List Ref) (o : Option Ref) (r : Ref) → left ≡ r ∷ more → (ComesFirst r o → P r → ⊥) → IsWalked P given left o → IsWalked P given more o
+  one_kept left more o r e n w =
+      let at = next_is given w.count r more (w.rest ∙ e) in
+      record { count = w.count + 1; rest = at.1; found = least_kept P given w.count o r at.0 n w.found }
+
+  pub one_more : (left more : List Ref) (o : Option Ref) (r : Ref) → left ≡ r ∷ more → P r → ComesFirst r o → IsWalked P given left o → IsWalked P given more (Some r)
+  one_more left more o r e u is w =
+      let at = next_is given w.count r more (w.rest ∙ e) in
+      record { count = w.count + 1; rest = at.1; found = least_more P given w.count o r at.0 u is w.found }
+
+  -- what is left is given
+  pub next_given : (left more : List Ref) (o : Option Ref) (r : Ref) → left ≡ r ∷ more → IsWalked P given left o → Has given r
+  next_given left more o r e w = Contains-get given w.count r (next_is given w.count r more (w.rest ∙ e)).0
+
+  -- where each line of which P holds is given, and nothing is left
+  module _ (all : (r : Ref) → P r → Has given r) (left : List Ref) (none : left ≡ []) where
+    each : (r : Ref) → P r → (k : ℕ) × (k < length given) × (slice_get given k ≡ Some r)
+    each r u = get-Contains given r (all r u)
+
+    pub nowhere : IsWalked P given left None → (r : Ref) → P r → ⊥
+    nowhere w = none_at_all P given each w.count (all_walked given w.count (w.rest ∙ none)) w.found
+
+    pub least_found : (m : Ref) → IsWalked P given left (Some m) → IsLeast P m
+    least_found m w = least_of_all P given each w.count m (all_walked given w.count (w.rest ∙ none)) w.found
+
+    pub is_found : (o : Option Ref) → IsWalked P given left o → MatchOption o ((r : Ref) → P r → ⊥) (IsLeast P)
+    is_found None w = nowhere w
+    is_found (Some m) w = least_found m w

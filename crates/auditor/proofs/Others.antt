@@ -1,12 +1,14 @@
 -- Grants to other clients.
-use Rattle.std.specs.Prelude.{◌≡◌, ℕ, ◌<◌, ◌≤◌, ◌↔◌, IsTrue, Bool, false, List, length, Option, Some, None, MatchOption, slice_get}
-use Rattle.std.proofs.Common.{sym, subst, inl, inr}
+use Rattle.std.specs.Prelude.{◌≡◌, ℕ, ◌<◌, ◌↔◌, IsTrue, Bool, false, List, [], length, Option, Some, None, MatchOption, Contains as Has}
+use Rattle.std.proofs.Common.{sym, subst, inl, inr, arith, get_or}
+use Rattle.std.proofs.lemmas.List.Elements.{Contains-get_or}
 use Rattle.std.proofs.lemmas.Bool.{cases_Bool}
 use Rattle.prefix_range.specs.Prefix.{Overlaps}
 use Rattle.attribution.specs.declared.delegation.Delegation.{Delegation}
 use Rattle.claims.specs.declared.reference.Ref.{Ref}
 use Rattle.causal_order.specs.Journals.{Journals}
 use Rattle.claims.specs.declared.certificate.Certificate.{Certificate}
+use Rattle.claims.specs.Naming.{NamesAt}
 use Rattle.attribution.specs.Acceptance.{IsNamed, IsCovered}
 use Rattle.causal_order.specs.LineOrder.{IsLeast}
 use Rattle.attribution.specs.FirstRefusal.{IsUncovered}
@@ -15,8 +17,8 @@ use Rattle.attribution.specs.Tests.{delegation_of, is_named}
 use Rattle.attribution.proofs.Deciding.{told_tells, decides_named}
 use Rattle.attribution.proofs.Listing.{uncovered_listed}
 use Rattle.auditor.specs.Refusals.{IsOthers}
-use Rattle.auditor.proofs.Given.{get-Contains}
-use Rattle.auditor.proofs.Least.{IsLeastOf, none_at_all, least_of_all}
+use Rattle.auditor.proofs.Given.{Contains-get, get-Contains}
+use Rattle.auditor.proofs.Least.{IsWalked, nowhere, least_found}
 use Rattle.auditor.proofs.Leases.{one_told, none_told}
 
 -- ---- one line
@@ -43,18 +45,29 @@ module _ (js : Journals) (c : Certificate) (r : Ref) where
   pub no_bare : None ≡ delegation_of js r → IsUncovered js c r → ⊥
   no_bare e u = none_told js r u.0 e u.1.0
 
+-- ---- foreign entries that name a line
+
+module _ (c : Certificate) (r : Ref) (indexes : List ℕ) (naming : (k : ℕ) → Has indexes k ↔ NamesAt (λ f. f.grant) c.foreign r k) where
+  pub named_by_some : 0 < length indexes → IsNamed c r
+  named_by_some some =
+      let n = (naming (get_or indexes 0 0)).0 (Contains-get_or indexes 0 0 some) in
+      (n.0, Contains-get c.foreign (get_or indexes 0 0) n.0 n.1, n.2)
+
+  pub some_by_name : IsNamed c r → 0 < length indexes
+  some_by_name h =
+      let at = get-Contains c.foreign h.0 h.1 in
+      let has = (naming at.0).1 (h.0, at.2, h.2) in
+      omega (arith, has.1)
+
 -- ---- the least of the given lines
 
 module _ (js : Journals) (c : Certificate) (given : List Ref) (listed : IsListing js c.prefix given) where
-  is_given : (r : Ref) → IsUncovered js c r → (k : ℕ) × (k < length given) × (slice_get given k ≡ Some r)
-  is_given r u = get-Contains given r (uncovered_listed js c given listed r u)
-
-  all_covered : (i : ℕ) → length given ≤ i → IsLeastOf (IsUncovered js c) given i None → IsCovered js c
-  all_covered i le h r g foreign = elim (cases_Bool (is_named c r)) [
+  all_covered : ((r : Ref) → IsUncovered js c r → ⊥) → IsCovered js c
+  all_covered none r g foreign = elim (cases_Bool (is_named c r)) [
     | inl t ↦ (decides_named c r).0 t
-    | inr f ↦ absurd (none_at_all (IsUncovered js c) given is_given i le h r (g, foreign, λ named. let t = (decides_named c r).1 named in absurd (cc)))
+    | inr f ↦ absurd (none r (g, foreign, λ named. let t = (decides_named c r).1 named in absurd (cc)))
   ]
 
-  pub least_found : (i : ℕ) (o : Option Ref) → length given ≤ i → IsLeastOf (IsUncovered js c) given i o → MatchOption o (IsCovered js c) (IsLeast (IsUncovered js c))
-  least_found i None le h = all_covered i le h
-  least_found i (Some m) le h = least_of_all (IsUncovered js c) given is_given i m le h
+  pub uncovered_found : (left : List Ref) → left ≡ [] → (o : Option Ref) → IsWalked (IsUncovered js c) given left o → MatchOption o (IsCovered js c) (IsLeast (IsUncovered js c))
+  uncovered_found left none None w = all_covered (nowhere (IsUncovered js c) given (uncovered_listed js c given listed) left none w)
+  uncovered_found left none (Some m) w = least_found (IsUncovered js c) given (uncovered_listed js c given listed) left none m w

@@ -1,8 +1,8 @@
 -- Releases that cut a piece short.
-use Rattle.std.specs.Prelude.{◌≡◌, ℕ, ◌+◌, ◌<◌, ◌≤◌, List, length, Option, Some, None, MatchOption, slice_get}
-use Rattle.std.proofs.Common.{sym, subst, inl, inr, refl}
+use Rattle.std.specs.Prelude.{◌≡◌, ℕ, ◌+◌, ◌↔◌, IsTrue, Bool, false, List, [], Option, Some, None, MatchOption, slice_get, Contains as Has}
+use Rattle.std.proofs.Common.{sym, ◌∙◌, ap, subst, inl, inr, refl}
 use Rattle.std.proofs.lemmas.Bool.{cases_Bool}
-use Rattle.prefix_range.specs.Prefix.{Overlaps}
+use Rattle.std.proofs.lemmas.Option.{same_Some}
 use Rattle.journal_lines.specs.declared.event.Lease.{Lease}
 use Rattle.claims.specs.declared.reference.Ref.{Ref}
 use Rattle.causal_order.specs.Journals.{Journals}
@@ -10,28 +10,51 @@ use Rattle.claims.specs.declared.certificate.Certificate.{Certificate}
 use Rattle.claims.specs.declared.certificate.Piece.{Piece}
 use Rattle.attribution.specs.declared.delegation.Delegation.{Delegation}
 use Rattle.attribution.specs.Delegation.{of_lease}
-use Rattle.attribution.specs.Acceptance.{GivesBack, IsDischarged}
+use Rattle.claims.specs.Naming.{NamesAt}
+use Rattle.claims.specs.declared.certificate.Clear.{Clear}
+use Rattle.attribution.specs.Acceptance.{GivesBack, IsCleared, Discharges, IsDischarged}
 use Rattle.causal_order.specs.LineOrder.{IsLeast}
 use Rattle.attribution.specs.FirstRefusal.{CutsShort}
-use Rattle.attribution.specs.Listing.{Concerns, IsListing}
 use Rattle.attribution.specs.Tests.{lease_of, discharges}
 use Rattle.attribution.proofs.Deciding.{lease_grants, decides_discharges}
-use Rattle.auditor.specs.Refusals.{CutsLeaseShort, IsCutShortAt}
-use Rattle.auditor.proofs.Given.{get-Contains}
-use Rattle.auditor.proofs.Least.{IsLeastOf, none_at_all, least_of_all}
+use Rattle.auditor.specs.Refusals.{CutsLeaseShort, ClearsAt, OneClears, IsCutShortAt}
+use Rattle.auditor.specs.Walks.{AreReleases}
+use Rattle.auditor.proofs.Given.{Contains-get, get-Contains}
+use Rattle.auditor.proofs.Least.{IsWalked, is_found}
 use Rattle.auditor.proofs.Leases.{one_granted, none_granted}
 use Rattle.auditor.proofs.Tiling.{HaveHeld}
 
+-- ---- clear entries that name a release
+
+module _ (js : Journals) (skew : ℕ) (p : Piece) (r : Ref) where
+  pub discharged_by_naming : (indexes : List ℕ) (b : Bool) → ((k : ℕ) → Has indexes k ↔ NamesAt (λ k. k.release) p.clear r k)
+      → IsTrue b ↔ OneClears js skew p r indexes → IsTrue b ↔ Discharges js skew p r
+  discharged_by_naming indexes b naming one = (
+    λ t.
+        let o = one.0 t in
+        let n = (naming o.0).0 o.1 in
+        let same : n.0 ≡ o.2.0 = same_Some n.0 o.2.0 (sym n.1 ∙ o.2.1) in
+        (o.2.0, Contains-get p.clear o.0 o.2.0 o.2.1, (ap (λ (k : Clear). k.release) (sym same) ∙ n.2), o.2.2),
+    λ d.
+        let at = get-Contains p.clear d.0 d.1 in
+        one.1 (at.0, (naming at.0).1 (d.0, at.2, d.2), (d.0, at.2, d.3)),
+  )
+
+  pub cleared_at : (i : ℕ) (k : Clear) (b : Bool) → slice_get p.clear i ≡ Some k → IsTrue b ↔ IsCleared js skew r p.grant p.to k.why → IsTrue b ↔ ClearsAt js skew p r i
+  cleared_at i k b at d = (
+    λ t. (k, at, d.0 t),
+    λ h. d.1 (subst (λ (x : Clear). IsCleared js skew r p.grant p.to x.why) (same_Some h.0 k (sym h.1 ∙ at)) h.2),
+  )
+
+  pub no_entry : (i : ℕ) → slice_get p.clear i ≡ None → IsTrue false ↔ ClearsAt js skew p r i
+  no_entry i none = (λ t. absurd (cc), λ h. absurd (let x : None ≡ Some h.0 = sym none ∙ h.1 in cc))
+
 -- ---- the least line that gives a lease back
 
-module _ (js : Journals) (skew : ℕ) (p : Piece) (g : Delegation) (given : List Ref) (listed : IsListing js g.prefix given) (own : Overlaps g.prefix g.prefix) where
-  is_given : (r : Ref) → CutsLeaseShort js skew p g r → (k : ℕ) × (k < length given) × (slice_get given k ≡ Some r)
-  is_given r u = get-Contains given r (listed.all r u.0.0 u.0.1 (subst (Concerns g.prefix) (sym u.0.2) own))
-
-  pub least_cutting_found : (i : ℕ) (o : Option Ref) → length given ≤ i → IsLeastOf (CutsLeaseShort js skew p g) given i o
-      → MatchOption o ((r : Ref) → CutsLeaseShort js skew p g r → ⊥) (IsLeast (CutsLeaseShort js skew p g))
-  least_cutting_found i None le h = none_at_all (CutsLeaseShort js skew p g) given is_given i le h
-  least_cutting_found i (Some m) le h = least_of_all (CutsLeaseShort js skew p g) given is_given i m le h
+module _ (js : Journals) (skew : ℕ) (p : Piece) (d : Delegation) (given : List Ref) (releases : AreReleases js d given) where
+  pub cutting_found : (left : List Ref) → left ≡ [] → (o : Option Ref) → IsWalked (CutsLeaseShort js skew p d) given left o
+      → MatchOption o ((r : Ref) → CutsLeaseShort js skew p d r → ⊥) (IsLeast (CutsLeaseShort js skew p d))
+  cutting_found left none o w = is_found (CutsLeaseShort js skew p d) given (λ r u. releases.all r u.0) left none o w
 
 -- ---- one piece
 

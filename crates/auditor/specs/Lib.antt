@@ -1,7 +1,8 @@
 pub mod Bounds
 pub mod Closing
 pub mod Opened
-pub mod Overlaps
+pub mod Passing
 pub mod Refusals
 pub mod Pair
 pub mod Texts
+pub mod Walks

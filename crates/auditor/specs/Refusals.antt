@@ -1,5 +1,5 @@
 -- What each condition of a certificate answers.
-use Rattle.std.specs.Prelude.{◌≡◌, ◌≢◌, ℕ, ◌+◌, ◌≤◌, Option, Some, None, All, slice_get}
+use Rattle.std.specs.Prelude.{◌≡◌, ◌≢◌, ℕ, ◌+◌, ◌≤◌, List, Option, Some, None, All, slice_get, Contains as Has}
 use Rattle.prefix_range.specs.Prefix.{Overlaps}
 use Rattle.claims.specs.declared.reference.Ref.{Ref}
 use Rattle.causal_order.specs.Journals.{Journals}
@@ -25,9 +25,13 @@ IsUngranted js skew transit c n =
 abbrev pub AreDischarged : Journals → ℕ → Certificate → Type 0
 AreDischarged js skew c = All (IsDischarged js skew) c.pieces
 
--- this entry discharges the release from the piece
-abbrev pub DischargesBy : Journals → ℕ → Piece → Ref → Clear → Type 0
-DischargesBy js skew p r k = (k.release ≡ r) × IsCleared js skew r p.grant p.to k.why
+-- the clear entry at this index shows that the release doesn't cut the piece short
+abbrev pub ClearsAt : Journals → ℕ → Piece → Ref → ℕ → Type 0
+ClearsAt js skew p r i = (k : Clear) × (slice_get p.clear i ≡ Some k) × IsCleared js skew r p.grant p.to k.why
+
+-- the one at one of these indexes does
+abbrev pub OneClears : Journals → ℕ → Piece → Ref → List ℕ → Type 0
+OneClears js skew p r indexes = (i : ℕ) × Has indexes i × ClearsAt js skew p r i
 
 -- the release gives back this delegation, which the piece's grant gave, and no clear entry discharges it
 abbrev pub CutsLeaseShort : Journals → ℕ → Piece → Delegation → Ref → Type 0

@@ -7,44 +7,18 @@ ghost use Rattle.attribution.specs.FirstRefusal.{IsUncovered};
 ghost use Rattle.auditor.specs.Refusals.{IsOthers, AreReasoned, IsUnreasoned};
 
 use crate::grants::{delegation_at, reason_holds};
-use crate::order::{comes_first, is_before};
+use crate::order::comes_first;
 use crate::source::LineSource;
 use attribution::Delegation;
 use causal_order::{Lines, Ref};
 use claims::Certificate;
 use lead_time::{Skew, Transit};
 
-/// Whether the foreign entry at this index names the line.
-fn names_at(certificate: &Certificate, index: usize, at: Ref) -> bool
-    ensures { IsTrue result → IsNamed certificate.now at }
-{
-    certificate
-        .foreign
-        .as_slice()
-        .get(index)
-        .is_some_and(|entry| entry.grant == at)
-}
-
-/// Where the foreign entries stand in the order of their lines, the index of the first that doesn't come before
-/// this one.
-fn place_of(certificate: &Certificate, at: Ref) -> usize {
-    certificate
-        .foreign
-        .as_slice()
-        .partition_point(|entry| is_before(entry.grant, at))
-}
-
-/// Whether some foreign entry names the line. It is found by its place where the entries stand in the order of their
-/// lines, and else by looking through them.
+/// Whether some foreign entry names the line.
 fn is_named(certificate: &Certificate, at: Ref) -> bool
     ensures { IsTrue result ↔ IsNamed certificate.now at }
 {
-    names_at(certificate, place_of(certificate, at), at)
-        || certificate
-            .foreign
-            .as_slice()
-            .iter()
-            .any(|entry| entry.grant == at)
+    !certificate.foreign.naming(at).is_empty()
 }
 
 /// Whether the delegation is another client's, of a prefix that overlaps the one asked of.
@@ -72,9 +46,8 @@ pub fn least_uncovered<S: LineSource>(source: &S, certificate: &Certificate) -> 
         (IsLeast (IsUncovered (S.journals source.now) certificate.now)) }
 {
     let mut least: Option<Ref> = None;
-    let count = source.overlap_count(&certificate.prefix);
-    for index in 0..count {
-        let at = source.overlap_at(&certificate.prefix, index);
+    let mut walk = source.overlaps(&certificate.prefix);
+    while let Some(at) = source.next_overlap(&certificate.prefix, &mut walk) {
         if comes_first(at, least) && is_uncovered(source, certificate, at) {
             least = Some(at);
         }

@@ -3,6 +3,7 @@
 ghost use Rattle.std.specs.Prelude.{◌≡◌, ◌↔◌, ◌*◌, ◌^◌, ◌≤◌, IsTrue, pos, ◌+ℤ◌, ◌≤ℤ◌};
 ghost use Rattle.attribution.specs.Acceptance.{GivesBack, IsOutside, IsGranted, ReasonHolds};
 ghost use Rattle.attribution.specs.Acceptance.{IsNew};
+ghost use Rattle.journal_lines.specs.declared.event.Event.TheVariants.{Release};
 ghost use Rattle.attribution.specs.Tests.{lease_of, delegation_of};
 ghost use Rattle.auditor.specs.Bounds.{IsLatestAt, IsEarliestAt, LastsTo, HasEnded, IsWrittenBy, IsReachedBy};
 ghost use Rattle.auditor.specs.Bounds.{IsWrittenFrom, IsOver, IsLasting, IsHolders, IsDelegationOf, IsValidThroughout};
@@ -187,20 +188,27 @@ fn is_lasting<L: Lines>(
     }
 }
 
-/// Whether the line gives the delegation back: a release by its client, of its identity association and its prefix.
-pub fn gives_back<L: Lines>(lines: &L, at: Ref, delegation: &Delegation) -> bool
-    ensures { IsTrue result ↔ GivesBack (L.journals lines.now) at delegation.now }
+/// Whether the event gives the delegation back: a release by its client, of its identity association and its prefix.
+pub fn is_release_of(delegation: &Delegation, event: &Event) -> bool
+    ensures { IsTrue result ↔ (event.now ≡ Release delegation.now.client delegation.now.iaid delegation.now.prefix) }
 {
-    let Some(line) = lines.line(at) else {
-        return false;
-    };
-    match &line.event {
+    match event {
         Event::Release {
             client,
             iaid,
             prefix,
         } => is_delegation_of(delegation, client, *iaid, prefix),
         _ => false,
+    }
+}
+
+/// Whether the line gives the delegation back.
+pub fn gives_back<L: Lines>(lines: &L, at: Ref, delegation: &Delegation) -> bool
+    ensures { IsTrue result ↔ GivesBack (L.journals lines.now) at delegation.now }
+{
+    match lines.line(at) {
+        Some(line) => is_release_of(delegation, &line.event),
+        None => false,
     }
 }
 

@@ -5,7 +5,7 @@
 //! these journals. `reason_holds` is one foreign entry's reason, `check_pair` what two journals come to before any
 //! certificate: whether they keep the rules and can both be true. [`PlainSource`] is two journals, looked through at
 //! each question. specs/Pair is what refuses two journals, specs/Texts the verdict on texts, with that before the
-//! certificate's conditions; specs/Closing is what a source owes; specs/Bounds, Opened, Overlaps and Refusals are for
+//! certificate's conditions; specs/Closing is what a source owes; specs/Bounds, Opened, Passing and Refusals are for
 //! bodies only.
 //!
 //! ```text
@@ -24,9 +24,11 @@ mod order;
 mod pair;
 mod pieces;
 mod plain;
+mod question;
 mod releases;
 mod source;
 mod texts;
+mod walk;
 
 pub use auditing::audit;
 pub use error::AuditError;
@@ -36,3 +38,4 @@ pub use pair::{Checked, check_pair};
 pub use plain::PlainSource;
 pub use source::LineSource;
 pub use texts::{audit_bytes, audit_read};
+pub use walk::Walk;

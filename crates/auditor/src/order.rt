@@ -8,7 +8,7 @@ use binding_rules::Role;
 use causal_order::Ref;
 
 /// Whether the one line comes before the other: the primary's before the secondary's, and then by number.
-pub fn is_before(one: Ref, other: Ref) -> bool
+fn is_before(one: Ref, other: Ref) -> bool
     ensures { IsTrue result ↔ ComesBefore one other }
 {
     match (one.side, other.side) {

@@ -1,17 +1,20 @@
 //! Two journals as they were read.
 
-ghost use Rattle.std.specs.Prelude.{◌≡◌, ◌<◌, ◌≤◌, ◌^◌, length, slice_get, Some};
-ghost use Rattle.binding_rules.specs.declared.role.Role.{Role as RoleValue};
+ghost use Rattle.std.specs.Prelude.{◌≡◌, ◌+◌, ◌<◌, ◌^◌, [], ◌∷◌, length, drop, MatchOption};
 ghost use Rattle.journal_lines.specs.Head.{volume_number};
 ghost use Rattle.causal_order.specs.Journals.{journals_of, journal_of, volume_of, line_of};
 ghost use Rattle.journal_text.specs.Closed.{IsClosed};
 ghost use Rattle.auditor.specs.Closing.{ClosesAt};
-ghost use Rattle.auditor.specs.Overlaps.{concerns, overlaps_from, overlaps_of};
+ghost use Rattle.auditor.specs.Passing.{answers, passing_from, passing, left_of, returned_of};
+ghost use Rattle.auditor.specs.Walks.{Gives};
 
+use crate::question::{Question, answers};
 use crate::source::LineSource;
+use crate::walk::Walk;
+use attribution::Delegation;
 use binding_rules::Role;
 use causal_order::{Lines, Ref};
-use journal_lines::{Event, Journal, Line};
+use journal_lines::{Journal, Line};
 use lead_time::Reading;
 use prefix_range::Prefix;
 use std::marker::Model;
@@ -61,6 +64,24 @@ impl<'a> PlainSource<'a> {
     {
         self.journal_of(side).lines.as_slice()
     }
+
+    /// The next line of a walk over those that answer the question.
+    #[tactic(auto, using(crate::proofs::Given::first_given, crate::proofs::Given::second_given, crate::proofs::Given::none_given))]
+    fn next_line(&self, question: &Question, walk: &mut Walk) -> Option<Ref>
+        ensures { Gives result (passing (answers question.now) self.now walk.old.next walk.old.onward)
+            (passing (answers question.now) self.now walk.new.next walk.new.onward) }
+    {
+        let primary = self.lines_of(Role::Primary);
+        if let Some(at) = next_on(Role::Primary, primary, question, walk.next) {
+            walk.next = at.number as usize;
+            return Some(at);
+        }
+        walk.next = primary.len();
+        let secondary = self.lines_of(Role::Secondary);
+        let at = next_on(Role::Secondary, secondary, question, walk.onward)?;
+        walk.onward = at.number as usize;
+        Some(at)
+    }
 }
 
 impl Lines for PlainSource<'_> {
@@ -73,7 +94,9 @@ impl Lines for PlainSource<'_> {
 }
 
 impl LineSource for PlainSource<'_> {
-    ghost given = { overlaps_of };
+    ghost left = { left_of };
+
+    ghost returned = { returned_of };
 
     fn close_reading(&self, side: Role) -> Reading {
         let lines = self.lines_of(side);
@@ -84,66 +107,40 @@ impl LineSource for PlainSource<'_> {
         self.journal_of(side).head.volume()
     }
 
-    #[tactic(auto, using(crate::proofs::Given::given_length, crate::proofs::Given::given_is_listing))]
-    fn overlap_count(&self, prefix: &Prefix) -> usize {
-        count_in(self.lines_of(Role::Primary), prefix)
-            + count_in(self.lines_of(Role::Secondary), prefix)
+    fn overlaps(&self, _prefix: &Prefix) -> Walk {
+        Walk::START
     }
 
-    #[tactic(auto, using(crate::proofs::Given::given_length, crate::proofs::Given::given_first, crate::proofs::Given::given_second))]
-    fn overlap_at(&self, prefix: &Prefix, index: usize) -> Ref {
-        let primary = self.lines_of(Role::Primary);
-        let secondary = self.lines_of(Role::Secondary);
-        let before = count_in(primary, prefix);
-        if index < before {
-            nth_in(Role::Primary, primary, prefix, index)
-        } else {
-            nth_in(Role::Secondary, secondary, prefix, index - before)
-        }
+    fn next_overlap(&self, prefix: &Prefix, walk: &mut Walk) -> Option<Ref> {
+        self.next_line(&Question::Overlapping(*prefix), walk)
+    }
+
+    fn releases(&self, _delegation: &Delegation) -> Walk {
+        Walk::START
+    }
+
+    fn next_release(&self, delegation: &Delegation, walk: &mut Walk) -> Option<Ref> {
+        self.next_line(&Question::GivingBack(*delegation), walk)
     }
 }
 
-/// Whether the event grants or carries a prefix that overlaps this one, or gives one back.
-fn concerns(prefix: &Prefix, event: &Event) -> bool
-    ensures { result ≡ concerns prefix.now event.now }
-{
-    match event {
-        Event::Grant(lease) => lease.prefix.overlaps(prefix),
-        Event::Carry(carried) => carried.prefix.overlaps(prefix),
-        Event::Release { prefix: other, .. } => other.overlaps(prefix),
-        _ => false,
-    }
-}
-
-/// How many of the lines concern the prefix.
-fn count_in(lines: &[Line], prefix: &Prefix) -> usize
-    ensures count { (side : RoleValue) → result ≡ length (overlaps_from prefix.now side 1 lines.now) }
-    ensures few { result ≤ length lines.now }
-{
-    lines
-        .iter()
-        .filter(|line| concerns(prefix, &line.event))
-        .count()
-}
-
-/// The line of this side before which so many others concern the prefix.
-#[tactic(auto, using(crate::proofs::Given::ahead_found, crate::proofs::Given::ahead_passed, crate::proofs::Given::ahead_other))]
-fn nth_in(side: Role, lines: &[Line], prefix: &Prefix, index: usize) -> Ref
+/// The first line of this side, from the index on, that answers the question.
+#[tactic(auto, using(crate::proofs::Given::found_here, crate::proofs::Given::passed_by, crate::proofs::Given::none_behind))]
+fn next_on(side: Role, lines: &[Line], question: &Question, from: usize) -> Option<Ref>
     requires few { length lines.now < 2 ^ 32 }
-    requires within { index < length (overlaps_from prefix.now side 1 lines.now) }
-    ensures { slice_get (overlaps_from prefix.now side 1 lines.now) index ≡ Some result }
+    ensures { MatchOption result (passing_from (answers question.now) side (from + 1) (drop from lines.now) ≡ [])
+        (λ r. passing_from (answers question.now) side (from + 1) (drop from lines.now)
+        ≡ r ∷ passing_from (answers question.now) side (r.number + 1) (drop r.number lines.now)) }
 {
-    let mut left = index;
-    for (i, line) in lines.iter().enumerate() {
-        if concerns(prefix, &line.event) {
-            if left == 0 {
-                return Ref {
-                    side,
-                    number: i as u32 + 1,
-                };
-            }
-            left -= 1;
+    let mut index = from;
+    while index < lines.len() {
+        if answers(question, &lines[index].event) {
+            return Some(Ref {
+                side,
+                number: index as u32 + 1,
+            });
         }
+        index += 1;
     }
-    unreachable!()
+    None
 }

@@ -1,21 +1,19 @@
 //! Whether a release cuts a piece short.
 
 ghost use Rattle.std.specs.Prelude.{◌↔◌, IsTrue, MatchOption};
-ghost use Rattle.prefix_range.specs.Prefix.{Overlaps};
 ghost use Rattle.claims.specs.declared.reference.Ref.{Ref as RefValue};
-ghost use Rattle.attribution.specs.Acceptance.{GivesBack, IsCleared, Discharges, IsDischarged};
+ghost use Rattle.attribution.specs.Acceptance.{IsCleared, Discharges, IsDischarged};
 ghost use Rattle.causal_order.specs.LineOrder.{IsLeast};
 ghost use Rattle.attribution.specs.FirstRefusal.{CutsShort};
-ghost use Rattle.auditor.specs.Refusals.{AreDischarged, CutsLeaseShort, DischargesBy, IsCutShortAt};
+ghost use Rattle.auditor.specs.Refusals.{AreDischarged, CutsLeaseShort, ClearsAt, OneClears, IsCutShortAt};
 
-use crate::grants::{gives_back, is_written_from, lease_at};
+use crate::grants::{is_written_from, lease_at};
 use crate::order::comes_first;
 use crate::source::LineSource;
 use attribution::Delegation;
 use causal_order::{Lines, Ref, precedes};
-use claims::{Certificate, Clear, Piece, Why};
+use claims::{Certificate, Piece, Why};
 use lead_time::Skew;
-use prefix_range::Prefix;
 
 /// Whether the release is shown to have come before the piece's grant, or not before its end.
 fn is_cleared<L: Lines>(lines: &L, piece: &Piece, release: Ref, why: &Why, skew: Skew) -> bool
@@ -27,44 +25,35 @@ fn is_cleared<L: Lines>(lines: &L, piece: &Piece, release: Ref, why: &Why, skew:
     }
 }
 
-/// Whether the clear entry discharges the release from the piece.
-fn is_discharged_by<L: Lines>(
+/// Whether the clear entry at this index shows that the release doesn't cut the piece short.
+#[tactic(auto, using(crate::proofs::ShortCuts::cleared_at, crate::proofs::ShortCuts::no_entry))]
+fn clears<L: Lines>(lines: &L, piece: &Piece, index: u32, release: Ref, skew: Skew) -> bool
+    ensures { IsTrue result ↔ ClearsAt (L.journals lines.now) skew piece.now release index }
+{
+    match piece.clear.as_slice().get(index as usize) {
+        Some(clear) => is_cleared(lines, piece, release, &clear.why, skew),
+        None => false,
+    }
+}
+
+/// Whether the clear entry at one of these indexes does.
+fn one_clears<L: Lines>(
     lines: &L,
     piece: &Piece,
-    clear: &Clear,
+    indexes: &[u32],
     release: Ref,
     skew: Skew,
 ) -> bool
-    ensures { IsTrue result ↔ DischargesBy (L.journals lines.now) skew piece.now release clear.now }
+    ensures { IsTrue result ↔ OneClears (L.journals lines.now) skew piece.now release indexes.now }
 {
-    clear.release == release && is_cleared(lines, piece, release, &clear.why, skew)
+    indexes.iter().any(|index| clears(lines, piece, *index, release, skew))
 }
 
 /// Whether some clear entry of the piece discharges the release.
 fn is_discharged<L: Lines>(lines: &L, piece: &Piece, release: Ref, skew: Skew) -> bool
     ensures { IsTrue result ↔ Discharges (L.journals lines.now) skew piece.now release }
 {
-    piece.clear.as_slice().iter().any(|clear| is_discharged_by(lines, piece, clear, release, skew))
-}
-
-/// Whether the line gives the delegation back, and no clear entry of the piece discharges it.
-fn cuts_short<L: Lines>(
-    lines: &L,
-    piece: &Piece,
-    delegation: &Delegation,
-    at: Ref,
-    skew: Skew,
-) -> bool
-    ensures { IsTrue result ↔ CutsLeaseShort (L.journals lines.now) skew piece.now delegation.now at }
-{
-    gives_back(lines, at, delegation) && !is_discharged(lines, piece, at, skew)
-}
-
-/// Every prefix has an address, and so overlaps itself.
-fn overlaps_itself(prefix: &Prefix)
-    ensures { Overlaps prefix.now prefix.now }
-{
-    let _ = prefix.first();
+    one_clears(lines, piece, piece.clear.naming(release), release, skew)
 }
 
 /// The least line that gives back what the piece's grant gave and that no clear entry discharges.
@@ -78,12 +67,10 @@ fn least_cutting<S: LineSource>(
         ((r : RefValue) → CutsLeaseShort (S.journals source.now) skew piece.now delegation.now r → ⊥)
         (IsLeast (CutsLeaseShort (S.journals source.now) skew piece.now delegation.now)) }
 {
-    overlaps_itself(&delegation.prefix);
     let mut least: Option<Ref> = None;
-    let count = source.overlap_count(&delegation.prefix);
-    for index in 0..count {
-        let at = source.overlap_at(&delegation.prefix, index);
-        if comes_first(at, least) && cuts_short(source, piece, delegation, at, skew) {
+    let mut walk = source.releases(delegation);
+    while let Some(at) = source.next_release(delegation, &mut walk) {
+        if comes_first(at, least) && !is_discharged(source, piece, at, skew) {
             least = Some(at);
         }
     }

@@ -1,21 +1,29 @@
 //! Where an auditor finds the lines that it needs.
 
-ghost use Rattle.std.specs.Prelude.{◌≡◌, ◌<◌, List, length, slice_get};
+ghost use Rattle.std.specs.Prelude.{◌≡◌, List};
 ghost use Rattle.prefix_range.specs.Prefix.{Prefix as PrefixValue};
 ghost use Rattle.claims.specs.declared.reference.Ref.{Ref as RefValue};
 ghost use Rattle.causal_order.specs.Journals.{journal_of, volume_of};
+ghost use Rattle.attribution.specs.declared.delegation.Delegation.{Delegation as DelegationValue};
 ghost use Rattle.attribution.specs.Listing.{IsListing};
+ghost use Rattle.auditor.specs.declared.walk.Walk.{Walk as WalkValue};
 ghost use Rattle.auditor.specs.Closing.{ClosesAt};
+ghost use Rattle.auditor.specs.Walks.{Gives, AreReleases};
 
+use crate::walk::Walk;
+use attribution::Delegation;
 use binding_rules::Role;
 use causal_order::{Lines, Ref};
 use lead_time::Reading;
 use prefix_range::Prefix;
 
-/// Two closed journals, whose lines can be asked for by number and by prefix.
+/// Two closed journals, whose lines can be asked for by number, by prefix and by delegation.
 pub trait LineSource: Lines {
-    /// The lines that it gives for a prefix, in the order in which it gives them.
-    ghost given: { Self → PrefixValue → List RefValue };
+    /// What a walk over the lines that concern a prefix has yet to give.
+    ghost left: { Self → PrefixValue → WalkValue → List RefValue };
+
+    /// What a walk over the releases of a delegation has yet to give.
+    ghost returned: { Self → DelegationValue → WalkValue → List RefValue };
 
     /// What the clock showed when the side's journal was closed.
     fn close_reading(&self, side: Role) -> Reading
@@ -25,14 +33,23 @@ pub trait LineSource: Lines {
     fn volume(&self, side: Role) -> u32
         ensures { result ≡ volume_of (Self.journals self.now) side };
 
-    /// How many lines concern the prefix: grants, carry lines and releases of prefixes that overlap it.
-    fn overlap_count(&self, prefix: &Prefix) -> usize
-        ensures count { result ≡ length (given self.now prefix.now) }
+    /// A walk over the lines that concern the prefix: grants, carry lines and releases of prefixes that overlap it.
+    fn overlaps(&self, prefix: &Prefix) -> Walk
         // Exactly the lines of both journals that concern the prefix, each once.
-        ensures exact { IsListing (Self.journals self.now) prefix.now (given self.now prefix.now) };
+        ensures exact { IsListing (Self.journals self.now) prefix.now (left self.now prefix.now result) };
 
-    /// One of the lines that concern the prefix.
-    fn overlap_at(&self, prefix: &Prefix, index: usize) -> Ref
-        requires { index < length (given self.now prefix.now) }
-        ensures { slice_get (given self.now prefix.now) index ≡ Some result };
+    /// The next line of that walk.
+    fn next_overlap(&self, prefix: &Prefix, walk: &mut Walk) -> Option<Ref>
+        ensures { Gives result (left self.now prefix.now walk.old) (left self.now prefix.now walk.new) };
+
+    /// A walk over the releases that give the delegation back.
+    fn releases(&self, delegation: &Delegation) -> Walk
+        // Exactly the lines of both journals that do.
+        ensures exact { AreReleases (Self.journals self.now) delegation.now
+            (returned self.now delegation.now result) };
+
+    /// The next line of that walk.
+    fn next_release(&self, delegation: &Delegation, walk: &mut Walk) -> Option<Ref>
+        ensures { Gives result (returned self.now delegation.now walk.old)
+            (returned self.now delegation.now walk.new) };
 }

@@ -22,7 +22,7 @@ pub struct Draft {
     from: Reading,
     to: Reading,
     pieces: Vec<Piece>,
-    foreign: Vec<Foreign>,
+    foreign: ForeignList,
 }
 
 impl Model for Draft {
@@ -36,7 +36,7 @@ impl Model for Draft {
       from = d.from;
       to = d.to;
       pieces = d.pieces.items;
-      foreign = d.foreign.items;
+      foreign = d.foreign;
     } };
 }
 
@@ -51,7 +51,7 @@ impl Draft {
             from,
             to,
             pieces: Vec::new(alloc),
-            foreign: Vec::new(alloc),
+            foreign: ForeignList::new(alloc),
         }
     }
 
@@ -59,7 +59,7 @@ impl Draft {
     pub fn takes_pieces(&self) -> bool
         ensures { IsTrue result ↔ (self.now.foreign ≡ []) }
     {
-        self.foreign.is_empty()
+        self.foreign.as_slice().is_empty()
     }
 
     /// Appends a piece.
@@ -100,7 +100,7 @@ impl Draft {
             from: self.from,
             to: self.to,
             pieces: PieceList::new(self.pieces),
-            foreign: ForeignList::new(self.foreign),
+            foreign: self.foreign,
         }
     }
 }

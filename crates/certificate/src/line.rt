@@ -77,7 +77,7 @@ fn piece(alloc: Global, mut words: Words<'_>) -> Result<Piece, LineError>
         to,
         latest,
         earliest,
-        clear: ClearList::new(Vec::new(alloc)),
+        clear: ClearList::new(alloc),
     })
 }
 

@@ -1,5 +1,6 @@
 //! What a certificate says.
 
+use crate::by_line::NamesLine;
 use crate::entries::{Chain, ClearList, ForeignList, PieceList};
 use crate::order::Precedes;
 use crate::reference::Ref;
@@ -39,6 +40,14 @@ pub struct Clear {
     pub why: Why,
 }
 
+impl NamesLine for Clear {
+    ghost named = { λ c. c.release };
+
+    fn line(&self) -> Ref {
+        self.release
+    }
+}
+
 /// Why a release does not cut a piece short.
 #[derive(Debug, Drop)]
 pub enum Why {
@@ -53,6 +62,14 @@ pub enum Why {
 pub struct Foreign {
     pub grant: Ref,
     pub reason: Reason,
+}
+
+impl NamesLine for Foreign {
+    ghost named = { λ f. f.grant };
+
+    fn line(&self) -> Ref {
+        self.grant
+    }
 }
 
 /// Why another client's grant does not touch the interval.

@@ -1,5 +1,6 @@
 //! The lists in certificates.
 
+use crate::by_line::ByLine;
 use crate::certificate::{Clear, Foreign, Piece};
 use crate::reference::Ref;
 use lists::Listed;
@@ -8,10 +9,10 @@ use lists::Listed;
 pub type Chain = Listed<Ref>;
 
 /// Entries that clear releases, in the order in which they are written.
-pub type ClearList = Listed<Clear>;
+pub type ClearList = ByLine<Clear>;
 
 /// Pieces, in the order of their moments.
 pub type PieceList = Listed<Piece>;
 
 /// Other clients' grants, in the order in which they are written.
-pub type ForeignList = Listed<Foreign>;
+pub type ForeignList = ByLine<Foreign>;

@@ -1,17 +1,17 @@
-use Rattle.std.proofs.Common.{rules, arith}
-use Rattle.auditor.proofs.Least.{least_kept, least_more}
-use Rattle.auditor.proofs.Others.{least_found}
+use Rattle.std.proofs.Common.{rules}
+use Rattle.auditor.proofs.Least.{one_kept, one_more}
+use Rattle.auditor.proofs.Others.{uncovered_found}
 use Rattle.auditor.proofs.foreign.least_uncovered.Goals as goal
-use Rattle.auditor.proofs.foreign.least_uncovered.Goals.{then-comes_first+then-is_uncovered, else-comes_first, else-comes_first-via-then-comes_first+else-is_uncovered, else-comes_first-via-else-comes_first}
+use Rattle.auditor.proofs.foreign.least_uncovered.Goals.{else-comes_first-via-then-comes_first+else-is_uncovered, else-comes_first-via-else-comes_first}
 
-pub loop-index-preserved : goal.loop-index-preserved
-loop-index-preserved g c = elim c.if-comes_first.branch [
-  | then-comes_first+then-is_uncovered w ↦ rw w.least-is (least_more _ _ _ _ _ c.overlap_at-at.ensures (search rules) (search rules) c.loop-index.invariant)
-  | else-comes_first w ↦ rw w.least-is (least_kept _ _ _ _ _ c.overlap_at-at.ensures (elim w.else-comes_first.branch [
-    | else-comes_first-via-then-comes_first+else-is_uncovered v ↦ λ first holds. (let t = v.is_uncovered.ensures.1 holds in absurd (cc))
-    | else-comes_first-via-else-comes_first v ↦ λ first holds. (let t = c.comes_first.ensures.1 first in absurd (cc))
-  ]) c.loop-index.invariant)
-]
+pub loop-at-preserved-then-is_uncovered : goal.loop-at-preserved-then-is_uncovered
+loop-at-preserved-then-is_uncovered g c = one_more _ _ _ _ _ _ c.in-Some.ensures (search rules) (search rules) c.loop-at.invariant
+
+pub loop-at-preserved : goal.loop-at-preserved
+loop-at-preserved g c = one_kept _ _ _ _ _ _ c.in-Some.ensures (elim c.else-comes_first.branch [
+  | else-comes_first-via-then-comes_first+else-is_uncovered w ↦ λ first holds. (let t = w.is_uncovered.ensures.1 holds in absurd (cc))
+  | else-comes_first-via-else-comes_first w ↦ λ first holds. (let t = c.comes_first.ensures.1 first in absurd (cc))
+]) c.loop-at.invariant
 
 pub returns : goal.returns
-returns g c = least_found _ c.args.certificate.now _ c.overlap_count-count.ensures.exact _ c.loop-index.least (omega arith) c.loop-index.invariant
+returns g c = uncovered_found _ c.args.certificate.now _ c.overlaps-walk.ensures.exact _ c.in_default.ensures c.loop-at.least c.loop-at.invariant

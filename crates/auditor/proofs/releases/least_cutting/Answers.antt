@@ -1,17 +1,19 @@
-use Rattle.std.proofs.Common.{rules, arith}
-use Rattle.auditor.proofs.Least.{least_kept, least_more}
-use Rattle.auditor.proofs.ShortCuts.{least_cutting_found}
+use Rattle.std.proofs.Common.{rules}
+use Rattle.auditor.proofs.Least.{one_kept, one_more, next_given}
+use Rattle.auditor.proofs.ShortCuts.{cutting_found}
 use Rattle.auditor.proofs.releases.least_cutting.Goals as goal
-use Rattle.auditor.proofs.releases.least_cutting.Goals.{then-comes_first+then-cuts_short, else-comes_first, else-comes_first-via-then-comes_first+else-cuts_short, else-comes_first-via-else-comes_first}
+use Rattle.auditor.proofs.releases.least_cutting.Goals.{else-comes_first-via-then-comes_first+else-not-is_discharged, else-comes_first-via-else-comes_first}
 
-pub loop-index-preserved : goal.loop-index-preserved
-loop-index-preserved g c = elim c.if-comes_first.branch [
-  | then-comes_first+then-cuts_short w ↦ rw w.least-is (least_more _ _ _ _ _ c.overlap_at-at.ensures (search rules) (search rules) c.loop-index.invariant)
-  | else-comes_first w ↦ rw w.least-is (least_kept _ _ _ _ _ c.overlap_at-at.ensures (elim w.else-comes_first.branch [
-    | else-comes_first-via-then-comes_first+else-cuts_short v ↦ λ first holds. (let t = v.cuts_short.ensures.1 holds in absurd (cc))
-    | else-comes_first-via-else-comes_first v ↦ λ first holds. (let t = c.comes_first.ensures.1 first in absurd (cc))
-  ]) c.loop-index.invariant)
-]
+pub loop-at-preserved-then-not-is_discharged : goal.loop-at-preserved-then-not-is_discharged
+loop-at-preserved-then-not-is_discharged g c =
+    let back = c.releases-walk.ensures.exact.only c.in-Some.at (next_given _ _ _ _ _ _ c.in-Some.ensures c.loop-at.invariant) in
+    one_more _ _ _ _ _ _ c.in-Some.ensures (back, λ d. (let t = c.is_discharged.ensures.1 d in absurd (search rules))) (search rules) c.loop-at.invariant
+
+pub loop-at-preserved : goal.loop-at-preserved
+loop-at-preserved g c = one_kept _ _ _ _ _ _ c.in-Some.ensures (elim c.else-comes_first.branch [
+  | else-comes_first-via-then-comes_first+else-not-is_discharged w ↦ λ first cuts. cuts.1 (w.is_discharged.ensures.0 (search rules))
+  | else-comes_first-via-else-comes_first w ↦ λ first cuts. (let t = c.comes_first.ensures.1 first in absurd (cc))
+]) c.loop-at.invariant
 
 pub returns : goal.returns
-returns g c = least_cutting_found _ c.args.skew c.args.piece.now c.args.delegation.now _ c.overlap_count-count.ensures.exact c.overlaps_itself.ensures _ c.loop-index.least (omega arith) c.loop-index.invariant
+returns g c = cutting_found _ c.args.skew c.args.piece.now c.args.delegation.now _ c.releases-walk.ensures.exact _ c.in_default.ensures c.loop-at.least c.loop-at.invariant

@@ -1,7 +1,7 @@
 use Rattle.std.proofs.Common.{sym, ◌∙◌, ap}
-use Rattle.auditor.specs.Overlaps.{concerns}
+use Rattle.auditor.specs.Passing.{concerns}
 use Rattle.auditor.proofs.Given.{overlap_tested}
-use Rattle.auditor.proofs.plain.concerns.Goals as goal
+use Rattle.auditor.proofs.question.concerns.Goals as goal
 
 pub returns-in-Grant : goal.returns-in-Grant
 returns-in-Grant c = overlap_tested _ _ _ c.overlaps.ensures ∙ ap (concerns c.args.prefix.now) (sym c.in-Grant.is)
