@@ -1,0 +1,2 @@
+pub mod UnitWorld
+pub mod UnitSafe

@@ -1,0 +1,14 @@
+//! The pair of servers as one world, and the proof that no address is ever held by two clients.
+//!
+//! The laws stand in `laws`: each is a call without a body, whose contract is the law. specs/UnitWorld is a world of
+//! one unit (what the two servers know of it, what each ever sent, who was granted it when), and specs/UnitSafe says
+//! what every such world keeps, whatever is lost, repeated, reordered, stopped, restarted or taken over.
+//!
+//! ```text
+//! one_holder_ever(); // no two bindings ever have one unit
+//! ```
+#![tactic(auto)]
+
+mod laws;
+
+pub use laws::{one_holder_ever, partner_down_laws};
