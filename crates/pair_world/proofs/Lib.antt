@@ -20,3 +20,14 @@ pub mod Kept
 pub mod KeptA
 pub mod KeptB
 pub mod Safety
+pub mod Books
+pub mod BookSteps
+pub mod Pairs
+pub mod Lists
+pub mod Traces
+pub mod Openings
+pub mod Shapes
+pub mod Worlds
+pub mod Units
+pub mod Valid
+pub mod Results

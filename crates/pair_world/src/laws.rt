@@ -1,6 +1,7 @@
 //! Pair safety, over the definitions in specs/ alone.
 
 ghost use Rattle.pair_world.specs.UnitSafe.{OneHolder, PartnerDownLaws};
+ghost use Rattle.pair_world.specs.PairSafe.{WorldIsRun, AddressSafe, LeaseSafe, PartnerStandsBack, AckWasTold, EndsInTime};
 
 /// In a world of one unit: whatever the two servers, the clocks and the link do, no two bindings have the unit at one
 /// moment.
@@ -12,4 +13,17 @@ pub fn one_holder_ever()
 /// waits unanswered; what the partner has acknowledged was told; and its grants end in time.
 pub fn partner_down_laws()
     ensures { PartnerDownLaws }
+{}
+
+/// What happened in a world is a run of the pair, with all clocks within the skew, and its journals are the lines of the
+/// two servers.
+pub fn world_is_run()
+    ensures { WorldIsRun }
+{}
+
+/// Pair safety: after any list of events no address is held by two clients at any moment, nor by two identity
+/// associations of one client.
+pub fn address_safe()
+    ensures clients { AddressSafe }
+    ensures bindings { LeaseSafe }
 {}

@@ -9,6 +9,10 @@
 //! ```
 #![tactic(auto)]
 
+mod error;
+mod event;
 mod laws;
 
-pub use laws::{one_holder_ever, partner_down_laws};
+pub use error::WorldError;
+pub use event::Event;
+pub use laws::{address_safe, one_holder_ever, partner_down_laws, world_is_run};

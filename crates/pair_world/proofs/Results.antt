@@ -1,0 +1,87 @@
+-- Pair safety of worlds, from what is good of each.
+use Rattle.std.specs.Prelude.{◌≡◌, ◌≢◌, ◌+◌, ◌*◌, ◌<◌, [], true, ℕ}
+use Rattle.std.proofs.Common.{◌∙◌, ap, arith, inl, inr, refl, subst, sym}
+use Rattle.std.proofs.lemmas.Bool.{cases_lt}
+use Rattle.prefix_range.specs.Prefix.{HasAddress, IsPrefix, Prefix}
+use Rattle.binding_rules.specs.declared.unit.Binding.{Binding}
+use Rattle.binding_rules.specs.declared.role.Role.TheVariants.{Primary, Secondary}
+use Rattle.binding_rules.specs.declared.role.Role.{Role}
+use Rattle.journal_lines.specs.declared.event.Lease.{Lease}
+use Rattle.book_rules.specs.Book.{Book, is_unit}
+use Rattle.server_book.specs.Settings.{ServerSettings}
+use Rattle.attribution.specs.Run.{IsValidAt, StartInTime, lines_of}
+use Rattle.pair_world.specs.PairSafe.{AddressSafe, LeaseSafe, MayOpen, StandsBack, WorldIsRun}
+use Rattle.pair_world.specs.UnitSafe.{HasUnit}
+use Rattle.pair_world.specs.UnitWorld.{IsAlone}
+use Rattle.pair_world.specs.PairWorld.{PairWorld, book, journal}
+use Rattle.pair_world.proofs.Worlds.{Good, book_is, good}
+use Rattle.pair_world.proofs.Traces.{book_in, is_run}
+use Rattle.pair_world.proofs.Phases.{by_word}
+use Rattle.pair_world.proofs.Books.{holder_of, sent_contact, server_of}
+use Rattle.pair_world.proofs.EndsSteps.{later}
+use Rattle.pair_world.proofs.Lists.{log_of, message_in, messages}
+use Rattle.pair_world.proofs.Units.{one_unit}
+use Rattle.pair_world.proofs.Valid.{valid_holds}
+
+lines_of_journal : (s : ServerSettings) (w : PairWorld) → Good s w → (side : Role) → (journal side w).lines ≡ lines_of side w.run
+lines_of_journal s w g Primary = g.journal_a.lines
+lines_of_journal s w g Secondary = g.journal_b.lines
+
+pub world_is_run : WorldIsRun
+world_is_run s t w c =
+    let g = good s t w c in
+    let r = is_run s.skew w.moment w.run g.trace in
+    record { run = r.0; skew = r.1; lines = lines_of_journal s w g }
+
+-- a valid delegation is held in the log of its prefix
+holds : (s : ServerSettings) (w : PairWorld) → Good s w → (starts : ℕ → ℕ) → StartInTime s.transit w.run starts → (i : ℕ) (g : Lease) (m : ℕ) → IsValidAt w.run starts i g m
+    → HasUnit s.transit (log_of g.prefix w.run []) (holder_of g.client g.iaid) m
+holds s w is starts are i g m v =
+    let begins = are i v.step g v.here v.grants in
+    let short = (is.gifts i v.step g v.here v.grants).0 in
+    let begun = v.begun in
+    let lasts : m < starts i + 1000 * g.valid = by_word v.lasts (λ endless. absurd (omega arith)) (λ lt. lt) in
+    valid_holds s.transit m g.prefix g w.run i v.step v.here v.grants refl (omega arith) (omega arith)
+    (λ j t lt at r. by_word (cases_lt m t.moment) (λ later. later) (λ le. absurd (v.kept (j, t, lt, at, r, le))))
+
+-- two units that share an address are one
+shared : (moment : ℕ) (s t : ServerSettings) → MayOpen moment s t → (p o : Prefix) (address : ℕ) → is_unit s.pools p ≡ true → is_unit s.pools o ≡ true → IsPrefix p → IsPrefix o → HasAddress p address → HasAddress o address → p ≡ o
+shared moment s t opens p o address = one_unit s.pools p o address opens.first_fits.within.each opens.first_fits.disjoint
+
+-- two delegations of one unit at one moment are one binding's, whenever they started
+one_binding : (s : ServerSettings) (w : PairWorld) → Good s w → (starts others : ℕ → ℕ) → StartInTime s.transit w.run starts → StartInTime s.transit w.run others → (i j : ℕ) (g h : Lease) (m : ℕ)
+    → IsValidAt w.run starts i g m → IsValidAt w.run others j h m → h.prefix ≡ g.prefix → holder_of g.client g.iaid ≡ holder_of h.client h.iaid
+one_binding s w is starts others are are' i j g h m v v' same =
+    let x = holds s w is starts are i g m v in
+    let y = subst (λ z. HasUnit s.transit (log_of z w.run []) (holder_of h.client h.iaid) m) same (holds s w is others are' j h m v') in
+    let unit = (is.gifts i v.step g v.here v.grants).2 in
+    (is.known g.prefix unit).alone m (holder_of g.client g.iaid) (holder_of h.client h.iaid) x y
+
+pub lease_safe : LeaseSafe
+lease_safe s t w c starts others are are' i j g h address m v v' has has' =
+    let is = good s t w c in
+    let x = is.gifts i v.step g v.here v.grants in
+    let y = is.gifts j v'.step h v'.here v'.grants in
+    let one = one_binding s w is starts others are are' i j g h m v v' (shared c.moment s t c.opens h.prefix g.prefix address y.2 x.2 y.1 x.1 has' has) in
+    (ap (λ (b : Binding). b.client) one, ap (λ (b : Binding). b.iaid) one)
+
+pub address_safe : AddressSafe
+address_safe s t w c starts others are are' address m j k (i, g, v, of_j, has) (i', h, v', of_k, has') =
+    (sym of_j ∙ (lease_safe s t w c starts others are are' i i' g h address m v v' has has').0) ∙ of_k
+
+-- The laws of a server whose partner is down.
+law_a : (s : ServerSettings) (w : PairWorld) → Good s w → (p : Prefix) → is_unit s.pools p ≡ true → IsAlone (server_of p (book_in Primary w.run) (messages Primary w.run []) w.stopped_a) → StandsBack w Secondary
+law_a s w is p unit off =
+    let same : book Secondary w ≡ book_in Secondary w.run = book_is Secondary w.run w.b is.journal_b in
+    by_word ((is.known p unit).kept.servers.there.law off) (λ st. inl st)
+    (λ waits. inr (ap (λ (b : Book). b.waiting) same ∙ waits.0, λ m ask answer sent body.
+    subst (λ (b : Book). answer ≢ b.restart) (sym same)
+    (waits.1 (record { ask = ask; answer = answer }) (sent_contact (messages Primary w.run []) m ask answer (message_in Primary w.run w.a.lines sent.0 m is.journal_a.lines sent.1) body))))
+
+law_b : (s : ServerSettings) (w : PairWorld) → Good s w → (p : Prefix) → is_unit s.pools p ≡ true → IsAlone (server_of p (book_in Secondary w.run) (messages Secondary w.run []) w.stopped_b) → StandsBack w Primary
+law_b s w is p unit off =
+    let same : book Primary w ≡ book_in Primary w.run = book_is Primary w.run w.a is.journal_a in
+    by_word ((is.known p unit).kept.servers.back.law off) (λ st. inl st)
+    (λ waits. inr (ap (λ (b : Book). b.waiting) same ∙ waits.0, λ m ask answer sent body.
+    subst (λ (b : Book). answer ≢ b.restart) (sym same)
+    (waits.1 (record { ask = ask; answer = answer }) (sent_contact (messages Secondary w.run []) m ask answer (message_in Secondary w.run w.b.lines sent.0 m is.journal_b.lines sent.1) body))))
