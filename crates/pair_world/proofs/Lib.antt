@@ -31,3 +31,4 @@ pub mod Worlds
 pub mod Units
 pub mod Valid
 pub mod Results
+pub mod DownLaws

@@ -68,20 +68,3 @@ lease_safe s t w c starts others are are' i j g h address m v v' has has' =
 pub address_safe : AddressSafe
 address_safe s t w c starts others are are' address m j k (i, g, v, of_j, has) (i', h, v', of_k, has') =
     (sym of_j ∙ (lease_safe s t w c starts others are are' i i' g h address m v v' has has').0) ∙ of_k
-
--- The laws of a server whose partner is down.
-law_a : (s : ServerSettings) (w : PairWorld) → Good s w → (p : Prefix) → is_unit s.pools p ≡ true → IsAlone (server_of p (book_in Primary w.run) (messages Primary w.run []) w.stopped_a) → StandsBack w Secondary
-law_a s w is p unit off =
-    let same : book Secondary w ≡ book_in Secondary w.run = book_is Secondary w.run w.b is.journal_b in
-    by_word ((is.known p unit).kept.servers.there.law off) (λ st. inl st)
-    (λ waits. inr (ap (λ (b : Book). b.waiting) same ∙ waits.0, λ m ask answer sent body.
-    subst (λ (b : Book). answer ≢ b.restart) (sym same)
-    (waits.1 (record { ask = ask; answer = answer }) (sent_contact (messages Primary w.run []) m ask answer (message_in Primary w.run w.a.lines sent.0 m is.journal_a.lines sent.1) body))))
-
-law_b : (s : ServerSettings) (w : PairWorld) → Good s w → (p : Prefix) → is_unit s.pools p ≡ true → IsAlone (server_of p (book_in Secondary w.run) (messages Secondary w.run []) w.stopped_b) → StandsBack w Primary
-law_b s w is p unit off =
-    let same : book Primary w ≡ book_in Primary w.run = book_is Primary w.run w.a is.journal_a in
-    by_word ((is.known p unit).kept.servers.back.law off) (λ st. inl st)
-    (λ waits. inr (ap (λ (b : Book). b.waiting) same ∙ waits.0, λ m ask answer sent body.
-    subst (λ (b : Book). answer ≢ b.restart) (sym same)
-    (waits.1 (record { ask = ask; answer = answer }) (sent_contact (messages Secondary w.run []) m ask answer (message_in Secondary w.run w.b.lines sent.0 m is.journal_b.lines sent.1) body))))

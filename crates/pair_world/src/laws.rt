@@ -27,3 +27,11 @@ pub fn address_safe()
     ensures clients { AddressSafe }
     ensures bindings { LeaseSafe }
 {}
+
+/// While a server takes its partner for down, or has a unit marked: the partner is stopped, or it waits and nothing that
+/// was sent so far answers it; the ends that it has acknowledged were told here; and its delegations end in time.
+pub fn partner_stands_back()
+    ensures waits { PartnerStandsBack }
+    ensures told { AckWasTold }
+    ensures ends { EndsInTime }
+{}

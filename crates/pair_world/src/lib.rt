@@ -15,4 +15,6 @@ mod laws;
 
 pub use error::WorldError;
 pub use event::Event;
-pub use laws::{address_safe, one_holder_ever, partner_down_laws, world_is_run};
+pub use laws::{
+    address_safe, one_holder_ever, partner_down_laws, partner_stands_back, world_is_run,
+};
