@@ -73,6 +73,7 @@ book_is side run j is =
     ∙ ap (book_after (blank side 1)) is.lines
 
 pub record Good (s : ServerSettings) (w : PairWorld) : Type 0 where
+  pub skew_is : w.skew ≡ s.skew
   pub trace : Trace s.skew w.moment w.run
   pub journal_a : IsJournalIn Primary w.run w.a
   pub journal_b : IsJournalIn Secondary w.run w.b
@@ -141,7 +142,7 @@ module _ (s : ServerSettings) (w : PairWorld) (good : Good s w) where
       → Good s (with_stop Primary false (written Primary w l))
   line_good_a clock order l reply (near, answer) writes fed down =
       let t : Step = record { side = Primary; moment = w.moment; line = l } in
-      let skew : (state_of w.a).skew ≡ s.skew = ap (λ (b : Book). b.skew) (book_is Primary w.run w.a good.journal_a) ∙ good.settled.of_a.agrees.skew_is in
+      let skew = good.skew_is in
       let sh = shape w.b.lines w.stopped_b (state_of w.a) l.reading order l.event answer.line.named fed down in
       let last = good.trace.read Primary in
       let same_reading = ap (λ (b : Book). b.reading) book_a in
@@ -155,6 +156,7 @@ module _ (s : ServerSettings) (w : PairWorld) (good : Good s w) where
       let sent : (m : PartnerMessage) → l.event ≡ Take m → IsIn (messages Secondary w.run []) m =
       λ m e. let n = sh.fed m e in message_in Secondary w.run w.b.lines n.0 m good.journal_b.lines n.1 in
       record {
+        skew_is = good.skew_is;
         trace = trace_on s.skew w.moment w.run good.trace t refl ahead behind (λ m e. let n = sh.fed m e in message_at Secondary w.run w.b.lines n.0 m good.journal_b.lines n.1) legal;
         journal_a = record { role = good.journal_a.role; head = good.journal_a.head; lines = ap (λ z. z ++ l ∷ []) good.journal_a.lines ∙ sym (lines_same Primary w.run t refl) };
         journal_b = record { role = good.journal_b.role; head = good.journal_b.head; lines = good.journal_b.lines ∙ sym (lines_other Secondary w.run t refl) };
@@ -182,6 +184,7 @@ module _ (s : ServerSettings) (w : PairWorld) (good : Good s w) where
 
   stop_good_a : Good s (with_stop Primary true w)
   stop_good_a = record {
+    skew_is = good.skew_is;
     trace = good.trace;
     journal_a = good.journal_a;
     journal_b = good.journal_b;
@@ -209,7 +212,7 @@ module _ (s : ServerSettings) (w : PairWorld) (good : Good s w) where
       → Good s (with_stop Secondary false (written Secondary w l))
   line_good_b clock order l reply (near, answer) writes fed down =
       let t : Step = record { side = Secondary; moment = w.moment; line = l } in
-      let skew : (state_of w.a).skew ≡ s.skew = ap (λ (b : Book). b.skew) (book_is Primary w.run w.a good.journal_a) ∙ good.settled.of_a.agrees.skew_is in
+      let skew = good.skew_is in
       let sh = shape w.a.lines w.stopped_a (state_of w.b) l.reading order l.event answer.line.named fed down in
       let last = good.trace.read Secondary in
       let same_reading = ap (λ (b : Book). b.reading) book_b in
@@ -223,6 +226,7 @@ module _ (s : ServerSettings) (w : PairWorld) (good : Good s w) where
       let sent : (m : PartnerMessage) → l.event ≡ Take m → IsIn (messages Primary w.run []) m =
       λ m e. let n = sh.fed m e in message_in Primary w.run w.a.lines n.0 m good.journal_a.lines n.1 in
       record {
+        skew_is = good.skew_is;
         trace = trace_on s.skew w.moment w.run good.trace t refl ahead behind (λ m e. let n = sh.fed m e in message_at Primary w.run w.a.lines n.0 m good.journal_a.lines n.1) legal;
         journal_b = record { role = good.journal_b.role; head = good.journal_b.head; lines = ap (λ z. z ++ l ∷ []) good.journal_b.lines ∙ sym (lines_same Secondary w.run t refl) };
         journal_a = record { role = good.journal_a.role; head = good.journal_a.head; lines = good.journal_a.lines ∙ sym (lines_other Primary w.run t refl) };
@@ -250,6 +254,7 @@ module _ (s : ServerSettings) (w : PairWorld) (good : Good s w) where
 
   stop_good_b : Good s (with_stop Secondary true w)
   stop_good_b = record {
+    skew_is = good.skew_is;
     trace = good.trace;
     journal_a = good.journal_a;
     journal_b = good.journal_b;
@@ -278,6 +283,7 @@ good_new moment s t opens =
     let trace_a = trace_lines s.skew moment Primary ls [] (blank_trace s.skew moment) legal_a h.1 in
     let idle : book_in Secondary run_a ≡ blank Secondary 1 = ap (book_after (blank Secondary 1)) (lines_of_partner Secondary moment ls) in
     record {
+      skew_is = refl;
       trace = trace_lines s.skew moment Secondary ms run_a trace_a (subst (λ b. AreSteps b ms) (sym idle) legal_b) g.1;
       journal_a = record { role = opens.alike.first; head = refl; lines = sym of_a };
       journal_b = record { role = opens.alike.second; head = refl; lines = sym of_b };
@@ -313,6 +319,7 @@ good_new moment s t opens =
 module _ (s : ServerSettings) (w : PairWorld) (good : Good s w) where
   pass_good : (n : ℕ) → Good s (record w { moment = w.moment + n })
   pass_good n = record {
+    skew_is = good.skew_is;
     trace = trace_later s.skew w.moment n w.run good.trace;
     journal_a = good.journal_a;
     journal_b = good.journal_b;

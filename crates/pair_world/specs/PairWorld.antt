@@ -1,6 +1,6 @@
 -- A pair of servers in true time: what happens to them, and what comes of it. Moments are true time, in milliseconds.
 use Rattle.std.specs.Prelude.{◌≡◌, ◌⊎◌, ℕ, ◌+◌, ◌-◌, ◌^◌, ◌<◌, ◌≤◌, ⊤, Bool, true, false, List, [], ◌∷◌, ◌++◌, slice_get}
-use Rattle.std.specs.Prelude.{Some, Result, Ok, Err}
+use Rattle.std.specs.Prelude.{Some, Result, Ok, Err, map}
 use Rattle.binding_rules.specs.declared.role.Role.{Role}
 use Rattle.binding_rules.specs.declared.role.Role.TheVariants.{Primary, Secondary}
 use Rattle.binding_rules.specs.Role.{partner_of}
@@ -27,6 +27,8 @@ use Rattle.pair_world.specs.declared.error.WorldError.TheVariants.{Book as OfBoo
 
 pub record PairWorld : Type 0 where
   pub moment : ℕ
+  pub skew : ℕ  -- milliseconds: of the pair's settings
+  pub transit : ℕ  -- milliseconds: of the pair's settings
   pub run : List Step  -- the oldest first
   pub a : Journal  -- the primary's
   pub b : Journal  -- the secondary's
@@ -58,14 +60,15 @@ pub record AreAlike (s t : ServerSettings) : Type 0 where
   pub pools : t.pools ≡ s.pools
 
 abbrev pub steps_of : Role → (moment : ℕ) → List Line → List Step
-steps_of side moment [] = []
-steps_of side moment (l ∷ ls) = record { side = side; moment = moment; line = l } ∷ steps_of side moment ls
+steps_of side moment ls = map (λ l. record { side = side; moment = moment; line = l }) ls
 
 -- both servers open at the first moment, and run
 abbrev pub new_world : (moment : ℕ) → ServerSettings → ServerSettings → PairWorld
 new_world moment s t =
     record {
       moment = moment;
+      skew = s.skew;
+      transit = s.transit;
       run = steps_of Primary moment (opening s moment).lines ++ steps_of Secondary moment (opening t moment).lines;
       a = opening s moment;
       b = opening t moment;
@@ -103,7 +106,7 @@ IsDownAllowed stopped _ = ⊤
 
 -- the clock is within the pair's skew of the moment
 abbrev pub IsNear : PairWorld → ℕ → Type 0
-IsNear w clock = (clock ≤ w.moment + (book Primary w).skew) × (w.moment ≤ clock + (book Primary w).skew)
+IsNear w clock = (clock ≤ w.moment + w.skew) × (w.moment ≤ clock + w.skew)
 
 -- a refusal applies, whether or not another comes before it
 abbrev pub Fails : PairWorld → Event → WorldError → Type 0
