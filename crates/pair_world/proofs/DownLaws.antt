@@ -26,7 +26,7 @@ use Rattle.pair_world.proofs.Traces.{book_in}
 use Rattle.pair_world.proofs.Kept.{by_bool}
 use Rattle.pair_world.proofs.Phases.{by_word}
 use Rattle.pair_world.proofs.Books.{holder_of, sent_contact, server_of}
-use Rattle.pair_world.proofs.Lists.{log_of, message_in, messages}
+use Rattle.pair_world.proofs.Lists.{log_of, messages, numbered_in}
 use Rattle.pair_world.proofs.Openings.{setting_of}
 use Rattle.pair_world.proofs.Valid.{valid_runs}
 
@@ -58,7 +58,7 @@ module _ (s : ServerSettings) (w : PairWorld) (is : Good s w) where
       by_word ((is.known p unit).kept.servers.there.law off) (λ st. inl st)
       (λ waits. inr (ap (λ (b : Book). b.waiting) same ∙ waits.0, λ m ask answer sent body.
       subst (λ (b : Book). answer ≢ b.restart) (sym same)
-      (waits.1 (record { ask = ask; answer = answer }) (sent_contact (messages Primary w.run []) m ask answer (message_in Primary w.run w.a.lines sent.0 m is.journal_a.lines sent.1) body))))
+      (waits.1 (record { ask = ask; answer = answer }) (sent_contact (messages Primary w.run []) m ask answer (numbered_in Primary w.run w.a.lines sent.0 m is.journal_a.lines sent.1) body))))
 
   law_b : (p : Prefix) → is_unit s.pools p ≡ true → IsAlone (server_of p (book_in Secondary w.run) (messages Secondary w.run []) w.stopped_b) → StandsBack w Primary
   law_b p unit off =
@@ -66,7 +66,7 @@ module _ (s : ServerSettings) (w : PairWorld) (is : Good s w) where
       by_word ((is.known p unit).kept.servers.back.law off) (λ st. inl st)
       (λ waits. inr (ap (λ (b : Book). b.waiting) same ∙ waits.0, λ m ask answer sent body.
       subst (λ (b : Book). answer ≢ b.restart) (sym same)
-      (waits.1 (record { ask = ask; answer = answer }) (sent_contact (messages Secondary w.run []) m ask answer (message_in Secondary w.run w.b.lines sent.0 m is.journal_b.lines sent.1) body))))
+      (waits.1 (record { ask = ask; answer = answer }) (sent_contact (messages Secondary w.run []) m ask answer (numbered_in Secondary w.run w.b.lines sent.0 m is.journal_b.lines sent.1) body))))
 
   -- at a unit a server is alone by its book
   abbrev IsAloneAt : Role → Prefix → Type 0

@@ -32,3 +32,4 @@ pub mod Units
 pub mod Valid
 pub mod Results
 pub mod DownLaws
+pub mod Numbers

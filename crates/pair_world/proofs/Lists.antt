@@ -15,7 +15,7 @@ use Rattle.book_rules.specs.Rules.{IsStep}
 use Rattle.book_rules.specs.Effects.{after}
 use Rattle.attribution.specs.Run.{At, Step, lines_of}
 use Rattle.pair_world.specs.UnitWorld.{Entry, IsIn}
-use Rattle.pair_world.specs.PairWorld.{IsNumbered, messages_of, with_message}
+use Rattle.pair_world.specs.PairWorld.{IsNumbered, message_in, messages_of, with_sent}
 use Rattle.pair_world.proofs.Phases.{by_word}
 use Rattle.pair_world.proofs.BookSteps.{entry_of, sent_with, step}
 
@@ -112,7 +112,7 @@ in_letters side (x ∷ xs) ms m h = in_letters side xs (if is_side side x.side t
 abbrev IsOrIn : Event → List PartnerMessage → PartnerMessage → Type 0
 IsOrIn e ms m = (e ≡ Send m) ⊎ IsIn ms m
 
-first_or : (e : Event) (ms : List PartnerMessage) (m : PartnerMessage) → IsIn (with_message e ms) m → IsOrIn e ms m
+first_or : (e : Event) (ms : List PartnerMessage) (m : PartnerMessage) → IsIn (with_sent (message_in e) ms) m → IsOrIn e ms m
 first_or (Send x) ms m (inl e) = inl (ap Send e)
 first_or (Send x) ms m (inr h) = inr h
 first_or (Open x y z) ms m h = inr h
@@ -138,21 +138,21 @@ now_sent e ms m is = rw is (inl refl)
 -- the messages among a side's lines are those of its steps
 abbrev sent_by : Role → List Step → List PartnerMessage
 sent_by side [] = []
-sent_by side (s ∷ ss) = if is_side side s.side then with_message s.line.event (sent_by side ss) else sent_by side ss
+sent_by side (s ∷ ss) = if is_side side s.side then with_sent (message_in s.line.event) (sent_by side ss) else sent_by side ss
 
 messages_are : (side : Role) (xs : List Step) → messages_of (lines_of side xs) ≡ sent_by side xs
 messages_are side [] = refl
 messages_are side (x ∷ xs) = by_side (is_side side x.side) (messages_are side xs) where
   by_side : (b : Bool) → messages_of (lines_of side xs) ≡ sent_by side xs
       → messages_of (map (λ (s : Step). s.line) (if b then x ∷ filter (λ (s : Step). is_side side s.side) xs else filter (λ (s : Step). is_side side s.side) xs))
-      ≡ (if b then with_message x.line.event (sent_by side xs) else sent_by side xs)
-  by_side true h = ap (with_message x.line.event) h
+      ≡ (if b then with_sent (message_in x.line.event) (sent_by side xs) else sent_by side xs)
+  by_side true h = ap (with_sent (message_in x.line.event)) h
   by_side false h = h
 
 sent_in : (side : Role) (xs : List Step) (ms : List PartnerMessage) (m : PartnerMessage) → IsIn (sent_by side xs) m → IsIn (messages side xs ms) m
 sent_in side [] ms m h = absurd h
 sent_in side (x ∷ xs) ms m h = by_side (is_side side x.side) (λ ms'. sent_in side xs ms' m) h where
-  by_side : (b : Bool) → ((ms' : List PartnerMessage) → IsIn (sent_by side xs) m → IsIn (messages side xs ms') m) → IsIn (if b then with_message x.line.event (sent_by side xs) else sent_by side xs) m → IsIn (messages side xs (if b then sent_with x.line.event ms else ms)) m
+  by_side : (b : Bool) → ((ms' : List PartnerMessage) → IsIn (sent_by side xs) m → IsIn (messages side xs ms') m) → IsIn (if b then with_sent (message_in x.line.event) (sent_by side xs) else sent_by side xs) m → IsIn (messages side xs (if b then sent_with x.line.event ms else ms)) m
   by_side false rest h = rest ms h
   by_side true rest h = by_word (first_or x.line.event (sent_by side xs) m h)
       (λ is. in_letters side xs (sent_with x.line.event ms) m (now_sent x.line.event ms m is))
@@ -174,16 +174,16 @@ sent_at side (x ∷ xs) m h = by_side (is_side side x.side) refl (λ h'. sent_at
   later : IsSentAt side xs m → IsSentAt side (x ∷ xs) m
   later r = (suc r.0, r.1, r.2, r.3, r.4)
 
-  by_side : (b : Bool) → is_side side x.side ≡ b → (IsIn (sent_by side xs) m → IsSentAt side xs m) → IsIn (if b then with_message x.line.event (sent_by side xs) else sent_by side xs) m → IsSentAt side (x ∷ xs) m
+  by_side : (b : Bool) → is_side side x.side ≡ b → (IsIn (sent_by side xs) m → IsSentAt side xs m) → IsIn (if b then with_sent (message_in x.line.event) (sent_by side xs) else sent_by side xs) m → IsSentAt side (x ∷ xs) m
   by_side false e rest h = later (rest h)
   by_side true e rest h = by_word (first_or x.line.event (sent_by side xs) m h) (λ is. (zero, x, refl, side_same side x.side e, is)) (λ h'. later (rest h'))
 
 -- a message of a side, by its number
-pub message_in : (side : Role) (xs : List Step) (ls : List Line) (n : ℕ) (m : PartnerMessage) → ls ≡ lines_of side xs → IsNumbered ls n m → IsIn (messages side xs []) m
-message_in side xs ls n m is h = sent_in side xs [] m (subst (λ z. IsIn z m) (ap messages_of is ∙ messages_are side xs) (in_get (messages_of ls) (n - 1) m h.1))
+pub numbered_in : (side : Role) (xs : List Step) (ls : List Line) (n : ℕ) (m : PartnerMessage) → ls ≡ lines_of side xs → IsNumbered ls n m → IsIn (messages side xs []) m
+numbered_in side xs ls n m is h = sent_in side xs [] m (subst (λ z. IsIn z m) (ap messages_of is ∙ messages_are side xs) (in_get (messages_of ls) (n - 1) m h.1))
 
-pub message_at : (side : Role) (xs : List Step) (ls : List Line) (n : ℕ) (m : PartnerMessage) → ls ≡ lines_of side xs → IsNumbered ls n m → IsSentAt side xs m
-message_at side xs ls n m is h = sent_at side xs m (subst (λ z. IsIn z m) (ap messages_of is ∙ messages_are side xs) (in_get (messages_of ls) (n - 1) m h.1))
+pub numbered_at : (side : Role) (xs : List Step) (ls : List Line) (n : ℕ) (m : PartnerMessage) → ls ≡ lines_of side xs → IsNumbered ls n m → IsSentAt side xs m
+numbered_at side xs ls n m is h = sent_at side xs m (subst (λ z. IsIn z m) (ap messages_of is ∙ messages_are side xs) (in_get (messages_of ls) (n - 1) m h.1))
 
 pub own_side : (side : Role) → is_side side side ≡ true
 own_side Primary = refl

@@ -1,25 +1,24 @@
 -- Pair safety of worlds, from what is good of each.
-use Rattle.std.specs.Prelude.{◌≡◌, ◌≢◌, ◌+◌, ◌*◌, ◌<◌, [], true, ℕ}
-use Rattle.std.proofs.Common.{◌∙◌, ap, arith, inl, inr, refl, subst, sym}
+use Rattle.std.specs.Prelude.{◌≡◌, ◌+◌, ◌*◌, ◌<◌, [], true, ℕ}
+use Rattle.std.proofs.Common.{◌∙◌, ap, arith, refl, subst, sym}
 use Rattle.std.proofs.lemmas.Bool.{cases_lt}
 use Rattle.prefix_range.specs.Prefix.{HasAddress, IsPrefix, Prefix}
 use Rattle.binding_rules.specs.declared.unit.Binding.{Binding}
 use Rattle.binding_rules.specs.declared.role.Role.TheVariants.{Primary, Secondary}
 use Rattle.binding_rules.specs.declared.role.Role.{Role}
 use Rattle.journal_lines.specs.declared.event.Lease.{Lease}
-use Rattle.book_rules.specs.Book.{Book, is_unit}
+use Rattle.book_rules.specs.Book.{is_unit}
 use Rattle.server_book.specs.Settings.{ServerSettings}
 use Rattle.attribution.specs.Run.{IsValidAt, StartInTime, lines_of}
-use Rattle.pair_world.specs.PairSafe.{AddressSafe, LeaseSafe, MayOpen, StandsBack, WorldIsRun}
+use Rattle.pair_world.specs.PairSafe.{AddressSafe, LeaseSafe, MayOpen, WorldIsRun}
 use Rattle.pair_world.specs.UnitSafe.{HasUnit}
-use Rattle.pair_world.specs.UnitWorld.{IsAlone}
-use Rattle.pair_world.specs.PairWorld.{PairWorld, book, journal}
-use Rattle.pair_world.proofs.Worlds.{Good, book_is, good}
-use Rattle.pair_world.proofs.Traces.{book_in, is_run}
+use Rattle.pair_world.specs.PairWorld.{PairWorld, journal}
+use Rattle.pair_world.proofs.Worlds.{Good, good}
 use Rattle.pair_world.proofs.Phases.{by_word}
-use Rattle.pair_world.proofs.Books.{holder_of, sent_contact, server_of}
+use Rattle.pair_world.proofs.Books.{holder_of}
+use Rattle.pair_world.proofs.Traces.{is_run}
 use Rattle.pair_world.proofs.EndsSteps.{later}
-use Rattle.pair_world.proofs.Lists.{log_of, message_in, messages}
+use Rattle.pair_world.proofs.Lists.{log_of}
 use Rattle.pair_world.proofs.Units.{one_unit}
 use Rattle.pair_world.proofs.Valid.{valid_holds}
 

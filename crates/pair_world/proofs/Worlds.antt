@@ -38,7 +38,7 @@ use Rattle.pair_world.proofs.Safety.{Invariant, at_start, passes}
 use Rattle.pair_world.proofs.Kept.{Kept}
 use Rattle.pair_world.proofs.BookSteps.{MayWrite, entry_of, sent_with, step, stopped_after}
 use Rattle.pair_world.proofs.Traces.{Trace, blank_trace, book_in, book_on, lines_of_own, lines_of_partner, trace_later, trace_lines, trace_on}
-use Rattle.pair_world.proofs.Lists.{at_split, lines_append, lines_other, lines_same, log_append, log_of, message_at, message_in, messages, messages_append}
+use Rattle.pair_world.proofs.Lists.{at_split, lines_append, lines_other, lines_same, log_append, log_of, messages, messages_append, numbered_at, numbered_in}
 use Rattle.pair_world.proofs.Phases.{by_word}
 use Rattle.pair_world.proofs.Shapes.{fed_of, may_write, shape}
 use Rattle.pair_world.proofs.Books.{server_of}
@@ -154,10 +154,10 @@ module _ (s : ServerSettings) (w : PairWorld) (good : Good s w) where
       let may = writes l.event refl in
       let legal : IsBookStep (book_in Primary w.run) l = subst (λ b. IsBookStep b l) book_a answer.line.legal in
       let sent : (m : PartnerMessage) → l.event ≡ Take m → IsIn (messages Secondary w.run []) m =
-      λ m e. let n = sh.fed m e in message_in Secondary w.run w.b.lines n.0 m good.journal_b.lines n.1 in
+      λ m e. let n = sh.fed m e in numbered_in Secondary w.run w.b.lines n.0 m good.journal_b.lines n.1 in
       record {
         skew_is = good.skew_is;
-        trace = trace_on s.skew w.moment w.run good.trace t refl ahead behind (λ m e. let n = sh.fed m e in message_at Secondary w.run w.b.lines n.0 m good.journal_b.lines n.1) legal;
+        trace = trace_on s.skew w.moment w.run good.trace t refl ahead behind (λ m e. let n = sh.fed m e in numbered_at Secondary w.run w.b.lines n.0 m good.journal_b.lines n.1) legal;
         journal_a = record { role = good.journal_a.role; head = good.journal_a.head; lines = ap (λ z. z ++ l ∷ []) good.journal_a.lines ∙ sym (lines_same Primary w.run t refl) };
         journal_b = record { role = good.journal_b.role; head = good.journal_b.head; lines = good.journal_b.lines ∙ sym (lines_other Secondary w.run t refl) };
         settled = record {
@@ -224,10 +224,10 @@ module _ (s : ServerSettings) (w : PairWorld) (good : Good s w) where
       let may = writes l.event refl in
       let legal : IsBookStep (book_in Secondary w.run) l = subst (λ b. IsBookStep b l) book_b answer.line.legal in
       let sent : (m : PartnerMessage) → l.event ≡ Take m → IsIn (messages Primary w.run []) m =
-      λ m e. let n = sh.fed m e in message_in Primary w.run w.a.lines n.0 m good.journal_a.lines n.1 in
+      λ m e. let n = sh.fed m e in numbered_in Primary w.run w.a.lines n.0 m good.journal_a.lines n.1 in
       record {
         skew_is = good.skew_is;
-        trace = trace_on s.skew w.moment w.run good.trace t refl ahead behind (λ m e. let n = sh.fed m e in message_at Primary w.run w.a.lines n.0 m good.journal_a.lines n.1) legal;
+        trace = trace_on s.skew w.moment w.run good.trace t refl ahead behind (λ m e. let n = sh.fed m e in numbered_at Primary w.run w.a.lines n.0 m good.journal_a.lines n.1) legal;
         journal_b = record { role = good.journal_b.role; head = good.journal_b.head; lines = ap (λ z. z ++ l ∷ []) good.journal_b.lines ∙ sym (lines_same Secondary w.run t refl) };
         journal_a = record { role = good.journal_a.role; head = good.journal_a.head; lines = good.journal_a.lines ∙ sym (lines_other Primary w.run t refl) };
         settled = record {

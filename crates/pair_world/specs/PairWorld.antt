@@ -1,6 +1,6 @@
 -- A pair of servers in true time: what happens to them, and what comes of it. Moments are true time, in milliseconds.
 use Rattle.std.specs.Prelude.{◌≡◌, ◌⊎◌, ℕ, ◌+◌, ◌-◌, ◌^◌, ◌<◌, ◌≤◌, ⊤, Bool, true, false, List, [], ◌∷◌, ◌++◌, slice_get}
-use Rattle.std.specs.Prelude.{Some, Result, Ok, Err, map}
+use Rattle.std.specs.Prelude.{Option, Some, None, Result, Ok, Err, map}
 use Rattle.binding_rules.specs.declared.role.Role.{Role}
 use Rattle.binding_rules.specs.declared.role.Role.TheVariants.{Primary, Secondary}
 use Rattle.binding_rules.specs.Role.{partner_of}
@@ -78,14 +78,19 @@ new_world moment s t =
 
 -- ---- refusals
 
-abbrev pub with_message : LineEvent → List PartnerMessage → List PartnerMessage
-with_message (Send m) ms = m ∷ ms
-with_message _ ms = ms
+-- what an event sends
+abbrev pub message_in : LineEvent → Option PartnerMessage
+message_in (Send m) = Some m
+message_in _ = None
+
+abbrev pub with_sent : Option PartnerMessage → List PartnerMessage → List PartnerMessage
+with_sent None ms = ms
+with_sent (Some m) ms = m ∷ ms
 
 -- what lines ever sent, the oldest first
 abbrev pub messages_of : List Line → List PartnerMessage
 messages_of [] = []
-messages_of (l ∷ ls) = with_message l.event (messages_of ls)
+messages_of (l ∷ ls) = with_sent (message_in l.event) (messages_of ls)
 
 -- the message of this number among all that lines sent, counted from 1
 abbrev pub IsNumbered : List Line → ℕ → PartnerMessage → Type 0
@@ -128,6 +133,12 @@ Fails w (Deliver side sent clock) (OfBook e) =
     × IsFirstRefusal (book side w) clock (Take m) e
 Fails w (Restart side clock) (OfBook e) = IsFirstRefusal (book side w) clock RestartOrder e
 Fails w _ _ = ⊥
+
+-- what the server's book makes of an order that it doesn't do
+abbrev pub IsBookRefusal : Book → ℕ → Order → WorldError → Type 0
+IsBookRefusal b clock order (OfBook e) = IsFirstRefusal b clock order e
+IsBookRefusal b clock order Memory = ⊤
+IsBookRefusal b clock order _ = ⊥
 
 -- the order in which refusals are looked for
 abbrev pub rank : WorldError → ℕ

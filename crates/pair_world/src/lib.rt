@@ -12,9 +12,15 @@
 mod error;
 mod event;
 mod laws;
+mod messages;
+mod run_step;
+mod stepping;
+mod world;
 
 pub use error::WorldError;
 pub use event::Event;
+pub use run_step::Step;
+pub use world::World;
 pub use laws::{
     address_safe, one_holder_ever, partner_down_laws, partner_stands_back, world_is_run,
 };
