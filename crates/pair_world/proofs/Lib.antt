@@ -33,3 +33,4 @@ pub mod Valid
 pub mod Results
 pub mod DownLaws
 pub mod Numbers
+pub mod Runs

@@ -204,9 +204,16 @@ abbrev pub Reaches : PairWorld → List Event → PairWorld → Type 0
 Reaches w [] v = v ≡ w
 Reaches w (e ∷ es) v = (answer : Result Reply WorldError) × (u : PairWorld) × IsStep w e answer u × Reaches u es v
 
--- all events happen up to the first that is refused, which changes nothing
-abbrev pub IsRunOf : PairWorld → List Event → Result ⊤ WorldError → PairWorld → Type 0
-IsRunOf w [] answer v = (answer ≡ Ok tt) × (v ≡ w)
-IsRunOf w (e ∷ es) answer v =
-    ((reply : Reply) × (u : PairWorld) × IsDone w e reply u × IsRunOf u es answer v)
-    ⊎ ((error : WorldError) × IsRefused w e error × (answer ≡ Err error) × (v ≡ w))
+-- all of the events are done, one behind the other
+abbrev pub AreDone : PairWorld → List Event → PairWorld → Type 0
+AreDone w [] v = v ≡ w
+AreDone w (e ∷ es) v = (reply : Reply) × (u : PairWorld) × IsDone w e reply u × AreDone u es v
+
+-- the events before the first that is refused are done, and nothing else
+pub record StopsAt (w : PairWorld) (events : List Event) (error : WorldError) (v : PairWorld) : Type 0 where
+  pub before : List Event
+  pub event : Event
+  pub behind : List Event
+  pub are : events ≡ before ++ event ∷ behind
+  pub done : AreDone w before v
+  pub refused : IsRefused v event error

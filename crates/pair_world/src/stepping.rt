@@ -6,7 +6,7 @@ ghost use Rattle.server_book.specs.Replayed.{state_of, with_line};
 ghost use Rattle.server_book.specs.Answer.{IsAnswer};
 ghost use Rattle.pair_world.specs.declared.event.Event.TheVariants.{Serve, Deliver, Stop as StopEvent, Restart, Pass};
 ghost use Rattle.pair_world.specs.PairWorld.{journal, book, is_stopped, with_stop, written, IsFedBy, IsDownAllowed};
-ghost use Rattle.pair_world.specs.PairWorld.{IsBookRefusal, IsDone, IsRefused};
+ghost use Rattle.pair_world.specs.PairWorld.{IsBookRefusal, IsDone, IsRefused, AreDone, StopsAt};
 
 use crate::error::WorldError;
 use crate::event::Event;
@@ -207,5 +207,20 @@ impl World {
             Event::Restart { side, clock } => self.restart(*side, *clock),
             Event::Pass(milliseconds) => self.pass(*milliseconds),
         }
+    }
+
+    /// Lets events happen one behind the other, up to the first that is refused, as `step` refuses it: the world is then
+    /// as the events before it left it.
+    pub fn run(&mut self, events: &[Event]) -> Result<(), WorldError>
+        ensures done { IfOk result (λ _. AreDone self.old events.now self.new) }
+        ensures refused { IfErr result (λ e. StopsAt self.old events.now e self.new) }
+    {
+        for event in events {
+            match self.step(event) {
+                Ok(_) => {}
+                Err(error) => return Err(error),
+            }
+        }
+        Ok(())
     }
 }
