@@ -1,0 +1,241 @@
+-- The start has the invariant, each event keeps it, and so no two bindings ever hold the unit.
+use Rattle.std.specs.Prelude.{◌≡◌, ℕ, ◌+◌, ◌<◌, ◌≤◌, List, [], ◌∷◌}
+use Rattle.std.proofs.Common.{arith, inl, inr, refl, sym, ap}
+use Rattle.std.proofs.lemmas.Bool.{cases_lt}
+use Rattle.binding_rules.specs.declared.unit.Binding.{Binding}
+use Rattle.pair_world.specs.UnitSafe.{EndsInTime, HasUnit, IsAckTold, OneHolder, PartnerDownLaws, PartnerWaits, Runs}
+use Rattle.pair_world.specs.UnitWorld.{Entry, Expires, Gives, GivesBack, GoesDown, GoesUp, Grants, IsAllowed, IsAlone, LearnsTerm, MayHappen, MovesToBackup, Passes, Reclaims, Releases, Restarts, Seizes, SendsContact, SendsReply, SendsUpdate, Server, Setting, Stops, TakesContact, TakesReply, TakesUpdate, UnitEvent, UnitWorld, first, next, server, start, world_after}
+use Rattle.binding_rules.specs.declared.role.Role.TheVariants.{Primary, Secondary}
+use Rattle.binding_rules.specs.declared.role.Role.{Role}
+use Rattle.binding_rules.specs.declared.unit.UnitStatus.{UnitStatus}
+use Rattle.binding_rules.specs.Role.{partner_of}
+use Rattle.binding_rules.specs.Unit.{same_binding}
+use Rattle.pair_world.proofs.Phases.{by_word}
+use Rattle.pair_world.proofs.Words.{Says, SaysMark, SaysEnd, Word, Answer, InCalm, code, active_code, code_low, code_high, code_is, code_active, IsActiveOf}
+use Rattle.pair_world.proofs.Servers.{Waits}
+use Rattle.pair_world.proofs.Ends.{Ends, past_on, held_runs, active_once}
+use Rattle.pair_world.proofs.EndsSteps.{later}
+use Rattle.pair_world.proofs.Kept.{Kept, by_modes}
+use Rattle.pair_world.proofs.KeptA.{kept_grants_a, kept_releases_a, kept_expires_a, kept_moves_a, kept_reclaims_a, kept_takes_a, kept_takes_reply_a, kept_seizes_a, kept_sends_update_a, kept_sends_reply_a, kept_says_a, kept_takes_contact_a, kept_takes_higher_a, kept_goes_down_a, kept_goes_up_a, kept_stops_a, kept_restarts_a, ack_told_a, in_time_a}
+use Rattle.pair_world.proofs.KeptB.{kept_grants_b, kept_releases_b, kept_expires_b, kept_takes_b, kept_takes_reply_b, kept_seizes_b, kept_sends_update_b, kept_sends_reply_b, kept_says_b, kept_takes_contact_b, kept_takes_higher_b, kept_goes_down_b, kept_goes_up_b, kept_stops_b, kept_restarts_b, ack_told_b, in_time_b}
+
+-- One holder, from the invariant.
+active_code_of : (status : UnitStatus) (j k : Binding) → IsActiveOf status j → code k status ≡ active_code (same_binding j k)
+active_code_of status j k x = ap (code k) x
+
+-- while the unit is marked at one server, no grant of the other's runs
+across : (s : Setting) (now : ℕ) (log : List Entry) (a b : Server) → Kept s now log a b → (j k : Binding) (end end' : ℕ)
+    → Runs s.transit log Primary j end → now < end → Runs s.transit log Secondary k end' → now < end' → j ≡ k
+across s now log a b inv j k end end' r lt r' lt' =
+    let x = (inv.ends_a.own_end j end r lt).0 in
+    let y = (inv.ends_b.own_end k end' r' lt').0 in
+    let two = code_active k b.unit.status y in
+    let one = active_code_of a.unit.status j k x in
+    let low = code_low (same_binding j k) in
+    let high = code_high (same_binding j k) in
+    by_modes a b
+    (λ p q. let shape = (inv.calm p q k).phases.b_active (omega arith) (omega arith) in code_is j k (same_binding j k) refl (omega arith))
+    (λ p. let z = inv.ends_b.none_marked p k end' r' in absurd (omega arith))
+    (λ q. let z = inv.ends_a.none_marked q j end r in absurd (omega arith))
+
+one_of_two : (s : Setting) (now : ℕ) (log : List Entry) (a b : Server) → Kept s now log a b → (x y : Role) (j k : Binding) (end end' : ℕ)
+    → Runs s.transit log x j end → now < end → Runs s.transit log y k end' → now < end' → j ≡ k
+one_of_two s now log a b inv Primary Primary j k end end' r lt r' lt' = active_once a.unit.status j k (inv.ends_a.own_end j end r lt).0 (inv.ends_a.own_end k end' r' lt').0
+one_of_two s now log a b inv Secondary Secondary j k end end' r lt r' lt' = active_once b.unit.status j k (inv.ends_b.own_end j end r lt).0 (inv.ends_b.own_end k end' r' lt').0
+one_of_two s now log a b inv Primary Secondary j k end end' r lt r' lt' = across s now log a b inv j k end end' r lt r' lt'
+one_of_two s now log a b inv Secondary Primary j k end end' r lt r' lt' = sym (across s now log a b inv k j end' end r' lt' r lt)
+
+one_from_now : (s : Setting) (now : ℕ) (log : List Entry) (a b : Server) → Kept s now log a b → (m : ℕ) → now ≤ m → (j k : Binding)
+    → HasUnit s.transit log j m → HasUnit s.transit log k m → j ≡ k
+one_from_now s now log a b inv m le j k h h' =
+    let r = held_runs s.transit now m log j inv.past le h in
+    let r' = held_runs s.transit now m log k inv.past le h' in
+    let lt = r.3 in
+    let lt' = r'.3 in
+    one_of_two s now log a b inv r.0 r'.0 j k r.1 r'.1 r.2 (omega arith) r'.2 (omega arith)
+
+-- no two bindings hold the unit at any moment
+abbrev pub Alone : ℕ → List Entry → Type 0
+Alone transit log = (m : ℕ) (j k : Binding) → HasUnit transit log j m → HasUnit transit log k m → j ≡ k
+
+pub record Invariant (s : Setting) (now : ℕ) (log : List Entry) (a b : Server) : Type 0 where
+  pub kept : Kept s now log a b
+  pub alone : Alone s.transit log
+
+no_word_yet : (s : Setting) (k : Binding) (c m n : ℕ) → Word k first c m n → ⊥
+no_word_yet s k c m n (u, inl sent, ec, em, en) = sent.0
+no_word_yet s k c m n (u, inr due, ec, em, en) = let z = due.1 in absurd (cc)
+
+no_end_yet : (s : Setting) (m e : ℕ) → SaysEnd first m e → ⊥
+no_end_yet s m e (u, inl sent, is, em, ee) = sent.0
+no_end_yet s m e (u, inr due, is, em, ee) = let z = due.1 in absurd (cc)
+
+no_mark_yet : (m : ℕ) → SaysMark first m → ⊥
+no_mark_yet m (inl sent) = sent.1
+no_mark_yet m (inr marked) = let z = marked.0 in absurd (cc)
+
+no_answer_yet : (p o : ℕ) → Answer first p o → ⊥
+no_answer_yet p o (r, (good, inl sent), ep, eo) = sent
+no_answer_yet p o (r, (good, inr due), ep, eo) = absurd (cc)
+
+calm_at_start : (s : Setting) (k : Binding) → InCalm k first first
+calm_at_start s k = record {
+  phases = record {
+    due_a = inl (refl, refl);
+    due_b = inl (refl, refl);
+    sent_ua = λ c m n w. absurd (no_word_yet s k c m n w);
+    sent_ra = λ p o w. absurd (no_answer_yet p o w);
+    sent_ub = λ c m n w. absurd (no_word_yet s k c m n w);
+    sent_rb = λ p o w. absurd (no_answer_yet p o w);
+    replies_before_a = λ e p o w. absurd (no_answer_yet p o w);
+    last_word_a = λ e c m n w. absurd (no_word_yet s k c m n w);
+    reply_then_update_a = λ c m n p o w. absurd (no_word_yet s k c m n w);
+    replies_before_b = λ e p o w. absurd (no_answer_yet p o w);
+    last_word_b = λ e c m n w. absurd (no_word_yet s k c m n w);
+    reply_then_update_b = λ c m n p o w. absurd (no_word_yet s k c m n w);
+    count_a = omega arith;
+    count_b = omega arith;
+    heard = λ e is. refl;
+    b_backup = λ is. absurd (omega arith);
+    b_active = λ l h. absurd (omega arith);
+    b_says_active = λ c m n w. absurd (no_word_yet s k c m n w);
+    b_says_over = λ c m n w. absurd (no_word_yet s k c m n w);
+    b_silent = λ c m n w. absurd (no_word_yet s k c m n w);
+    b_reply_last = λ p o w. absurd (no_answer_yet p o w);
+    a_says_active = λ c m n w. absurd (no_word_yet s k c m n w);
+    a_says_over = λ c m n w. absurd (no_word_yet s k c m n w);
+    a_after_over = λ c m n w. absurd (no_word_yet s k c m n w);
+    a_says_backup = λ c m n w. absurd (no_word_yet s k c m n w);
+  };
+  acks = record {
+    told_a = λ l h l'. absurd (omega arith);
+    told_b = λ l h out. absurd (omega arith);
+    acknowledged_a = λ p o w. absurd (no_answer_yet p o w);
+    acknowledged_b = λ p o w. absurd (no_answer_yet p o w);
+    new_active = λ l is l' h. refl;
+    no_ends_a = λ le. (refl, refl);
+    no_ends_b = λ le. (refl, refl);
+    last_active_a = λ c m n w. absurd (no_word_yet s k c m n w);
+    last_active_b = λ c m n w. absurd (no_word_yet s k c m n w);
+    last_end_a = λ m e w. absurd (no_end_yet s m e w);
+    last_end_b = λ m e w. absurd (no_end_yet s m e w);
+    sent_ea = λ m e w. absurd (no_end_yet s m e w);
+    sent_eb = λ m e w. absurd (no_end_yet s m e w);
+  };
+  stale = record { stale_a = λ m w. absurd (no_mark_yet m w); stale_b = λ m w. absurd (no_mark_yet m w) };
+}
+
+none_off : IsAlone first → ⊥
+none_off (inl d) = let z = d.1 in absurd (cc)
+none_off (inr m) = absurd (cc)
+
+waits_at_start : Waits first first
+waits_at_start = record { law = λ off. absurd (none_off off); asked_low = omega arith; said_low = λ c sent. absurd sent; numbered = λ w. absurd (cc) }
+
+ends_at_start : (s : Setting) (side : Role) → Ends s 0 [] side first.unit (Says first) first.down first.unit.marked
+ends_at_start s side = record {
+  own_end = λ k end runs lt. absurd runs;
+  released = λ v told is seen end runs. absurd runs;
+  lead = λ k end runs lt. absurd runs;
+  lead_down = λ d is k end runs lt. absurd runs;
+  none_marked = λ is k end runs. absurd runs;
+}
+
+pub at_start : (s : Setting) → Invariant s 0 [] first first
+at_start s = record {
+  kept = record {
+    calm = λ x y k. calm_at_start s k;
+    marked_a = λ x. absurd (cc);
+    marked_b = λ y. absurd (cc);
+    ends_a = ends_at_start s Primary;
+    ends_b = ends_at_start s Secondary;
+    servers = record { there = waits_at_start; back = waits_at_start; one = λ p q. none_off p };
+    past = omega arith;
+  };
+  alone = λ m j k h h'. absurd h;
+}
+
+-- before now a new entry doesn't count
+before_gives : (transit now m : ℕ) (log : List Entry) (side : Role) (holder : Binding) (valid : ℕ) (k : Binding) → m < now
+    → HasUnit transit (Gives side holder now valid ∷ log) k m → HasUnit transit log k m
+before_gives transit now m log side holder valid k lt (inl h) = let le = h.1 in absurd (omega arith)
+before_gives transit now m log side holder valid k lt (inr h) = h
+
+pub alone_gives : (s : Setting) (now : ℕ) (log : List Entry) (side : Role) (holder : Binding) (valid : ℕ) (a b : Server) → Alone s.transit log
+    → Kept s now (Gives side holder now valid ∷ log) a b → Alone s.transit (Gives side holder now valid ∷ log)
+alone_gives s now log side holder valid a b alone kept m j k h h' = by_word (cases_lt m now)
+    (λ lt. alone m j k (before_gives s.transit now m log side holder valid j lt h) (before_gives s.transit now m log side holder valid k lt h'))
+    (λ le. one_from_now s now (Gives side holder now valid ∷ log) a b kept m le j k h h')
+
+pub alone_gives_back : (s : Setting) (now : ℕ) (log : List Entry) (holder : Binding) → Alone s.transit log → Alone s.transit (GivesBack holder now ∷ log)
+alone_gives_back s now log holder alone m j k h h' = alone m j k h.1 h'.1
+
+pub passes : (s : Setting) (now : ℕ) (log : List Entry) (a b : Server) (n : ℕ) → Kept s now log a b → Kept s (now + n) log a b
+passes s now log a b n kept = record {
+  calm = kept.calm;
+  marked_a = kept.marked_a;
+  marked_b = kept.marked_b;
+  ends_a = later s now log Primary a.unit _ b.down b.unit.marked kept.ends_a n;
+  ends_b = later s now log Secondary b.unit _ a.down a.unit.marked kept.ends_b n;
+  servers = kept.servers;
+  past = past_on log now n kept.past;
+}
+
+abbrev Inv : Setting → UnitWorld → Type 0
+Inv s w = Invariant s w.now w.log w.a w.b
+
+each_keeps : (s : Setting) (w : UnitWorld) (e : UnitEvent) → Inv s w → IsAllowed s w e → Inv s (next s w e)
+each_keeps s w (Grants Primary reading valid out_end holder) inv ok =
+    let kept = kept_grants_a s w.now w.log w.a w.b inv.kept reading valid out_end holder ok.0.0 ok.0.1 ok.1 ok.2 ok.3 ok.4 in
+    record { kept = kept; alone = alone_gives s w.now w.log Primary holder valid _ _ inv.alone kept }
+each_keeps s w (Grants Secondary reading valid out_end holder) inv ok =
+    let kept = kept_grants_b s w.now w.log w.a w.b inv.kept reading valid out_end holder ok.0.0 ok.0.1 ok.1 ok.2 ok.3 ok.4 in
+    record { kept = kept; alone = alone_gives s w.now w.log Secondary holder valid _ _ inv.alone kept }
+each_keeps s w (Releases Primary holder) inv ok =
+    record { kept = kept_releases_a s w.now w.log w.a w.b inv.kept holder ok; alone = alone_gives_back s w.now w.log holder inv.alone }
+each_keeps s w (Releases Secondary holder) inv ok =
+    record { kept = kept_releases_b s w.now w.log w.a w.b inv.kept holder ok; alone = alone_gives_back s w.now w.log holder inv.alone }
+each_keeps s w (Expires Primary reading) inv ok = record { kept = kept_expires_a s w.now w.log w.a w.b inv.kept reading ok.0.0 ok.1 ok.2; alone = inv.alone }
+each_keeps s w (Expires Secondary reading) inv ok = record { kept = kept_expires_b s w.now w.log w.a w.b inv.kept reading ok.0.0 ok.1 ok.2; alone = inv.alone }
+each_keeps s w MovesToBackup inv ok = record { kept = kept_moves_a s w.now w.log w.a w.b inv.kept ok; alone = inv.alone }
+each_keeps s w Reclaims inv ok = record { kept = kept_reclaims_a s w.now w.log w.a w.b inv.kept ok; alone = inv.alone }
+each_keeps s w (SendsUpdate Primary u) inv ok = record { kept = kept_sends_update_a s w.now w.log w.a w.b inv.kept u ok; alone = inv.alone }
+each_keeps s w (SendsUpdate Secondary u) inv ok = record { kept = kept_sends_update_b s w.now w.log w.a w.b inv.kept u ok; alone = inv.alone }
+each_keeps s w (SendsReply Primary r) inv ok = record { kept = kept_sends_reply_a s w.now w.log w.a w.b inv.kept r ok; alone = inv.alone }
+each_keeps s w (SendsReply Secondary r) inv ok = record { kept = kept_sends_reply_b s w.now w.log w.a w.b inv.kept r ok; alone = inv.alone }
+each_keeps s w (SendsContact Primary c) inv ok = record { kept = kept_says_a s w.now w.log w.a w.b inv.kept c ok; alone = inv.alone }
+each_keeps s w (SendsContact Secondary c) inv ok = record { kept = kept_says_b s w.now w.log w.a w.b inv.kept c ok; alone = inv.alone }
+each_keeps s w (TakesUpdate Primary reading u) inv ok = record { kept = kept_takes_a s w.now w.log w.a w.b inv.kept reading u ok.0.0 ok.1; alone = inv.alone }
+each_keeps s w (TakesUpdate Secondary reading u) inv ok = record { kept = kept_takes_b s w.now w.log w.a w.b inv.kept reading u ok.0.0 ok.1; alone = inv.alone }
+each_keeps s w (TakesReply Primary r) inv ok = record { kept = kept_takes_reply_a s w.now w.log w.a w.b inv.kept r ok; alone = inv.alone }
+each_keeps s w (TakesReply Secondary r) inv ok = record { kept = kept_takes_reply_b s w.now w.log w.a w.b inv.kept r ok; alone = inv.alone }
+each_keeps s w (TakesContact Primary c) inv ok = record { kept = kept_takes_contact_a s w.now w.log w.a w.b inv.kept c ok; alone = inv.alone }
+each_keeps s w (TakesContact Secondary c) inv ok = record { kept = kept_takes_contact_b s w.now w.log w.a w.b inv.kept c ok; alone = inv.alone }
+each_keeps s w (LearnsTerm Primary c) inv ok = record { kept = kept_takes_higher_a s w.now w.log w.a w.b inv.kept c ok; alone = inv.alone }
+each_keeps s w (LearnsTerm Secondary c) inv ok = record { kept = kept_takes_higher_b s w.now w.log w.a w.b inv.kept c ok; alone = inv.alone }
+each_keeps s w (GoesDown Primary reading) inv ok = record { kept = kept_goes_down_a s w.now w.log w.a w.b inv.kept reading ok.0.1 ok.1 ok.2 ok.3; alone = inv.alone }
+each_keeps s w (GoesDown Secondary reading) inv ok = record { kept = kept_goes_down_b s w.now w.log w.a w.b inv.kept reading ok.0.1 ok.1 ok.2 ok.3; alone = inv.alone }
+each_keeps s w (GoesUp Primary) inv ok = record { kept = kept_goes_up_a s w.now w.log w.a w.b inv.kept; alone = inv.alone }
+each_keeps s w (GoesUp Secondary) inv ok = record { kept = kept_goes_up_b s w.now w.log w.a w.b inv.kept; alone = inv.alone }
+each_keeps s w (Seizes Primary reading) inv ok = record { kept = kept_seizes_a s w.now w.log w.a w.b inv.kept reading ok.0 ok.1.0 ok.2.0 ok.2.1 ok.2.2 ok.2.3; alone = inv.alone }
+each_keeps s w (Seizes Secondary reading) inv ok = record { kept = kept_seizes_b s w.now w.log w.a w.b inv.kept reading ok.0 ok.1.0 ok.2.0 ok.2.1 ok.2.2 ok.2.3; alone = inv.alone }
+each_keeps s w (Stops Primary) inv ok = record { kept = kept_stops_a s w.now w.log w.a w.b inv.kept; alone = inv.alone }
+each_keeps s w (Stops Secondary) inv ok = record { kept = kept_stops_b s w.now w.log w.a w.b inv.kept; alone = inv.alone }
+each_keeps s w (Restarts Primary) inv ok = record { kept = kept_restarts_a s w.now w.log w.a w.b inv.kept; alone = inv.alone }
+each_keeps s w (Restarts Secondary) inv ok = record { kept = kept_restarts_b s w.now w.log w.a w.b inv.kept; alone = inv.alone }
+each_keeps s w (Passes n) inv ok = record { kept = passes s w.now w.log w.a w.b n inv.kept; alone = inv.alone }
+
+all_keep : (s : Setting) (es : List UnitEvent) (w : UnitWorld) → Inv s w → MayHappen s w es → Inv s (world_after s w es)
+all_keep s [] w inv run = inv
+all_keep s (e ∷ es) w inv run = all_keep s es (next s w e) (each_keeps s w e inv run.0) run.1
+
+pub one_holder : OneHolder
+one_holder s es run m j k h h' = (all_keep s es start (at_start s) run).alone m j k h h'
+
+laws : (s : Setting) (w : UnitWorld) (side : Role) → Kept s w.now w.log w.a w.b
+    → PartnerWaits (server side w) (server (partner_of side) w) × IsAckTold side (server side w) (server (partner_of side) w) × EndsInTime s side w
+laws s w Primary kept = (kept.servers.there.law, ack_told_a s w.now w.log w.a w.b kept, in_time_a s w.now w.log w.a w.b kept)
+laws s w Secondary kept = (kept.servers.back.law, ack_told_b s w.now w.log w.a w.b kept, in_time_b s w.now w.log w.a w.b kept)
+
+pub partner_down_laws : PartnerDownLaws
+partner_down_laws s es run side = laws s (world_after s start es) side (all_keep s es start (at_start s) run).kept

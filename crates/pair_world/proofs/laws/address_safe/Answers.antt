@@ -1,0 +1,8 @@
+use Rattle.pair_world.proofs.Results.{address_safe, lease_safe}
+use Rattle.pair_world.proofs.laws.address_safe.Goals as goal
+
+pub returns-clause-clients : goal.returns-clause-clients
+returns-clause-clients c = address_safe
+
+pub returns-clause-bindings : goal.returns-clause-bindings
+returns-clause-bindings c = lease_safe

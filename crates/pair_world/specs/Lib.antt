@@ -1,0 +1,4 @@
+pub mod UnitWorld
+pub mod UnitSafe
+pub mod PairWorld
+pub mod PairSafe

@@ -1,0 +1,37 @@
+//! Pair safety, over the definitions in specs/ alone.
+
+ghost use Rattle.pair_world.specs.UnitSafe.{OneHolder, PartnerDownLaws};
+ghost use Rattle.pair_world.specs.PairSafe.{WorldIsRun, AddressSafe, LeaseSafe, PartnerStandsBack, AckWasTold, EndsInTime};
+
+/// In a world of one unit: whatever the two servers, the clocks and the link do, no two bindings have the unit at one
+/// moment.
+pub fn one_holder_ever()
+    ensures { OneHolder }
+{}
+
+/// In a world of one unit: while a server takes its partner for down or has the unit marked, the partner is stopped or
+/// waits unanswered; what the partner has acknowledged was told; and its grants end in time.
+pub fn partner_down_laws()
+    ensures { PartnerDownLaws }
+{}
+
+/// What happened in a world is a run of the pair, with all clocks within the skew, and its journals are the lines of the
+/// two servers.
+pub fn world_is_run()
+    ensures { WorldIsRun }
+{}
+
+/// Pair safety: after any list of events no address is held by two clients at any moment, nor by two identity
+/// associations of one client.
+pub fn address_safe()
+    ensures clients { AddressSafe }
+    ensures bindings { LeaseSafe }
+{}
+
+/// While a server takes its partner for down, or has a unit marked: the partner is stopped, or it waits and nothing that
+/// was sent so far answers it; the ends that it has acknowledged were told here; and its delegations end in time.
+pub fn partner_stands_back()
+    ensures waits { PartnerStandsBack }
+    ensures told { AckWasTold }
+    ensures ends { EndsInTime }
+{}
