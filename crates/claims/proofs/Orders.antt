@@ -124,8 +124,7 @@ module _ {T : Type 0} (named : T → Ref) (entries : List T) (order : List ℕ) 
       let at = h.whole k (slice_get_within entries k n.0 n.1) in
       let same : place_at named entries (get_or order at.0 k) ≡ place_of line = ap (place_at named entries) at.2 ∙ (ap (place_in named) n.1 ∙ ap place_of n.2) in
       let low : first ≤ at.0 = elim (cases_lt at.0 first) [ inl lt ↦ absurd (omega (arith, before_first at.0 k lt, same)) | inr le ↦ le ] in
-      let high : at.0 < behind = elim (cases_lt at.0 behind) [ inl lt ↦ lt | inr le ↦ absurd (omega (arith, from_behind at.0 k le at.1, same)) ] in
-      (
+      let high : at.0 < behind = elim (cases_lt at.0 behind) [ inl lt ↦ lt | inr le ↦ absurd (omega (arith, from_behind at.0 k le at.1, same)) ] in (
         at.0 - first,
         omega (arith, low, high, length-between order first behind within),
         get_or-between order first behind (at.0 - first) k (omega (arith, low, high)) ∙ (ap (λ (i : ℕ). get_or order i k) (let z : first + (at.0 - first) ≡ at.0 = omega (arith, low) in z) ∙ at.2),

@@ -13,7 +13,10 @@ fn never_accepts_a_cut_input(rt: HostRuntime) -> Result<(), Fail> {
         let answer = judge(&rt, rt.alloc(), &bytes[..length], skew, Transit::ZERO)?;
         assert_eq!(rt; answer.status, 1, "cut to {length}");
     }
-    assert_eq!(rt; judge(&rt, rt.alloc(), bytes, skew, Transit::ZERO)?.status, 0);
+    assert_eq!(rt;
+        judge(&rt, rt.alloc(), bytes, skew, Transit::ZERO)?.status,
+        0
+    );
     Ok(())
 }
 

@@ -103,7 +103,13 @@ fn tells_a_write_that_fails(rt: HostRuntime) -> Result<(), Fail> {
                 fails_at,
                 tells,
             });
-            let status = run(&rt, rt.alloc(), &Command::Timeline, &mut reader, &mut writer);
+            let status = run(
+                &rt,
+                rt.alloc(),
+                &Command::Timeline,
+                &mut reader,
+                &mut writer,
+            );
             let calls = CHAINED_IN_ORDER.len().div_ceil(512) as u32;
             let wanted = if fails_at <= calls {
                 Err(DeskError::Write)

@@ -138,7 +138,13 @@ fn prints_lines_in_order(rt: HostRuntime) -> Result<(), Fail> {
     for (input, wanted, status) in RUNS {
         let mut reader = Watched::new(input.as_bytes());
         let mut writer = Watched::new(Vec::new(rt.alloc()));
-        let found = run(&rt, rt.alloc(), &Command::Timeline, &mut reader, &mut writer)?;
+        let found = run(
+            &rt,
+            rt.alloc(),
+            &Command::Timeline,
+            &mut reader,
+            &mut writer,
+        )?;
         assert_eq!(rt; found, status);
         assert_eq!(rt; writer.into_device().as_slice(), wanted.as_bytes());
     }
