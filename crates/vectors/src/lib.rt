@@ -12,7 +12,11 @@ mod headline;
 #[cfg(test)]
 mod inputs;
 #[cfg(test)]
+mod orders;
+#[cfg(test)]
 mod reasons;
+#[cfg(test)]
+mod releases;
 #[cfg(test)]
 mod round_trips;
 #[cfg(test)]

@@ -84,7 +84,7 @@ fn holds(
         from: Reading::new(asked.from)?,
         to: Reading::new(asked.to)?,
         pieces: PieceList::new(Vec::new(alloc)),
-        foreign: ForeignList::new(Vec::new(alloc)),
+        foreign: ForeignList::new(alloc),
     };
     let entry = Foreign {
         grant: line_of_a(number),

@@ -22,8 +22,9 @@ fn given<S: LineSource>(
     prefix: &Prefix,
 ) -> Result<Vec<Ref>, AllocError> {
     let mut refs = Vec::new(alloc);
-    for index in 0..source.overlap_count(prefix) {
-        refs.push(source.overlap_at(prefix, index))?;
+    let mut walk = source.overlaps(prefix);
+    while let Some(at) = source.next_overlap(prefix, &mut walk) {
+        refs.push(at)?;
     }
     Ok(refs)
 }

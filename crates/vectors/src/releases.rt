@@ -1,0 +1,85 @@
+//! Each source gives the same releases of a delegation.
+
+use attribution::{Delegation, Lasting};
+use auditor::{LineSource, PlainSource};
+use causal_order::Ref;
+use client_id::{Duid, Iaid};
+use journal_merge::merge;
+use journal_text::{read, written_is_closed};
+use line_index::LineIndex;
+use prefix_range::read_canonical;
+use std::alloc::{AllocError, Global};
+use std::test::Fail;
+
+/// The lines that a source gives for a delegation.
+fn returned<S: LineSource>(
+    alloc: Global,
+    source: &S,
+    delegation: &Delegation,
+) -> Result<Vec<Ref>, AllocError> {
+    let mut refs = Vec::new(alloc);
+    let mut walk = source.releases(delegation);
+    while let Some(at) = source.next_release(delegation, &mut walk) {
+        refs.push(at)?;
+    }
+    Ok(refs)
+}
+
+/// Grants and releases of two prefixes by clients that an index can't tell apart by their last octets and identity
+/// associations alone.
+const PRIMARY: &str = "pd-journal 1 A
+1 5 release 000300 00000001 2001:0db8:0000:0100:0000:0000:0000:0000/56
+2 5 release 000301 00000000 2001:0db8:0000:0100:0000:0000:0000:0000/56
+3 5 release 000300 00000001 2001:0db8:0000:0200:0000:0000:0000:0000/56
+4 5 grant 000300 00000001 2001:0db8:0000:0100:0000:0000:0000:0000/56 3600
+5 5 release 000300 00000001 2001:0db8:0000:0100:0000:0000:0000:0000/56
+6 5 release 000300 00010000 2001:0db8:0000:0100:0000:0000:0000:0000/56
+7 5 close
+end 7
+";
+
+const SECONDARY: &str = "pd-journal 1 B
+1 5 release 000301 00000000 2001:0db8:0000:0100:0000:0000:0000:0000/56
+2 5 release 000300 00000001 2001:0db8:0000:0100:0000:0000:0000:0000/56
+3 5 release 000300 00000001 2001:0db8:0000:0100:0000:0000:0000:0000/64
+4 5 close
+end 4
+";
+
+const UNIT: &str = "2001:0db8:0000:0100:0000:0000:0000:0000/56";
+
+/// A client, its identity association and a prefix, and how many lines give that back.
+const ASKED: [(&str, u32, &str, usize); 6] = [
+    ("000300", 1, UNIT, 3),
+    ("000301", 0, UNIT, 2),
+    ("000300", 65_536, UNIT, 1),
+    ("000300", 0, UNIT, 0),
+    ("000302", 1, UNIT, 0),
+    ("000300", 1, "2001:0db8:0000:0000:0000:0000:0000:0000/48", 0),
+];
+
+#[test]
+fn finds_the_releases(rt: HostRuntime) -> Result<(), Fail> {
+    written_is_closed();
+    let a = read(rt.alloc(), PRIMARY.as_bytes())?;
+    let b = read(rt.alloc(), SECONDARY.as_bytes())?;
+    let merged = merge(rt.alloc(), &a, &b)?;
+    let index = LineIndex::build(&rt, rt.alloc(), &a, &b, &merged)?;
+    let plain = PlainSource::new(&a, &b);
+    for (client, iaid, prefix, count) in ASKED {
+        let delegation = Delegation {
+            client: Duid::from_hex(client.as_bytes())?,
+            iaid: Iaid(iaid),
+            prefix: read_canonical(prefix.as_bytes())?,
+            lasting: Lasting::For(3600),
+        };
+        let walked = returned(rt.alloc(), &plain, &delegation)?;
+        let found = returned(rt.alloc(), &index, &delegation)?;
+        assert_eq!(rt; walked.len(), count);
+        assert_eq!(rt; found.len(), count);
+        for at in &walked {
+            assert!(rt; found.contains(at));
+        }
+    }
+    Ok(())
+}
