@@ -37,16 +37,12 @@ fn clears<L: Lines>(lines: &L, piece: &Piece, index: u32, release: Ref, skew: Sk
 }
 
 /// Whether the clear entry at one of these indexes does.
-fn one_clears<L: Lines>(
-    lines: &L,
-    piece: &Piece,
-    indexes: &[u32],
-    release: Ref,
-    skew: Skew,
-) -> bool
+fn one_clears<L: Lines>(lines: &L, piece: &Piece, indexes: &[u32], release: Ref, skew: Skew) -> bool
     ensures { IsTrue result ↔ OneClears (L.journals lines.now) skew piece.now release indexes.now }
 {
-    indexes.iter().any(|index| clears(lines, piece, *index, release, skew))
+    indexes
+        .iter()
+        .any(|index| clears(lines, piece, *index, release, skew))
 }
 
 /// Whether some clear entry of the piece discharges the release.

@@ -1,10 +1,10 @@
 -- The order in which entries are found, as entries are added and as it is searched.
-use Rattle.std.specs.Prelude.{◌≡◌, ℕ, ◌+◌, ◌-◌, ◌^◌, ◌<◌, ◌≤◌, ◌↔◌, List, [], ◌∷◌, ◌++◌, length, All, Option, Some, slice_get, Contains as Has}
+use Rattle.std.specs.Prelude.{◌≡◌, ℕ, ◌+◌, ◌-◌, ◌^◌, ◌<◌, ◌≤◌, ◌↔◌, List, [], ◌∷◌, ◌++◌, length, All, Some, slice_get, Contains as Has}
 use Rattle.std.specs.List.{insert, between}
 use Rattle.std.specs.List.Sorted.{IsNonDecreasingBy, IsPermutation}
 use Rattle.std.proofs.Common.{zero, suc, sym, ◌∙◌, ap, subst, refl, arith, get_or, inl, inr}
 use Rattle.std.proofs.lemmas.Bool.{cases_lt}
-use Rattle.std.proofs.lemmas.List.Elements.{All-push, All-cons, All-weaker, All-get_or, Contains-append_right}
+use Rattle.std.proofs.lemmas.List.Elements.{All-push, All-cons, All-weaker, Contains-append_right}
 use Rattle.std.proofs.lemmas.List.Sorted.{IsNonDecreasingBy-insert, IsPermutation-insert, All-permutation, Contains-permutation}
 use Rattle.std.proofs.lemmas.Option.{slice_get_within, slice_get_cases}
 use Rattle.std.proofs.Common.{length-append}
@@ -124,8 +124,7 @@ module _ {T : Type 0} (named : T → Ref) (entries : List T) (order : List ℕ) 
       let at = h.whole k (slice_get_within entries k n.0 n.1) in
       let same : place_at named entries (get_or order at.0 k) ≡ place_of line = ap (place_at named entries) at.2 ∙ (ap (place_in named) n.1 ∙ ap place_of n.2) in
       let low : first ≤ at.0 = elim (cases_lt at.0 first) [ inl lt ↦ absurd (omega (arith, before_first at.0 k lt, same)) | inr le ↦ le ] in
-      let high : at.0 < behind = elim (cases_lt at.0 behind) [ inl lt ↦ lt | inr le ↦ absurd (omega (arith, from_behind at.0 k le at.1, same)) ] in
-      (
+      let high : at.0 < behind = elim (cases_lt at.0 behind) [ inl lt ↦ lt | inr le ↦ absurd (omega (arith, from_behind at.0 k le at.1, same)) ] in (
         at.0 - first,
         omega (arith, low, high, length-between order first behind within),
         get_or-between order first behind (at.0 - first) k (omega (arith, low, high)) ∙ (ap (λ (i : ℕ). get_or order i k) (let z : first + (at.0 - first) ≡ at.0 = omega (arith, low) in z) ∙ at.2),
