@@ -16,7 +16,6 @@ use Rattle.journal_lines.specs.declared.line.Line.{Line}
 use Rattle.claims.specs.declared.reference.Ref.{Ref}
 use Rattle.causal_order.specs.Journals.{Journals, Names, journal_of}
 use Rattle.attribution.specs.declared.delegation.Delegation.{Delegation}
-use Rattle.attribution.specs.Acceptance.{GivesBack}
 use Rattle.attribution.specs.Listing.{Concerns, IsListing}
 use Rattle.attribution.specs.Tests.{overlaps, is_release_of}
 use Rattle.attribution.proofs.Deciding.{decides_overlaps, decides_release}
