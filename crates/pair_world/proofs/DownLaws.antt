@@ -16,7 +16,7 @@ use Rattle.book_rules.specs.declared.pool.Pool.{Pool}
 use Rattle.server_book.specs.Settings.{ServerSettings}
 use Rattle.attribution.specs.Run.{IsValidAt, StartInTime}
 use Rattle.pair_world.specs.PairSafe.{AckWasTold, EndsInTime, IsTheirs, PartnerStandsBack, StandsBack}
-use Rattle.pair_world.specs.UnitWorld.{IsAlone, first}
+use Rattle.pair_world.specs.UnitWorld.{IsAlone}
 use Rattle.pair_world.specs.PairWorld.{PairWorld, book, is_stopped}
 use Rattle.pair_world.specs.UnitSafe.{Runs}
 use Rattle.pair_world.proofs.Worlds.{Good, book_is, good}
@@ -56,17 +56,23 @@ module _ (s : ServerSettings) (w : PairWorld) (is : Good s w) where
   law_a p unit off =
       let same = book_at s w is Secondary in
       by_word ((is.known p unit).kept.servers.there.law off) (λ st. inl st)
-      (λ waits. inr (ap (λ (b : Book). b.waiting) same ∙ waits.0, λ m ask answer sent body.
-      subst (λ (b : Book). answer ≢ b.restart) (sym same)
-      (waits.1 (record { ask = ask; answer = answer }) (sent_contact (messages Primary w.run []) m ask answer (numbered_in Primary w.run w.a.lines sent.0 m is.journal_a.lines sent.1) body))))
+      (λ waits. inr (
+        ap (λ (b : Book). b.waiting) same ∙ waits.0,
+        λ m ask answer sent body.
+            subst (λ (b : Book). answer ≢ b.restart) (sym same)
+            (waits.1 (record { ask = ask; answer = answer }) (sent_contact (messages Primary w.run []) m ask answer (numbered_in Primary w.run w.a.lines sent.0 m is.journal_a.lines sent.1) body)),
+      ))
 
   law_b : (p : Prefix) → is_unit s.pools p ≡ true → IsAlone (server_of p (book_in Secondary w.run) (messages Secondary w.run []) w.stopped_b) → StandsBack w Primary
   law_b p unit off =
       let same = book_at s w is Primary in
       by_word ((is.known p unit).kept.servers.back.law off) (λ st. inl st)
-      (λ waits. inr (ap (λ (b : Book). b.waiting) same ∙ waits.0, λ m ask answer sent body.
-      subst (λ (b : Book). answer ≢ b.restart) (sym same)
-      (waits.1 (record { ask = ask; answer = answer }) (sent_contact (messages Secondary w.run []) m ask answer (numbered_in Secondary w.run w.b.lines sent.0 m is.journal_b.lines sent.1) body))))
+      (λ waits. inr (
+        ap (λ (b : Book). b.waiting) same ∙ waits.0,
+        λ m ask answer sent body.
+            subst (λ (b : Book). answer ≢ b.restart) (sym same)
+            (waits.1 (record { ask = ask; answer = answer }) (sent_contact (messages Secondary w.run []) m ask answer (numbered_in Secondary w.run w.b.lines sent.0 m is.journal_b.lines sent.1) body)),
+      ))
 
   -- at a unit a server is alone by its book
   abbrev IsAloneAt : Role → Prefix → Type 0

@@ -34,3 +34,4 @@ pub mod Results
 pub mod DownLaws
 pub mod Numbers
 pub mod Runs
+pub mod HolderLaws

@@ -17,7 +17,6 @@ use Rattle.pair_world.proofs.Worlds.{Good, good}
 use Rattle.pair_world.proofs.Phases.{by_word}
 use Rattle.pair_world.proofs.Books.{holder_of}
 use Rattle.pair_world.proofs.Traces.{is_run}
-use Rattle.pair_world.proofs.EndsSteps.{later}
 use Rattle.pair_world.proofs.Lists.{log_of}
 use Rattle.pair_world.proofs.Units.{one_unit}
 use Rattle.pair_world.proofs.Valid.{valid_holds}

@@ -1,6 +1,6 @@
 -- Pair safety: what every world of two books keeps, whatever is served, delivered, stopped and restarted.
-use Rattle.std.specs.Prelude.{◌≡◌, ◌≢◌, ◌⊎◌, ℕ, ◌+◌, ◌*◌, ◌^◌, ◌≤◌, ⊤, false, true, List, max, Some, Result, Ok, Err}
-use Rattle.prefix_range.specs.Prefix.{Prefix, IsPrefix, HasAddress}
+use Rattle.std.specs.Prelude.{◌≡◌, ◌≢◌, ◌⊎◌, ℕ, ◌+◌, ◌*◌, ◌^◌, ◌≤◌, false, true, List, max, Some}
+use Rattle.prefix_range.specs.Prefix.{Prefix, HasAddress}
 use Rattle.binding_rules.specs.declared.role.Role.{Role}
 use Rattle.binding_rules.specs.Role.{partner_of}
 use Rattle.binding_rules.specs.declared.message.Body.TheVariants.{Contact}
@@ -11,11 +11,9 @@ use Rattle.binding_rules.specs.Giving.{is_own}
 use Rattle.journal_lines.specs.declared.event.Lease.{Lease}
 use Rattle.book_rules.specs.Book.{IsUnit, IsCalm}
 use Rattle.book_rules.specs.NextHead.{IsLegal}
-use Rattle.server_book.specs.declared.reply.Reply.{Reply}
 use Rattle.server_book.specs.Settings.{ServerSettings, AreFit}
-use Rattle.attribution.specs.Run.{Step, lines_of, IsRun, KeepsSkew, StartInTime, IsValidAt, Holds}
+use Rattle.attribution.specs.Run.{lines_of, IsRun, KeepsSkew, StartInTime, IsValidAt, Holds}
 use Rattle.pair_world.specs.declared.event.Event.{Event}
-use Rattle.pair_world.specs.declared.error.WorldError.{WorldError}
 use Rattle.pair_world.specs.PairWorld.{PairWorld, journal, book, is_stopped, AreAlike, new_world, WasSent, Reaches}
 
 -- settings by which the pair may open at a moment: each within its limits, and alike

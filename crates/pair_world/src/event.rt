@@ -23,7 +23,10 @@ pub enum Event {
     /// A server stops. Its journal survives.
     Stop(Role),
     /// A stopped server begins again.
-    Restart { side: Role, clock: Reading },
+    Restart {
+        side: Role,
+        clock: Reading,
+    },
     /// So many milliseconds of true time pass.
     Pass(u64),
 }

@@ -9,8 +9,10 @@
 //! ```
 #![tactic(auto)]
 
+mod client;
 mod error;
 mod event;
+mod holding;
 mod laws;
 mod messages;
 mod run_step;
@@ -19,8 +21,8 @@ mod world;
 
 pub use error::WorldError;
 pub use event::Event;
-pub use run_step::Step;
-pub use world::World;
 pub use laws::{
     address_safe, one_holder_ever, partner_down_laws, partner_stands_back, world_is_run,
 };
+pub use run_step::Step;
+pub use world::World;

@@ -83,22 +83,8 @@ impl World {
             × (self.new ≡ self.old)) }
     {
         match side {
-            Role::Primary => write(
-                &mut self.run,
-                &mut self.a,
-                side,
-                self.moment,
-                clock,
-                order,
-            ),
-            Role::Secondary => write(
-                &mut self.run,
-                &mut self.b,
-                side,
-                self.moment,
-                clock,
-                order,
-            ),
+            Role::Primary => write(&mut self.run, &mut self.a, side, self.moment, clock, order),
+            Role::Secondary => write(&mut self.run, &mut self.b, side, self.moment, clock, order),
         }
     }
 

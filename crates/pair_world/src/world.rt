@@ -44,7 +44,12 @@ impl Model for World {
 }
 
 /// Adds the steps by which a server wrote lines at a moment.
-fn add_steps(run: &mut Vec<Step>, side: Role, moment: Reading, lines: &[Line]) -> Result<(), AllocError>
+fn add_steps(
+    run: &mut Vec<Step>,
+    side: Role,
+    moment: Reading,
+    lines: &[Line],
+) -> Result<(), AllocError>
     ensures { OnOk result (run.new.items ≡ run.old.items ++ steps_of side moment lines.now) }
 {
     for line in lines {
