@@ -39,7 +39,7 @@ pools_at : (s : ServerSettings) (w : PairWorld) → Good s w → (side : Role) �
 pools_at s w g Primary = ap (λ (b : Book). b.pools) (book_at s w g Primary) ∙ g.settled.of_a.pools_are
 pools_at s w g Secondary = ap (λ (b : Book). b.pools) (book_at s w g Secondary) ∙ g.settled.of_b.pools_are
 
-unit_at : (s : ServerSettings) (w : PairWorld) → Good s w → (side : Role) (p : Prefix) → is_unit (book side w).pools p ≡ true → is_unit s.pools p ≡ true
+pub unit_at : (s : ServerSettings) (w : PairWorld) → Good s w → (side : Role) (p : Prefix) → is_unit (book side w).pools p ≡ true → is_unit s.pools p ≡ true
 unit_at s w g side p h = subst (λ ps. is_unit ps p ≡ true) (pools_at s w g side) h
 
 -- a unit of each list of pools that has one

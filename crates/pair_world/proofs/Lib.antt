@@ -35,3 +35,4 @@ pub mod DownLaws
 pub mod Numbers
 pub mod Runs
 pub mod HolderLaws
+pub mod OneNow

@@ -1,5 +1,5 @@
 pub mod UnitWorld
 pub mod UnitSafe
 pub mod PairWorld
-pub mod PairSafe
 pub mod Holders
+pub mod PairSafe

@@ -9,6 +9,7 @@
 //! ```
 #![tactic(auto)]
 
+mod alike;
 mod client;
 mod error;
 mod event;
@@ -19,6 +20,7 @@ mod run_step;
 mod stepping;
 mod world;
 
+pub use alike::are_alike;
 pub use error::WorldError;
 pub use event::Event;
 pub use laws::{
