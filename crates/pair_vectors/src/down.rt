@@ -31,7 +31,12 @@ fn taken_over(alloc: Global) -> Result<World, Fail> {
     let first = prefix(FIRST)?;
     done(answer(&mut world, &Event::Stop(Role::Secondary)))?;
     let now = at(10_000)?;
-    done(serve(&mut world, Role::Primary, now, Order::State(ServerState::Down)))?;
+    done(serve(
+        &mut world,
+        Role::Primary,
+        now,
+        Order::State(ServerState::Down),
+    ))?;
     done(answer(&mut world, &Event::Pass(3_604_000)))?;
     let later = at(3_614_000)?;
     done(serve(&mut world, Role::Primary, later, Order::Seize(first)))?;
@@ -43,7 +48,12 @@ fn taken_over(alloc: Global) -> Result<World, Fail> {
 fn a_running_partner_is_not_down(rt: HostRuntime) -> Result<(), Fail> {
     let mut world = given_away(rt.alloc())?;
     let now = at(10_000)?;
-    let down = serve(&mut world, Role::Primary, now, Order::State(ServerState::Down));
+    let down = serve(
+        &mut world,
+        Role::Primary,
+        now,
+        Order::State(ServerState::Down),
+    );
     assert_eq!(&rt; down, Err(WorldError::PartnerRuns));
     Ok(())
 }
@@ -53,9 +63,19 @@ fn a_unit_is_not_seized_a_millisecond_early(rt: HostRuntime) -> Result<(), Fail>
     let mut world = given_away(rt.alloc())?;
     done(answer(&mut world, &Event::Stop(Role::Secondary)))?;
     let now = at(10_000)?;
-    done(serve(&mut world, Role::Primary, now, Order::State(ServerState::Down)))?;
+    done(serve(
+        &mut world,
+        Role::Primary,
+        now,
+        Order::State(ServerState::Down),
+    ))?;
     done(answer(&mut world, &Event::Pass(3_603_999)))?;
-    let early = serve(&mut world, Role::Primary, at(3_613_999)?, Order::Seize(prefix(FIRST)?));
+    let early = serve(
+        &mut world,
+        Role::Primary,
+        at(3_613_999)?,
+        Order::Seize(prefix(FIRST)?),
+    );
     let refused = BookError::Rule {
         line: 7,
         rule: Rule::Seize,
@@ -81,19 +101,39 @@ fn the_mark_goes_before_the_partner_serves(rt: HostRuntime) -> Result<(), Fail> 
         clock: now,
     };
     done(answer(&mut world, &restart))?;
-    done(serve(&mut world, Role::Primary, now, Order::State(ServerState::Normal)))?;
+    done(serve(
+        &mut world,
+        Role::Primary,
+        now,
+        Order::State(ServerState::Normal),
+    ))?;
     done(serve(&mut world, Role::Primary, now, Order::SendContact))?;
-    assert!(&rt; is_taken(deliver(&mut world, Role::Secondary, 2, now), Outcome::Accept));
+    assert!(&rt;
+        is_taken(
+            deliver(&mut world, Role::Secondary, 2, now),
+            Outcome::Accept
+        )
+    );
     done(serve(&mut world, Role::Secondary, now, Order::SendUpdate(first)))?;
     assert!(&rt; is_taken(deliver(&mut world, Role::Primary, 2, now), Outcome::Reject));
     done(serve(&mut world, Role::Primary, now, Order::SendUpdate(first)))?;
-    assert!(&rt; is_taken(deliver(&mut world, Role::Secondary, 3, now), Outcome::Accept));
+    assert!(&rt;
+        is_taken(
+            deliver(&mut world, Role::Secondary, 3, now),
+            Outcome::Accept
+        )
+    );
     done(serve(&mut world, Role::Secondary, now, Order::SendReply(first)))?;
     assert!(&rt; is_taken(deliver(&mut world, Role::Primary, 3, now), Outcome::Accept));
     done(serve(&mut world, Role::Secondary, now, Order::SendContact))?;
     assert!(&rt; is_taken(deliver(&mut world, Role::Primary, 4, now), Outcome::Accept));
     done(serve(&mut world, Role::Primary, now, Order::SendContact))?;
-    assert!(&rt; is_taken(deliver(&mut world, Role::Secondary, 4, now), Outcome::Accept));
+    assert!(&rt;
+        is_taken(
+            deliver(&mut world, Role::Secondary, 4, now),
+            Outcome::Accept
+        )
+    );
     let nothing = serve(&mut world, Role::Secondary, now, Order::Request(asked(K3)?));
     assert_eq!(&rt; nothing, Err(WorldError::Book(BookError::NoPrefix)));
     Ok(())

@@ -16,7 +16,12 @@ fn a_message_counts_once(rt: HostRuntime) -> Result<(), Fail> {
     let first = prefix(FIRST)?;
     done(serve(&mut world, Role::Primary, now, Order::Request(asked(K1)?)))?;
     done(serve(&mut world, Role::Primary, now, Order::SendUpdate(first)))?;
-    assert!(&rt; is_taken(deliver(&mut world, Role::Secondary, 1, now), Outcome::Accept));
+    assert!(&rt;
+        is_taken(
+            deliver(&mut world, Role::Secondary, 1, now),
+            Outcome::Accept
+        )
+    );
     assert!(&rt; is_taken(deliver(&mut world, Role::Secondary, 1, now), Outcome::Drop));
     assert!(&rt; is_alone(&world, rt.alloc(), &first, K1)?);
     Ok(())

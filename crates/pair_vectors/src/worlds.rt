@@ -70,12 +70,22 @@ pub fn answer(world: &mut World, event: &Event) -> Result<Reply, WorldError> {
 }
 
 /// What a server answers to an order at a reading of its clock.
-pub fn serve(world: &mut World, side: Role, clock: Reading, order: Order) -> Result<Reply, WorldError> {
+pub fn serve(
+    world: &mut World,
+    side: Role,
+    clock: Reading,
+    order: Order,
+) -> Result<Reply, WorldError> {
     answer(world, &Event::Serve { side, clock, order })
 }
 
 /// What a server makes of its partner's message of this number.
-pub fn deliver(world: &mut World, side: Role, sent: u64, clock: Reading) -> Result<Reply, WorldError> {
+pub fn deliver(
+    world: &mut World,
+    side: Role,
+    sent: u64,
+    clock: Reading,
+) -> Result<Reply, WorldError> {
     answer(world, &Event::Deliver { side, sent, clock })
 }
 
