@@ -1,5 +1,5 @@
 -- A line of a book is, at each prefix, an event of the world of one unit: what the events do, and what the messages say.
-use Rattle.std.specs.Prelude.{◌≡◌, ◌+◌, ◌≤◌, ◌==◌, ◌∷◌, [], if◌then◌else◌, Bool, List, None, Some, false, length, true, ℕ}
+use Rattle.std.specs.Prelude.{◌≡◌, ◌+◌, ◌≤◌, ◌==◌, ◌∷◌, [], if◌then◌else◌, Bool, List, None, Some, false, true, ℕ}
 use Rattle.std.proofs.Common.{◌∙◌, ap, inl, inr, refl}
 use Rattle.std.proofs.lemmas.Bool.{and_from, and_parts, eq-eqb, eqb-true}
 use Rattle.prefix_range.specs.Prefix.{Prefix}

@@ -16,7 +16,7 @@ use Rattle.book_rules.specs.declared.pool.Pool.{Pool}
 use Rattle.server_book.specs.Settings.{ServerSettings}
 use Rattle.attribution.specs.Run.{IsValidAt, StartInTime}
 use Rattle.pair_world.specs.PairSafe.{AckWasTold, EndsInTime, IsTheirs, PartnerStandsBack, StandsBack}
-use Rattle.pair_world.specs.UnitWorld.{IsAlone, first}
+use Rattle.pair_world.specs.UnitWorld.{IsAlone}
 use Rattle.pair_world.specs.PairWorld.{PairWorld, book, is_stopped}
 use Rattle.pair_world.specs.UnitSafe.{Runs}
 use Rattle.pair_world.proofs.Worlds.{Good, book_is, good}
@@ -39,7 +39,7 @@ pools_at : (s : ServerSettings) (w : PairWorld) → Good s w → (side : Role) �
 pools_at s w g Primary = ap (λ (b : Book). b.pools) (book_at s w g Primary) ∙ g.settled.of_a.pools_are
 pools_at s w g Secondary = ap (λ (b : Book). b.pools) (book_at s w g Secondary) ∙ g.settled.of_b.pools_are
 
-unit_at : (s : ServerSettings) (w : PairWorld) → Good s w → (side : Role) (p : Prefix) → is_unit (book side w).pools p ≡ true → is_unit s.pools p ≡ true
+pub unit_at : (s : ServerSettings) (w : PairWorld) → Good s w → (side : Role) (p : Prefix) → is_unit (book side w).pools p ≡ true → is_unit s.pools p ≡ true
 unit_at s w g side p h = subst (λ ps. is_unit ps p ≡ true) (pools_at s w g side) h
 
 -- a unit of each list of pools that has one

@@ -34,3 +34,5 @@ pub mod Results
 pub mod DownLaws
 pub mod Numbers
 pub mod Runs
+pub mod HolderLaws
+pub mod OneNow

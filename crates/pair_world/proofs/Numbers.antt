@@ -1,6 +1,6 @@
 -- Messages found line by line: what the lines that are left have yet to tell.
-use Rattle.std.specs.Prelude.{◌≡◌, ◌≢◌, ℕ, ◌+◌, ◌-◌, ◌<◌, ◌≤◌, ◌⊎◌, List, [], ◌∷◌, length, Option, Some, None, slice_get, drop, get_or}
-use Rattle.std.proofs.Common.{zero, suc, arith, refl, ap, subst, sym, ◌∙◌, inl, inr, drop-cons, add-one}
+use Rattle.std.specs.Prelude.{◌≡◌, ◌≢◌, ℕ, ◌+◌, ◌-◌, ◌<◌, ◌≤◌, List, ◌∷◌, length, Some, None, slice_get, drop, get_or}
+use Rattle.std.proofs.Common.{zero, suc, arith, refl, ap, subst, sym, ◌∙◌, drop-cons, add-one}
 use Rattle.binding_rules.specs.declared.message.PartnerMessage.{PartnerMessage}
 use Rattle.journal_lines.specs.declared.line.Line.{Line}
 use Rattle.pair_world.specs.PairWorld.{message_in, with_sent, messages_of, IsNumbered, WasSent}

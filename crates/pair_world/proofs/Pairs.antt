@@ -21,7 +21,6 @@ use Rattle.pair_world.proofs.BookSteps.{Agrees, IsDownFor, IsFed, MayWrite, entr
 use Rattle.pair_world.proofs.Safety.{Invariant, alone_gives, alone_gives_back, passes}
 use Rattle.pair_world.proofs.Books.{Moves, server_of}
 use Rattle.pair_world.proofs.Effects.{by_test}
-use Rattle.pair_world.proofs.Servers.{goes_down, goes_up, restarts, says, stops, takes_contact}
 use Rattle.pair_world.proofs.KeptA.{kept_expires_a, kept_goes_down_a, kept_goes_up_a, kept_grants_a, kept_moves_a, kept_reclaims_a, kept_releases_a, kept_restarts_a, kept_says_a, kept_seizes_a, kept_sends_reply_a, kept_sends_update_a, kept_stops_a, kept_takes_a, kept_takes_contact_a, kept_takes_higher_a, kept_takes_reply_a}
 use Rattle.pair_world.proofs.KeptB.{kept_expires_b, kept_goes_down_b, kept_goes_up_b, kept_grants_b, kept_releases_b, kept_restarts_b, kept_says_b, kept_seizes_b, kept_sends_reply_b, kept_sends_update_b, kept_stops_b, kept_takes_b, kept_takes_contact_b, kept_takes_higher_b, kept_takes_reply_b}
 

@@ -17,7 +17,6 @@ use Rattle.pair_world.proofs.Worlds.{Good, good}
 use Rattle.pair_world.proofs.Phases.{by_word}
 use Rattle.pair_world.proofs.Books.{holder_of}
 use Rattle.pair_world.proofs.Traces.{is_run}
-use Rattle.pair_world.proofs.EndsSteps.{later}
 use Rattle.pair_world.proofs.Lists.{log_of}
 use Rattle.pair_world.proofs.Units.{one_unit}
 use Rattle.pair_world.proofs.Valid.{valid_holds}
@@ -44,11 +43,11 @@ holds s w is starts are i g m v =
     (λ j t lt at r. by_word (cases_lt m t.moment) (λ later. later) (λ le. absurd (v.kept (j, t, lt, at, r, le))))
 
 -- two units that share an address are one
-shared : (moment : ℕ) (s t : ServerSettings) → MayOpen moment s t → (p o : Prefix) (address : ℕ) → is_unit s.pools p ≡ true → is_unit s.pools o ≡ true → IsPrefix p → IsPrefix o → HasAddress p address → HasAddress o address → p ≡ o
+pub shared : (moment : ℕ) (s t : ServerSettings) → MayOpen moment s t → (p o : Prefix) (address : ℕ) → is_unit s.pools p ≡ true → is_unit s.pools o ≡ true → IsPrefix p → IsPrefix o → HasAddress p address → HasAddress o address → p ≡ o
 shared moment s t opens p o address = one_unit s.pools p o address opens.first_fits.within.each opens.first_fits.disjoint
 
 -- two delegations of one unit at one moment are one binding's, whenever they started
-one_binding : (s : ServerSettings) (w : PairWorld) → Good s w → (starts others : ℕ → ℕ) → StartInTime s.transit w.run starts → StartInTime s.transit w.run others → (i j : ℕ) (g h : Lease) (m : ℕ)
+pub one_binding : (s : ServerSettings) (w : PairWorld) → Good s w → (starts others : ℕ → ℕ) → StartInTime s.transit w.run starts → StartInTime s.transit w.run others → (i j : ℕ) (g h : Lease) (m : ℕ)
     → IsValidAt w.run starts i g m → IsValidAt w.run others j h m → h.prefix ≡ g.prefix → holder_of g.client g.iaid ≡ holder_of h.client h.iaid
 one_binding s w is starts others are are' i j g h m v v' same =
     let x = holds s w is starts are i g m v in

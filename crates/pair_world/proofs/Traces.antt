@@ -16,13 +16,12 @@ use Rattle.book_rules.specs.Rules.{IsStep}
 use Rattle.book_rules.specs.declared.rule.Rule.TheVariants.{Sequence}
 use Rattle.book_rules.specs.Effects.{after}
 use Rattle.attribution.specs.Run.{At, IsRun, KeepsSkew, Step, lines_of}
-use Rattle.pair_world.specs.PairWorld.{book, steps_of}
+use Rattle.pair_world.specs.PairWorld.{steps_of}
 use Rattle.pair_world.specs.PairSafe.{first_volume}
 use Rattle.pair_world.proofs.Lists.{IsSentAt, at_append, at_below, at_split, book_append, lines_other, lines_same, own_side, side_same, steps_append}
 use Rattle.pair_world.proofs.Kept.{by_bool}
 use Rattle.pair_world.proofs.Effects.{by_test}
 use Rattle.pair_world.proofs.Phases.{by_word}
-use Rattle.pair_world.proofs.BookSteps.{step}
 
 abbrev pub IsSentBefore : List Step → Role → ℕ → PartnerMessage → Type 0
 IsSentBefore run side i m = (j : ℕ) × (t : Step) × (j < i) × At run j t × (t.side ≡ side) × (t.line.event ≡ Send m)

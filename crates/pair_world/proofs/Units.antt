@@ -1,5 +1,5 @@
 -- Two units of one list of pools that share an address are one.
-use Rattle.std.specs.Prelude.{◌≡◌, ◌+◌, ◌-◌, ◌*◌, ◌/◌, ◌%◌, ◌^◌, ◌≤◌, ◌==◌, ◌∷◌, [], All, Contains as Has, List, length, true, ℕ}
+use Rattle.std.specs.Prelude.{◌≡◌, ◌+◌, ◌-◌, ◌*◌, ◌/◌, ◌%◌, ◌^◌, ◌≤◌, ◌==◌, ◌∷◌, [], All, Contains as Has, List, true, ℕ}
 use Rattle.std.proofs.Common.{◌∙◌, ap, arith, refl, shr-shr, subst, suc, sym}
 use Rattle.std.proofs.lemmas.List.Elements.{All-head, All-tail}
 use Rattle.std.proofs.lemmas.Bool.{and_parts, eqb-true, or_cases}

@@ -74,6 +74,7 @@ book_is side run j is =
 
 pub record Good (s : ServerSettings) (w : PairWorld) : Type 0 where
   pub skew_is : w.skew ≡ s.skew
+  pub transit_is : w.transit ≡ s.transit
   pub trace : Trace s.skew w.moment w.run
   pub journal_a : IsJournalIn Primary w.run w.a
   pub journal_b : IsJournalIn Secondary w.run w.b
@@ -157,6 +158,7 @@ module _ (s : ServerSettings) (w : PairWorld) (good : Good s w) where
       λ m e. let n = sh.fed m e in numbered_in Secondary w.run w.b.lines n.0 m good.journal_b.lines n.1 in
       record {
         skew_is = good.skew_is;
+        transit_is = good.transit_is;
         trace = trace_on s.skew w.moment w.run good.trace t refl ahead behind (λ m e. let n = sh.fed m e in numbered_at Secondary w.run w.b.lines n.0 m good.journal_b.lines n.1) legal;
         journal_a = record { role = good.journal_a.role; head = good.journal_a.head; lines = ap (λ z. z ++ l ∷ []) good.journal_a.lines ∙ sym (lines_same Primary w.run t refl) };
         journal_b = record { role = good.journal_b.role; head = good.journal_b.head; lines = good.journal_b.lines ∙ sym (lines_other Secondary w.run t refl) };
@@ -185,6 +187,7 @@ module _ (s : ServerSettings) (w : PairWorld) (good : Good s w) where
   stop_good_a : Good s (with_stop Primary true w)
   stop_good_a = record {
     skew_is = good.skew_is;
+    transit_is = good.transit_is;
     trace = good.trace;
     journal_a = good.journal_a;
     journal_b = good.journal_b;
@@ -227,6 +230,7 @@ module _ (s : ServerSettings) (w : PairWorld) (good : Good s w) where
       λ m e. let n = sh.fed m e in numbered_in Primary w.run w.a.lines n.0 m good.journal_a.lines n.1 in
       record {
         skew_is = good.skew_is;
+        transit_is = good.transit_is;
         trace = trace_on s.skew w.moment w.run good.trace t refl ahead behind (λ m e. let n = sh.fed m e in numbered_at Primary w.run w.a.lines n.0 m good.journal_a.lines n.1) legal;
         journal_b = record { role = good.journal_b.role; head = good.journal_b.head; lines = ap (λ z. z ++ l ∷ []) good.journal_b.lines ∙ sym (lines_same Secondary w.run t refl) };
         journal_a = record { role = good.journal_a.role; head = good.journal_a.head; lines = good.journal_a.lines ∙ sym (lines_other Primary w.run t refl) };
@@ -255,6 +259,7 @@ module _ (s : ServerSettings) (w : PairWorld) (good : Good s w) where
   stop_good_b : Good s (with_stop Secondary true w)
   stop_good_b = record {
     skew_is = good.skew_is;
+    transit_is = good.transit_is;
     trace = good.trace;
     journal_a = good.journal_a;
     journal_b = good.journal_b;
@@ -284,6 +289,7 @@ good_new moment s t opens =
     let idle : book_in Secondary run_a ≡ blank Secondary 1 = ap (book_after (blank Secondary 1)) (lines_of_partner Secondary moment ls) in
     record {
       skew_is = refl;
+      transit_is = refl;
       trace = trace_lines s.skew moment Secondary ms run_a trace_a (subst (λ b. AreSteps b ms) (sym idle) legal_b) g.1;
       journal_a = record { role = opens.alike.first; head = refl; lines = sym of_a };
       journal_b = record { role = opens.alike.second; head = refl; lines = sym of_b };
@@ -320,6 +326,7 @@ module _ (s : ServerSettings) (w : PairWorld) (good : Good s w) where
   pass_good : (n : ℕ) → Good s (record w { moment = w.moment + n })
   pass_good n = record {
     skew_is = good.skew_is;
+    transit_is = good.transit_is;
     trace = trace_later s.skew w.moment n w.run good.trace;
     journal_a = good.journal_a;
     journal_b = good.journal_b;

@@ -1,4 +1,5 @@
 pub mod UnitWorld
 pub mod UnitSafe
 pub mod PairWorld
+pub mod Holders
 pub mod PairSafe

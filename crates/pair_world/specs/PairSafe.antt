@@ -1,7 +1,10 @@
 -- Pair safety: what every world of two books keeps, whatever is served, delivered, stopped and restarted.
-use Rattle.std.specs.Prelude.{◌≡◌, ◌≢◌, ◌⊎◌, ℕ, ◌+◌, ◌*◌, ◌^◌, ◌≤◌, ⊤, false, true, List, max, Some, Result, Ok, Err}
+use Rattle.std.specs.Prelude.{◌≡◌, ◌≢◌, ◌⊎◌, ℕ, ◌+◌, ◌*◌, ◌^◌, ◌≤◌, false, true, List, max, Some}
+use Rattle.std.specs.Prelude.{length, Result}
+use Rattle.server_book.specs.declared.reply.Reply.{Reply}
 use Rattle.prefix_range.specs.Prefix.{Prefix, IsPrefix, HasAddress}
 use Rattle.binding_rules.specs.declared.role.Role.{Role}
+use Rattle.binding_rules.specs.declared.role.Role.TheVariants.{Primary}
 use Rattle.binding_rules.specs.Role.{partner_of}
 use Rattle.binding_rules.specs.declared.message.Body.TheVariants.{Contact}
 use Rattle.binding_rules.specs.declared.message.PartnerMessage.{PartnerMessage}
@@ -11,12 +14,13 @@ use Rattle.binding_rules.specs.Giving.{is_own}
 use Rattle.journal_lines.specs.declared.event.Lease.{Lease}
 use Rattle.book_rules.specs.Book.{IsUnit, IsCalm}
 use Rattle.book_rules.specs.NextHead.{IsLegal}
-use Rattle.server_book.specs.declared.reply.Reply.{Reply}
 use Rattle.server_book.specs.Settings.{ServerSettings, AreFit}
-use Rattle.attribution.specs.Run.{Step, lines_of, IsRun, KeepsSkew, StartInTime, IsValidAt, Holds}
+use Rattle.attribution.specs.Run.{lines_of, IsRun, KeepsSkew, StartInTime, IsValidAt, Holds}
 use Rattle.pair_world.specs.declared.event.Event.{Event}
-use Rattle.pair_world.specs.declared.error.WorldError.{WorldError}
 use Rattle.pair_world.specs.PairWorld.{PairWorld, journal, book, is_stopped, AreAlike, new_world, WasSent, Reaches}
+use Rattle.pair_world.specs.PairWorld.{IsStep, AreDone}
+use Rattle.pair_world.specs.Holders.{AreHolders}
+use Rattle.pair_world.specs.declared.error.WorldError.{WorldError}
 
 -- settings by which the pair may open at a moment: each within its limits, and alike
 pub record MayOpen (moment : ℕ) (s t : ServerSettings) : Type 0 where
@@ -31,6 +35,16 @@ pub record Comes (s t : ServerSettings) (w : PairWorld) : Type 0 where
   pub opens : MayOpen moment s t
   pub events : List Event
   pub reaches : Reaches (new_world moment s t) events w
+
+-- what a step leads to, and what a run of steps does, are such worlds again
+abbrev pub StepStays : Type 0
+StepStays =
+    (s t : ServerSettings) (w v : PairWorld) (e : Event) (answer : Result Reply WorldError) → Comes s t w
+    → IsStep w e answer v → Comes s t v
+
+abbrev pub RunStays : Type 0
+RunStays =
+    (s t : ServerSettings) (w v : PairWorld) (events : List Event) → Comes s t w → AreDone w events v → Comes s t v
 
 -- ---- a world is a run
 
@@ -63,6 +77,12 @@ LeaseSafe =
     → (starts others : ℕ → ℕ) → StartInTime s.transit w.run starts → StartInTime s.transit w.run others
     → (i j : ℕ) (g h : Lease) (address m : ℕ) → IsValidAt w.run starts i g m → IsValidAt w.run others j h m
     → HasAddress g.prefix address → HasAddress h.prefix address → (g.client ≡ h.client) × (g.iaid ≡ h.iaid)
+
+-- So at most one client has an address of a unit now.
+abbrev pub OneHolderNow : Type 0
+OneHolderNow =
+    (s t : ServerSettings) (w : PairWorld) → Comes s t w → (p : Prefix) → IsPrefix p → IsUnit (book Primary w) p
+    → (clients : List (List ℕ)) → AreHolders w p clients → length clients ≤ 1
 
 -- ---- while a partner is down
 

@@ -1,6 +1,7 @@
 //! Pair safety, over the definitions in specs/ alone.
 
 ghost use Rattle.pair_world.specs.UnitSafe.{OneHolder, PartnerDownLaws};
+ghost use Rattle.pair_world.specs.PairSafe.{StepStays, RunStays, OneHolderNow};
 ghost use Rattle.pair_world.specs.PairSafe.{WorldIsRun, AddressSafe, LeaseSafe, PartnerStandsBack, AckWasTold, EndsInTime};
 
 /// In a world of one unit: whatever the two servers, the clocks and the link do, no two bindings have the unit at one
@@ -18,7 +19,10 @@ pub fn partner_down_laws()
 /// What happened in a world is a run of the pair, with all clocks within the skew, and its journals are the lines of the
 /// two servers.
 pub fn world_is_run()
-    ensures { WorldIsRun }
+    ensures run { WorldIsRun }
+    // And what `step` and `run` lead to is such a world again.
+    ensures step { StepStays }
+    ensures steps { RunStays }
 {}
 
 /// Pair safety: after any list of events no address is held by two clients at any moment, nor by two identity
@@ -26,6 +30,8 @@ pub fn world_is_run()
 pub fn address_safe()
     ensures clients { AddressSafe }
     ensures bindings { LeaseSafe }
+    // So `holders` of a unit are at most one.
+    ensures now { OneHolderNow }
 {}
 
 /// While a server takes its partner for down, or has a unit marked: the partner is stopped, or it waits and nothing that

@@ -9,14 +9,18 @@
 //! ```
 #![tactic(auto)]
 
+mod alike;
+mod client;
 mod error;
 mod event;
+mod holding;
 mod laws;
 mod messages;
 mod run_step;
 mod stepping;
 mod world;
 
+pub use alike::are_alike;
 pub use error::WorldError;
 pub use event::Event;
 pub use laws::{

@@ -1,4 +1,4 @@
-use Rattle.std.proofs.Common.{arith, rules, sym, ◌∙◌, ◌≡◌, Some, ap, refl}
+use Rattle.std.proofs.Common.{arith, sym, ◌∙◌, Some, ap, refl}
 use Rattle.pair_world.proofs.Numbers.{line_there, sent_here, past_another, past_silent}
 use Rattle.pair_world.proofs.messages.was_sent.Goals as goal
 use Rattle.pair_world.proofs.messages.was_sent.Goals.{in-Some+else-is_same, in-None}
