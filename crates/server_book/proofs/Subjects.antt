@@ -15,7 +15,7 @@ use Rattle.journal_lines.specs.declared.line.Line.{Line}
 use Rattle.book_rules.specs.Book.{Book, is_unit}
 use Rattle.book_rules.specs.Effects.{effect, after, same_prefix, with_unit, sent, taken, taken_body, learned, or_as_was}
 use Rattle.book_rules.proofs.TableLaws.{same_means}
-use Rattle.server_book.specs.Subjects.{subject_of, subject_of_body, IsAway, KeepsPools}
+use Rattle.server_book.specs.Subjects.{subject_of, subject_sent, subject_taken, IsAway, KeepsPools}
 use Rattle.server_book.specs.PoolCharts.{with_unit_at}
 
 -- whose book it is, its pools, and a unit of it are as they were
@@ -34,12 +34,12 @@ other false u v e = refl
 away : (b : Book) (p q : Prefix) (u : UnitValue) → same_prefix q p ≡ false → IsAsWas b (with_unit b p u) q
 away b p q u e = record { role = refl; pools = refl; unit = other (same_prefix q p) u (b.units q) e }
 
-sent_away : (b : Book) (m : Body) (q : Prefix) → IsAway (subject_of_body m) q → IsAsWas b (sent b m) q
+sent_away : (b : Book) (m : Body) (q : Prefix) → IsAway (subject_sent m) q → IsAsWas b (sent b m) q
 sent_away b (Update m) q e = as_was b q
 sent_away b (Reply r) q e = away b r.prefix q (record (b.units r.prefix) { pending = None }) e
 sent_away b (Contact ask answer) q e = as_was b q
 
-body_away : (b : Book) (now : ℕ) (m : Body) (q : Prefix) → IsAway (subject_of_body m) q → IsAsWas b (taken_body b now m) q
+body_away : (b : Book) (now : ℕ) (m : Body) (q : Prefix) → IsAway (subject_taken m) q → IsAsWas b (taken_body b now m) q
 body_away b now (Update m) q e = by_test (is_unit b.pools m.prefix) where
   by_test : (t : Bool) → IsAsWas b (if t then with_unit b m.prefix (after_update b.role (b.units m.prefix) now b.waiting m) else b) q
   by_test true = away b m.prefix q (after_update b.role (b.units m.prefix) now b.waiting m) e
@@ -55,7 +55,7 @@ learned_away b term (Update m) q = as_was b q
 learned_away b term (Reply r) q = as_was b q
 learned_away b term (Contact ask answer) q = record { role = refl; pools = refl; unit = refl }
 
-taken_away : (b : Book) (now : ℕ) (m : PartnerMessage) (q : Prefix) → IsAway (subject_of_body m.body) q → IsAsWas b (taken b now m) q
+taken_away : (b : Book) (now : ℕ) (m : PartnerMessage) (q : Prefix) → IsAway (subject_taken m.body) q → IsAsWas b (taken b now m) q
 taken_away b now m q e = by_tests (m.term == b.term) (b.waiting && nat_lt b.term m.term) where
   by_tests : (s t : Bool) → IsAsWas b (if s then taken_body b now m.body else (if t then learned b m.term m.body else b)) q
   by_tests true t = body_away b now m.body q e

@@ -31,12 +31,15 @@ abbrev pub leased_cmp : Leased → Leased → Ordering
 leased_cmp = then_cmp by_lease by_prefix
 
 pub lease_total : IsTotalOrder by_lease
-lease_total = then_total (on_total (λ (h : Leased). h.iaid) nat_cmp_total) (on_total (λ (h : Leased). h.client) (lists_total nat_cmp_total))
+lease_total =
+    then_total (on_total (λ (h : Leased). h.iaid) nat_cmp_total)
+    (on_total (λ (h : Leased). h.client) (lists_total nat_cmp_total))
 
 pub leased_total : IsTotalOrder leased_cmp
 leased_total =
     then_total lease_total
-    (then_total (on_total (λ (h : Leased). h.prefix.address) nat_cmp_total) (on_total (λ (h : Leased). h.prefix.length) nat_cmp_total))
+    (then_total (on_total (λ (h : Leased). h.prefix.address) nat_cmp_total)
+      (on_total (λ (h : Leased). h.prefix.length) nat_cmp_total))
 
 abbrev pub leased : List ℕ → ℕ → Prefix → Leased
 leased client iaid prefix = record { iaid = iaid; client = client; prefix = prefix }

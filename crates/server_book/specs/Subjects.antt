@@ -8,10 +8,15 @@ use Rattle.journal_lines.specs.declared.event.Event.TheVariants.{Pool, Unit as U
 use Rattle.journal_lines.specs.declared.event.Event.TheVariants.{Backup, Reclaim, Seize, Send, Take}
 use Rattle.book_rules.specs.Effects.{same_prefix}
 
-abbrev pub subject_of_body : Body → Option Prefix
-subject_of_body (Update m) = Some m.prefix
-subject_of_body (Reply r) = Some r.prefix
-subject_of_body (Contact ask answer) = None
+-- to tell of a unit changes nothing, and a reply leaves its unit
+abbrev pub subject_sent : Body → Option Prefix
+subject_sent (Reply r) = Some r.prefix
+subject_sent _ = None
+
+abbrev pub subject_taken : Body → Option Prefix
+subject_taken (Update m) = Some m.prefix
+subject_taken (Reply r) = Some r.prefix
+subject_taken (Contact ask answer) = None
 
 -- an event changes no other unit
 abbrev pub subject_of : Event → Option Prefix
@@ -22,8 +27,8 @@ subject_of (Expire prefix) = Some prefix
 subject_of (Backup prefix) = Some prefix
 subject_of (Reclaim prefix) = Some prefix
 subject_of (Seize prefix) = Some prefix
-subject_of (Send m) = subject_of_body m.body
-subject_of (Take m) = subject_of_body m.body
+subject_of (Send m) = subject_sent m.body
+subject_of (Take m) = subject_taken m.body
 subject_of _ = None
 
 -- another unit

@@ -8,7 +8,8 @@ ghost use Rattle.book_rules.specs.Rules.{IsStep};
 ghost use Rattle.book_rules.specs.State.{state};
 ghost use Rattle.server_book.specs.declared.leasing.Leased.{Leased as LeasedValue};
 ghost use Rattle.server_book.specs.Bindings.{IsLeastOf};
-ghost use Rattle.server_book.specs.Leases.{AreLeases, Has, IsHeld, leased, leased_under, coming_in, coming_of, held_before};
+ghost use Rattle.server_book.specs.Leases.{AreLeases, Has, IsHeld, leased, leased_under};
+ghost use Rattle.server_book.specs.Leases.{coming_in, coming_of, held_before};
 ghost use Rattle.server_book.specs.Subjects.{KeepsPools};
 
 use crate::leasing::Leased;

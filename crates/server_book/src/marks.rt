@@ -1,6 +1,7 @@
 //! The marks of a pool's units, so that one of a kind is found in few steps.
 
-ghost use Rattle.std.specs.Prelude.{ℕ, ◌≡◌, ◌≢◌, ◌+◌, ◌*◌, ◌^◌, ◌<◌, ◌≤◌, ◌==◌, length, IfSome, IfNone, IfOk, if◌then◌else◌};
+ghost use Rattle.std.specs.Prelude.{ℕ, ◌≡◌, ◌≢◌, ◌+◌, ◌*◌, ◌^◌, ◌<◌, ◌≤◌, ◌==◌};
+ghost use Rattle.std.specs.Prelude.{length, IfSome, IfNone, IfOk, if◌then◌else◌};
 ghost use Rattle.server_book.specs.ChartForms.{at, IsJoined};
 ghost use Rattle.server_book.specs.Charts.{leaf, IsFree, IsSpan, IsLeastEnd};
 
