@@ -39,7 +39,7 @@ pub leased_total : IsTotalOrder leased_cmp
 leased_total =
     then_total lease_total
     (then_total (on_total (λ (h : Leased). h.prefix.address) nat_cmp_total)
-      (on_total (λ (h : Leased). h.prefix.length) nat_cmp_total))
+    (on_total (λ (h : Leased). h.prefix.length) nat_cmp_total))
 
 abbrev pub leased : List ℕ → ℕ → Prefix → Leased
 leased client iaid prefix = record { iaid = iaid; client = client; prefix = prefix }
