@@ -1,7 +1,7 @@
 //! Pair safety, over the definitions in specs/ alone.
 
 ghost use Rattle.pair_world.specs.UnitSafe.{OneHolder, PartnerDownLaws};
-ghost use Rattle.pair_world.specs.PairSafe.{StepStays, RunStays, OneHolderNow};
+ghost use Rattle.pair_world.specs.PairSafe.{BooksKeep, StepStays, RunStays, OneHolderNow};
 ghost use Rattle.pair_world.specs.PairSafe.{WorldIsRun, AddressSafe, LeaseSafe, PartnerStandsBack, AckWasTold, EndsInTime};
 
 /// In a world of one unit: whatever the two servers, the clocks and the link do, no two bindings have the unit at one
@@ -40,4 +40,11 @@ pub fn partner_stands_back()
     ensures waits { PartnerStandsBack }
     ensures told { AckWasTold }
     ensures ends { EndsInTime }
+{}
+
+/// The invariant between the two books, at each unit: what the two servers' units, all that they ever said, and the
+/// grants that still run keep of each other. Each clause stands with a sentence in specs/Phases, specs/Acks,
+/// specs/Marked and specs/Kept.
+pub fn books_keep()
+    ensures { BooksKeep }
 {}
