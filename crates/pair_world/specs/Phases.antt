@@ -28,8 +28,8 @@ Heard sa ma nb = (4 ≤ sa) × (nb ≡ ma)
 abbrev pub Gone : (na sb mb n : ℕ) → Type 0
 Gone na sb mb n = (4 ≤ sb) × (na ≡ mb) × (n < mb)
 
--- Of the primary's unit (a) and the secondary's (b): s the status, m its count, n what it saw of the other's count, d the
--- change that is due. U c m n: an update says c, with count m and seen count n. R p o: a reply of count p accepts the
+-- Of the primary's unit (a) and the secondary's (b): s the status, m its count, n what it saw of the other's count, d
+-- the change that is due. U c m n: an update says c, with count m and seen count n. R p o: a reply of count p accepts the
 -- change of count o.
 pub record Phases (sa ma na da sb mb nb db : ℕ) (UA UB : ℕ → ℕ → ℕ → Type 0) (RA RB : ℕ → ℕ → Type 0) : Type 0 where
   -- the change that is due is one that the unit's status allows
@@ -59,9 +59,9 @@ pub record Phases (sa ma na da sb mb nb db : ℕ) (UA UB : ℕ → ℕ → ℕ �
   pub b_backup : sb ≡ 1 → sa ≡ 1
   -- what is active at the secondary, the primary has as given to it, as active for the same binding, or as ended
   pub b_active : 2 ≤ sb → sb ≤ 3 → (sa ≡ 1) ⊎ ((sa ≡ sb) ⊎ (4 ≤ sa))
-  -- where the secondary says that the unit is active, and that is news, it is so there, or it ended, or the end was heard
+  -- where the secondary says that the unit is active, and that is news, it is so there, or it ended, or that was heard
   pub b_says_active : (c m n : ℕ) → UB c m n → na < m → 2 ≤ c → c ≤ 3 → (sb ≡ c) ⊎ ((4 ≤ sb) ⊎ Heard sa ma nb)
-  -- where it says that a lease ended, and that is news, that was its last change, or it has since accepted the primary's
+  -- where it says that a lease ended, and that is news, it changed nothing since but to accept the primary's end
   pub b_says_over : (c m n : ℕ) → UB c m n → na < m → 4 ≤ c
       → ((4 ≤ sb) × (mb ≡ m)) ⊎ (Heard sa ma nb × (mb ≡ m + 1))
   -- a free unit at the secondary says nothing new of its last count

@@ -1,15 +1,15 @@
 //! The pair of servers as one world in true time, and the proof that no address is ever held by two clients.
 //!
-//! A [`World`] has the books of the two servers, and all that happened to them. `step` lets an [`Event`] happen: a server
-//! is ordered something, a message that its partner ever sent reaches it (late, again, in any order, or never), it stops,
-//! it begins again, time passes. Or it refuses the event, and nothing changes. `holders` says who has an address now.
-//! specs/PairWorld has what a step does and which refusal comes first, specs/Holders who has what.
+//! A [`World`] has the books of the two servers, and all that happened to them. `step` lets an [`Event`] happen: a
+//! server is ordered something, a message that its partner ever sent reaches it (late, again, in any order, or never),
+//! it stops, it begins again, time passes. Or it refuses the event, and nothing changes. `holders` says who has an
+//! address now. specs/PairWorld has what a step does and which refusal comes first, specs/Holders who has what.
 //!
-//! The laws are calls without a body, whose contract is the law. `address_safe` is pair safety: after any list of events
-//! no address is held by two clients at any moment. `partner_stands_back` has the laws of a server whose partner is down,
-//! `world_is_run` says that what happened is a run of the pair in the auditor's sense, and `books_keep` is the invariant,
-//! clause by clause. `one_holder_ever` and `partner_down_laws` say the same of a world of one unit (specs/UnitWorld),
-//! which allows more than the rules do.
+//! The laws are calls without a body, whose contract is the law. `address_safe` is pair safety: after any list of
+//! events no address is held by two clients at any moment. `partner_stands_back` has the laws of a server whose partner
+//! is down, `world_is_run` says that what happened is a run of the pair in the auditor's sense, and `books_keep` is the
+//! invariant, clause by clause. `one_holder_ever` and `partner_down_laws` say the same of a world of one unit
+//! (specs/UnitWorld), which allows more than the rules do.
 //!
 //! ```text
 //! let mut world = World::new(alloc, moment, &primary, &secondary)?; // where are_alike(&primary, &secondary)
