@@ -1,9 +1,10 @@
 -- The primary's steps keep the ends.
 use Rattle.std.specs.Prelude.{◌≡◌, ℕ, ◌+◌, ◌<◌, ◌≤◌, ◌⊎◌, max}
 use Rattle.std.proofs.Common.{arith, inl, inr, refl}
-use Rattle.pair_world.proofs.Phases.{Phases, Old, OldReply, by_word}
+use Rattle.pair_world.specs.Acks.{Acks}
+use Rattle.pair_world.specs.Phases.{Phases}
+use Rattle.pair_world.proofs.Phases.{Old, OldReply, by_word}
 use Rattle.pair_world.proofs.PhasesA.{over_cases}
-use Rattle.pair_world.proofs.Acks.{Acks}
 
 module _ (sa ma na da ka ta ea sb mb nb db kb tb eb : ℕ) (UA UB : ℕ → ℕ → ℕ → Type 0) (EA EB : ℕ → ℕ → Type 0) (RA RB : ℕ → ℕ → Type 0)
     (inv : Phases sa ma na da sb mb nb db UA UB RA RB) (acks : Acks sa ma na da ka ta ea sb mb nb db kb tb eb UA UB EA EB RA RB) where

@@ -1,9 +1,10 @@
 -- The secondary's steps keep the ends.
 use Rattle.std.specs.Prelude.{◌≡◌, ℕ, ◌+◌, ◌<◌, ◌≤◌, ◌⊎◌, max}
 use Rattle.std.proofs.Common.{arith, inl, inr, refl}
-use Rattle.pair_world.proofs.Phases.{Phases, Old, OldReply, by_word, or_eq}
+use Rattle.pair_world.specs.Acks.{Acks}
+use Rattle.pair_world.specs.Phases.{Phases}
+use Rattle.pair_world.proofs.Phases.{Old, OldReply, by_word, or_eq}
 use Rattle.pair_world.proofs.PhasesB.{over_cases}
-use Rattle.pair_world.proofs.Acks.{Acks}
 
 or_zero : (x : ℕ) → x ≤ 1 → (x ≡ 1 → ⊥) → x ≡ 0
 or_zero x le not_one = by_word (or_eq x 0 (λ ne. absurd (not_one (omega arith)))) (λ e. e) (λ e. absurd e)

@@ -1,6 +1,7 @@
 -- A line of a book is, at each unit, an event of the world of one unit, or nothing.
 use Rattle.std.specs.Prelude.{◌≡◌, ◌+◌, ◌*◌, ◌≤◌, ◌⊎◌, ◌&&◌, ◌==◌, ◌∷◌, if◌then◌else◌, Bool, List, None, Option, Some, false, max, nat_lt, true, ℕ, ⊤}
 use Rattle.std.proofs.Common.{◌∙◌, arith, inl, inr, refl, subst, sym}
+use Rattle.pair_world.specs.UnitInRun.{contacts_of, entry_of, holder_of, replies_of, sent_with, server_of, updates_of}
 use Rattle.prefix_range.specs.Prefix.{Prefix}
 use Rattle.lead_time.specs.Lease.{allowed_lifetime}
 use Rattle.binding_rules.specs.declared.update.Status.TheVariants.{Active as ActiveDue, Backup as BackupDue, Expired as ExpiredDue, Free as FreeDue, Released as ReleasedDue}
@@ -27,19 +28,9 @@ use Rattle.book_rules.specs.Rules.{IsStep}
 use Rattle.book_rules.specs.Effects.{changed, effect, expired, granted, learned, or_as_was, same_prefix, seized, taken_body}
 use Rattle.book_rules.specs.NextHead.{is_head}
 use Rattle.pair_world.specs.UnitWorld.{Entry, Gives, GivesBack, IsAlone, IsGrantable, IsIn, MaySay, Server, Setting, granted as one_granted}
-use Rattle.pair_world.proofs.Books.{Moves, contacts_of, holder_of, replies_of, same_prefix_is, same_prefix_self, sent_contact, sent_reply, sent_update, server_of, updates_of}
+use Rattle.pair_world.proofs.Books.{Moves, same_prefix_is, same_prefix_self, sent_contact, sent_reply, sent_update}
 use Rattle.pair_world.proofs.Effects.{by_test}
 use Rattle.pair_world.proofs.Phases.{by_word}
-
--- what a line adds to the log of a prefix
-abbrev pub entry_of : Prefix → Role → ℕ → Event → List Entry → List Entry
-entry_of p side moment (Grant g) log = if same_prefix p g.prefix then Gives side (holder_of g.client g.iaid) moment g.valid ∷ log else log
-entry_of p side moment (Release client iaid q) log = if same_prefix p q then GivesBack (holder_of client iaid) moment ∷ log else log
-entry_of p side moment _ log = log
-
-abbrev pub sent_with : Event → List PartnerMessage → List PartnerMessage
-sent_with (Send m) ms = m ∷ ms
-sent_with _ ms = ms
 
 -- what is taken was sent
 abbrev pub IsFed : Event → List PartnerMessage → Type 0

@@ -2,6 +2,8 @@
 use Rattle.std.specs.Prelude.{◌≡◌, ◌+◌, ◌≤◌, ◌==◌, ◌∷◌, [], if◌then◌else◌, Bool, List, None, Some, false, true, ℕ}
 use Rattle.std.proofs.Common.{◌∙◌, ap, inl, inr, refl}
 use Rattle.std.proofs.lemmas.Bool.{and_from, and_parts, eq-eqb, eqb-true}
+use Rattle.pair_world.specs.Kept.{IsActiveOf}
+use Rattle.pair_world.specs.UnitInRun.{contacts_of, contacts_with, replies_of, replies_with, updates_of, updates_with}
 use Rattle.prefix_range.specs.Prefix.{Prefix}
 use Rattle.binding_rules.specs.declared.update.Status.TheVariants.{Active as ActiveDue, Backup as BackupDue, Expired as ExpiredDue, Free as FreeDue, Released as ReleasedDue}
 use Rattle.binding_rules.specs.declared.update.BindReply.{BindReply}
@@ -17,12 +19,10 @@ use Rattle.binding_rules.specs.Reply.{after_reply}
 use Rattle.binding_rules.specs.Table.{after_update}
 use Rattle.binding_rules.specs.Giving.{is_own}
 use Rattle.binding_rules.specs.Unit.{status_of}
-use Rattle.book_rules.specs.Book.{Book}
 use Rattle.book_rules.specs.MessageRules.{IsTold}
 use Rattle.book_rules.specs.Effects.{changed, expired, or_as_was, same_prefix, seized}
 use Rattle.book_rules.specs.UnitRules.{takeover}
 use Rattle.pair_world.specs.UnitWorld.{Contact, Entry, Gives, GivesBack, IsGrantable, IsIn, IsWithinLead, MaySay, Server, Setting, asked_by, contacted, granted}
-use Rattle.pair_world.proofs.Words.{IsActiveOf}
 
 -- what a side's events do to what is known of it, K; cons is what the other ever said by contacts
 pub record Moves (s : Setting) (side : Role) (K : ℕ → List Entry → Server → Type 0) (ups : List Update) (reps : List BindReply) (cons : List Contact) (other_stopped : Bool) : Type 0 where
@@ -51,48 +51,6 @@ pub record Moves (s : Setting) (side : Role) (K : ℕ → List Entry → Server 
       → takeover x.unit.told d s.mclt s.skew s.transit ≤ reading → K now log (record x { unit = seized side x.unit })
   pub stops : (now : ℕ) (log : List Entry) (x : Server) → K now log x → K now log (record x { stopped = true })
   pub restarts : (now : ℕ) (log : List Entry) (x : Server) → K now log x → K now log (record x { waiting = true; restart = x.restart + 1; stopped = false })
-
--- the binding of a lease
-abbrev pub holder_of : List ℕ → ℕ → Binding
-holder_of client iaid = record { client = client; iaid = iaid }
-
--- the messages that speak of the prefix
-abbrev pub updates_with : Prefix → Body → List Update → List Update
-updates_with p (UpdateBody u) us = if same_prefix p u.prefix then u ∷ us else us
-updates_with p _ us = us
-
-abbrev pub replies_with : Prefix → Body → List BindReply → List BindReply
-replies_with p (ReplyBody r) rs = if same_prefix p r.prefix then r ∷ rs else rs
-replies_with p _ rs = rs
-
-abbrev pub updates_of : Prefix → List PartnerMessage → List Update
-updates_of p [] = []
-updates_of p (m ∷ ms) = updates_with p m.body (updates_of p ms)
-
-abbrev pub replies_of : Prefix → List PartnerMessage → List BindReply
-replies_of p [] = []
-replies_of p (m ∷ ms) = replies_with p m.body (replies_of p ms)
-
-abbrev pub contacts_with : Body → List Contact → List Contact
-contacts_with (ContactBody ask answer) cs = record { ask = ask; answer = answer } ∷ cs
-contacts_with _ cs = cs
-
-abbrev pub contacts_of : List PartnerMessage → List Contact
-contacts_of [] = []
-contacts_of (m ∷ ms) = contacts_with m.body (contacts_of ms)
-
-abbrev pub server_of : Prefix → Book → List PartnerMessage → Bool → Server
-server_of p b sent stopped = record {
-  unit = b.units p;
-  updates = updates_of p sent;
-  replies = replies_of p sent;
-  contacts = contacts_of sent;
-  down = b.down;
-  waiting = b.waiting;
-  restart = b.restart;
-  asked = b.asked;
-  stopped = stopped;
-}
 
 pub same_prefix_is : (p q : Prefix) → same_prefix p q ≡ true → p ≡ q
 same_prefix_is p q h =

@@ -2,6 +2,7 @@
 use Rattle.std.specs.Prelude.{◌≡◌, ◌≢◌, ◌+◌, ◌*◌, ◌/◌, ◌<◌, ◌≤◌, ◌⊎◌, ◌==◌, ◌∷◌, [], List, None, Option, Some, false, length, max, true, ℕ}
 use Rattle.std.proofs.Common.{◌∙◌, ap, arith, inl, inr, refl, subst, sym}
 use Rattle.std.proofs.lemmas.Bool.{and_from, eq-eqb}
+use Rattle.pair_world.specs.UnitInRun.{holder_of, log_of, messages, server_of, setting_of}
 use Rattle.prefix_range.specs.Prefix.{Prefix, size_of}
 use Rattle.binding_rules.specs.declared.update.Status.TheVariants.{Active as ActiveDue}
 use Rattle.binding_rules.specs.declared.role.Role.TheVariants.{Primary, Secondary}
@@ -15,7 +16,7 @@ use Rattle.book_rules.specs.Book.{Book, IsCalm, is_in, is_unit}
 use Rattle.book_rules.specs.declared.pool.Pool.{Pool}
 use Rattle.server_book.specs.Settings.{ServerSettings}
 use Rattle.attribution.specs.Run.{IsValidAt, StartInTime}
-use Rattle.pair_world.specs.PairSafe.{AckWasTold, EndsInTime, IsTheirs, PartnerStandsBack, StandsBack}
+use Rattle.pair_world.specs.PairSafe.{BooksKeep, AckWasTold, EndsInTime, IsTheirs, PartnerStandsBack, StandsBack}
 use Rattle.pair_world.specs.UnitWorld.{IsAlone}
 use Rattle.pair_world.specs.PairWorld.{PairWorld, book, is_stopped}
 use Rattle.pair_world.specs.UnitSafe.{Runs}
@@ -25,10 +26,10 @@ use Rattle.pair_world.proofs.KeptB.{ack_told_b, in_time_b}
 use Rattle.pair_world.proofs.Traces.{book_in}
 use Rattle.pair_world.proofs.Kept.{by_bool}
 use Rattle.pair_world.proofs.Phases.{by_word}
-use Rattle.pair_world.proofs.Books.{holder_of, sent_contact, server_of}
-use Rattle.pair_world.proofs.Lists.{log_of, messages, numbered_in}
-use Rattle.pair_world.proofs.Openings.{setting_of}
+use Rattle.pair_world.proofs.Books.{sent_contact}
+use Rattle.pair_world.proofs.Lists.{numbered_in}
 use Rattle.pair_world.proofs.Valid.{valid_runs}
+use Rattle.pair_world.specs.Kept.{Kept}
 
 -- each of the pair's two books, as the run leads to it
 book_at : (s : ServerSettings) (w : PairWorld) → Good s w → (side : Role) → book side w ≡ book_in side w.run
@@ -154,3 +155,10 @@ ends_in_time s t w c Secondary p d theirs down starts are i g v of_side same =
     (v.step.moment + 1000 * g.valid + s.transit) (running s w is Primary p starts i g v of_side same) (lasts_on s w is starts are i g v) in
     let begins = are i v.step g v.here v.grants in
     subst (λ (b : Book). starts i + 1000 * g.valid ≤ max (b.units p).told d + 1000 * s.mclt + s.skew + s.transit) (sym x) (omega arith)
+
+pub books_keep : BooksKeep
+books_keep s t w c p unit =
+    let is = good s t w c in
+    let kept = (is.known p (unit_at s w is Primary p unit)).kept in
+    subst (λ x. Kept (setting_of s) w.moment (log_of p w.run []) x (server_of p (book Secondary w) (messages Secondary w.run []) w.stopped_b)) (ap (λ b. server_of p b (messages Primary w.run []) w.stopped_a) (sym (book_at s w is Primary)))
+    (subst (λ x. Kept (setting_of s) w.moment (log_of p w.run []) (server_of p (book_in Primary w.run) (messages Primary w.run []) w.stopped_a) x) (ap (λ b. server_of p b (messages Secondary w.run []) w.stopped_b) (sym (book_at s w is Secondary))) kept)

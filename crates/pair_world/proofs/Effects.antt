@@ -2,6 +2,8 @@
 use Rattle.std.specs.Prelude.{◌≡◌, ℕ, ◌+◌, ◌<◌, ◌≤◌, ◌⊎◌, Bool, true, false, ◌&&◌, ◌==◌, nat_le, nat_lt, Option, Some, None, if◌then◌else◌}
 use Rattle.std.proofs.Common.{arith, ◌∙◌, inl, inr, refl, sym, ap, subst, List, not, max}
 use Rattle.std.proofs.lemmas.Bool.{and_parts, eqb-true, leb-false, ltb-true}
+use Rattle.pair_world.specs.Phases.{Due, Phases}
+use Rattle.pair_world.specs.Said.{DueOf, binding_of, code, due_code, given}
 use Rattle.binding_rules.specs.declared.unit.UnitStatus.TheVariants.{Active, Expired, Free, FreeBackup, Released}
 use Rattle.binding_rules.specs.declared.update.Status.TheVariants.{Active as ActiveDue, Backup as BackupDue, Expired as ExpiredDue, Free as FreeDue, Released as ReleasedDue, Seized as SeizedDue}
 use Rattle.binding_rules.specs.declared.update.BindReply.{BindReply}
@@ -17,8 +19,8 @@ use Rattle.binding_rules.specs.declared.update.Update.{Update}
 use Rattle.binding_rules.specs.Table.{accepted, accepts, after_update, answered, kept_due, taken_by, said, accepts_by, counted, is_accepted, at_secondary, of_client, of_nobody, accepts_said, said_by, becomes_said, partners_pool, becomes}
 use Rattle.binding_rules.specs.Reply.{after_reply, is_accept, settled, unmarked, counts, after_reply_to}
 use Rattle.binding_rules.specs.Unit.{same_binding, status_of, freed}
-use Rattle.pair_world.proofs.Phases.{Due, Phases, or_eq, or_le}
-use Rattle.pair_world.proofs.Words.{code, code_low, code_high, same_is, due_code, DueOf, binding_of, given}
+use Rattle.pair_world.proofs.Phases.{or_eq, or_le}
+use Rattle.pair_world.proofs.Words.{code_low, code_high, same_is}
 use Rattle.book_rules.specs.Effects.{or_as_was, changed, expired}
 use Rattle.binding_rules.specs.Giving.{is_own}
 

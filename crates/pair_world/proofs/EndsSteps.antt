@@ -2,6 +2,9 @@
 use Rattle.std.specs.Prelude.{◌==◌, ◌≡◌, ℕ, ◌+◌, ◌<◌, ◌≤◌, ◌⊎◌, Bool, true, ◌||◌, List, ◌∷◌, Option, Some, None, max}
 use Rattle.std.proofs.Common.{arith, inl, inr, sym, ◌∙◌, ap, subst, nat_le}
 use Rattle.std.proofs.lemmas.Bool.{and_parts}
+use Rattle.pair_world.specs.Kept.{Ends, IsActiveOf, lead_of}
+use Rattle.pair_world.specs.Phases.{Due, DueAtB}
+use Rattle.pair_world.specs.Said.{Says, binding_of}
 use Rattle.binding_rules.specs.declared.unit.UnitStatus.TheVariants.{Active, Expired, Free, FreeBackup, Released}
 use Rattle.binding_rules.specs.declared.unit.Binding.{Binding}
 use Rattle.pair_world.specs.UnitWorld.{Entry, Gives, GivesBack, IsGrantable, IsWithinLead, Server, Setting, granted}
@@ -14,9 +17,9 @@ use Rattle.binding_rules.specs.declared.unit.UnitStatus.{UnitStatus}
 use Rattle.binding_rules.specs.declared.unit.Unit.{Unit as UnitValue}
 use Rattle.binding_rules.specs.declared.update.Update.{Update}
 use Rattle.binding_rules.specs.Unit.{same_binding}
-use Rattle.pair_world.proofs.Phases.{Due, DueAtB, by_word}
-use Rattle.pair_world.proofs.Words.{same_is, Says, IsActiveOf, binding_of}
-use Rattle.pair_world.proofs.Ends.{lead_of, Ends, active_once}
+use Rattle.pair_world.proofs.Phases.{by_word}
+use Rattle.pair_world.proofs.Words.{same_is}
+use Rattle.pair_world.proofs.Ends.{active_once}
 use Rattle.binding_rules.specs.Giving.{is_own}
 use Rattle.binding_rules.specs.Table.{accepts}
 

@@ -2,6 +2,9 @@
 use Rattle.std.specs.Prelude.{◌≡◌, ℕ, ◌+◌, ◌*◌, ◌<◌, ◌≤◌, ◌⊎◌, Bool, true, false, ◌==◌, nat_le, List, ◌∷◌, Option, Some, None, max}
 use Rattle.std.proofs.Common.{arith, inl, inr, refl, sym, ◌∙◌, ap, subst}
 use Rattle.std.proofs.lemmas.Bool.{or_cases, eqb-true, leb-true, cases_lt}
+use Rattle.pair_world.specs.Kept.{Ends, IsActiveOf, IsPast, Kept, Servers}
+use Rattle.pair_world.specs.Phases.{DueAtB}
+use Rattle.pair_world.specs.Said.{InCalm, InMark, Says, binding_of, code, due_code, is_mark}
 use Rattle.binding_rules.specs.declared.unit.UnitStatus.TheVariants.{Active, Expired, Free, FreeBackup, Released}
 use Rattle.binding_rules.specs.declared.update.Status.TheVariants.{Active as ActiveDue, Backup as BackupDue, Expired as ExpiredDue, Free as FreeDue, Released as ReleasedDue, Seized as SeizedDue}
 use Rattle.binding_rules.specs.declared.update.BindReply.{BindReply}
@@ -21,16 +24,15 @@ use Rattle.book_rules.specs.Effects.{expired, or_as_was, seized, changed}
 use Rattle.binding_rules.specs.Giving.{is_own}
 use Rattle.binding_rules.specs.Unit.{same_binding, status_of}
 use Rattle.book_rules.specs.UnitRules.{takeover}
-use Rattle.pair_world.proofs.Phases.{DueAtB, by_word}
-use Rattle.pair_world.proofs.Words.{code, code_low, code_active, due_code, is_mark, Says, InCalm, InMark, says_sent, IsActiveOf, binding_of}
+use Rattle.pair_world.proofs.Phases.{by_word}
+use Rattle.pair_world.proofs.Words.{code_low, code_active, says_sent}
 use Rattle.pair_world.proofs.Effects.{update_cases, accepted_as, replied, reply_cases, any_active_is, active_codes, ended_at, kept_is, due_none, accepts_as, expired_is, backup_of}
 use Rattle.pair_world.proofs.StepsB.{grants_b, releases_b, expires_b, accepts_b, rejects_b, settles_b, sends_update_b, sends_reply_b}
 use Rattle.pair_world.proofs.MarkSteps.{grants_x, ends_x, seizes_x, rejects_x, sends_update_x, sends_reply_x, ends_y, accepts_y, rejects_y, settles_y, sends_update_y, sends_reply_y}
 use Rattle.pair_world.proofs.MarkTurns.{seizes_b, unmarks_b}
-use Rattle.pair_world.proofs.Servers.{Servers, turned, off_less, other_on, goes_up, goes_down, stops, restarts, takes_higher, takes_contact, says}
-use Rattle.pair_world.proofs.Ends.{IsPast, Ends}
+use Rattle.pair_world.proofs.Servers.{turned, off_less, other_on, goes_up, goes_down, stops, restarts, takes_higher, takes_contact, says}
 use Rattle.pair_world.proofs.EndsSteps.{grants_own, gives_back_own, told_less, told_any, grants_other, gives_back_other, down_other, up_other, mark_other, no_release, granted_same, accept_active, pool_not_active, not_ended_b, past_end, changes_own, accept_expired, accept_released, backup_not_active}
-use Rattle.pair_world.proofs.Kept.{Kept, by_bool, by_modes}
+use Rattle.pair_world.proofs.Kept.{by_bool, by_modes}
 
 code_outside : (k : Binding) (status : UnitStatus) → is_own Secondary status ≡ false → (code k status ≡ 0) ⊎ (2 ≤ code k status)
 code_outside k Free ne = inl refl

@@ -1,6 +1,7 @@
 -- Lists that grow at their end: steps by their place, lines of a side, messages and logs.
 use Rattle.std.specs.Prelude.{◌≡◌, ◌-◌, ◌<◌, ◌⊎◌, ◌∷◌, ◌++◌, [], if◌then◌else◌, Bool, List, Some, false, filter, length, map, slice_get, true, ℕ}
 use Rattle.std.proofs.Common.{◌∙◌, ap, arith, inl, inr, refl, subst, suc, zero}
+use Rattle.pair_world.specs.UnitInRun.{entry_of, log_of, messages, sent_with}
 use Rattle.prefix_range.specs.Prefix.{Prefix}
 use Rattle.binding_rules.specs.declared.message.PartnerMessage.{PartnerMessage}
 use Rattle.binding_rules.specs.declared.role.Role.TheVariants.{Primary, Secondary}
@@ -17,7 +18,7 @@ use Rattle.attribution.specs.Run.{At, Step, lines_of}
 use Rattle.pair_world.specs.UnitWorld.{Entry, IsIn}
 use Rattle.pair_world.specs.PairWorld.{IsNumbered, message_in, messages_of, with_sent}
 use Rattle.pair_world.proofs.Phases.{by_word}
-use Rattle.pair_world.proofs.BookSteps.{entry_of, sent_with, step}
+use Rattle.pair_world.proofs.BookSteps.{step}
 
 pub at_split : (xs : List Step) (t : Step) (i : ℕ) (s : Step) → At (xs ++ t ∷ []) i s → At xs i s ⊎ ((i ≡ length xs) × (t ≡ s))
 at_split [] t zero s at = inr (refl, cc)
@@ -65,18 +66,9 @@ pub book_append : (b : Book) (ls : List Line) (l : Line) → book_after b (ls ++
 book_append b [] l = refl
 book_append b (x ∷ xs) l = book_append (after b x) xs l
 
--- the log of a prefix, and the messages of a side with the newest first
-abbrev pub log_of : Prefix → List Step → List Entry → List Entry
-log_of p [] log = log
-log_of p (s ∷ ss) log = log_of p ss (entry_of p s.side s.moment s.line.event log)
-
 pub log_append : (p : Prefix) (xs : List Step) (t : Step) (log : List Entry) → log_of p (xs ++ t ∷ []) log ≡ entry_of p t.side t.moment t.line.event (log_of p xs log)
 log_append p [] t log = refl
 log_append p (x ∷ xs) t log = log_append p xs t (entry_of p x.side x.moment x.line.event log)
-
-abbrev pub messages : Role → List Step → List PartnerMessage → List PartnerMessage
-messages side [] ms = ms
-messages side (s ∷ ss) ms = messages side ss (if is_side side s.side then sent_with s.line.event ms else ms)
 
 pub messages_append : (side : Role) (xs : List Step) (t : Step) (ms : List PartnerMessage) → messages side (xs ++ t ∷ []) ms ≡ (if is_side side t.side then sent_with t.line.event (messages side xs ms) else messages side xs ms)
 messages_append side [] t ms = refl

@@ -1,6 +1,8 @@
 -- Every event keeps what is kept while the unit is marked at one server, x; the other is y.
 use Rattle.std.specs.Prelude.{◌≡◌, ℕ, ◌<◌, ◌≤◌, ◌⊎◌, true, false, ◌∷◌, Some, None}
 use Rattle.std.proofs.Common.{arith, inl, inr, refl, sym, ap, subst}
+use Rattle.pair_world.specs.Phases.{Due}
+use Rattle.pair_world.specs.Said.{DueOf, InMark, Says, binding_of, bound, code, due_code, is_mark, left_as, word_code_by}
 use Rattle.binding_rules.specs.declared.unit.UnitStatus.TheVariants.{Active, Free, FreeBackup}
 use Rattle.binding_rules.specs.declared.update.Status.TheVariants.{Active as ActiveDue, Backup as BackupDue, Expired as ExpiredDue, Free as FreeDue, Released as ReleasedDue, Seized as SeizedDue}
 use Rattle.binding_rules.specs.declared.update.BindReply.{BindReply}
@@ -18,9 +20,9 @@ use Rattle.binding_rules.specs.Table.{answered, partners_pool}
 use Rattle.book_rules.specs.Effects.{changed, seized, own_pool}
 use Rattle.binding_rules.specs.Reply.{is_accept}
 use Rattle.binding_rules.specs.Role.{partner_of}
-use Rattle.pair_world.proofs.Phases.{Due, by_word}
+use Rattle.pair_world.proofs.Phases.{by_word}
 use Rattle.pair_world.proofs.Marked.{change_x, change_y, take_y, take_mark_y, settle_y, fewer_marked}
-use Rattle.pair_world.proofs.Words.{code, code_low, code_high, word_code_by, due_code, is_mark, Says, DueOf, left_as, InMark, new_word, new_word_at, new_end, no_word, no_end, no_end_silent, new_answer, new_mark, same_marks, word_sent, end_sent, mark_sent, answer_sent, answer_reject, binding_of, bound}
+use Rattle.pair_world.proofs.Words.{code_low, code_high, new_word, new_word_at, new_end, no_word, no_end, no_end_silent, new_answer, new_mark, same_marks, word_sent, end_sent, mark_sent, answer_sent, answer_reject}
 use Rattle.pair_world.proofs.Effects.{accepted_as, replied, ended_at, active_codes, due_none, no_mark_due, kept_code, kept_is, accepts_as, backup_of}
 
 -- which status and which due change go together

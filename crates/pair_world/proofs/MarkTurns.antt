@@ -1,6 +1,7 @@
 -- The unit's mark is set from a calm state, and goes back to one.
 use Rattle.std.specs.Prelude.{◌≡◌, ◌≢◌, ℕ, ◌<◌, ◌≤◌, true, Option, Some, None}
 use Rattle.std.proofs.Common.{arith, inl, inr, refl, sym, ◌∙◌, ap}
+use Rattle.pair_world.specs.Said.{DueOf, InCalm, InMark, SaysEnd, Word, binding_of, bound, code, due_code, word_code_by}
 use Rattle.binding_rules.specs.declared.unit.UnitStatus.TheVariants.{Active, Expired, Free, FreeBackup, Released}
 use Rattle.binding_rules.specs.declared.update.Status.TheVariants.{Active as ActiveDue, Backup as BackupDue, Expired as ExpiredDue, Free as FreeDue, Released as ReleasedDue, Seized as SeizedDue}
 use Rattle.binding_rules.specs.declared.update.BindReply.{BindReply}
@@ -17,7 +18,7 @@ use Rattle.book_rules.specs.MessageRules.{due_update}
 use Rattle.book_rules.specs.Effects.{seized}
 use Rattle.pair_world.proofs.Marks.{seize_a, seize_b}
 use Rattle.pair_world.proofs.Unmarks.{Raised, Tells, OrDue, OrDueEnd, unmark_a, unmark_b}
-use Rattle.pair_world.proofs.Words.{code, word_code_by, due_code, SaysEnd, Word, DueOf, InCalm, InMark, no_word, no_end_silent, new_mark, same_marks, binding_of, bound}
+use Rattle.pair_world.proofs.Words.{no_word, no_end_silent, new_mark, same_marks}
 use Rattle.pair_world.proofs.Effects.{no_mark_due}
 
 -- the code of the word that tells of what is due

@@ -1,35 +1,9 @@
--- What is kept while the unit is marked at a server X, in the plain numbers of Phases and Acks; Y is the other.
--- SX m is a seized word with MINE m, and f is what Y's unit is once it took one: 0 free, 1 backup.
+-- Each kind of step keeps what is kept while the unit is marked.
 use Rattle.std.specs.Prelude.{◌≡◌, ◌≢◌, ℕ, ◌+◌, ◌<◌, ◌≤◌, ◌⊎◌}
 use Rattle.std.proofs.Common.{arith, refl}
-use Rattle.pair_world.proofs.Phases.{Ending, Old, OldReply, by_word}
-
-pub record Marked (f : ℕ) (DX DY : ℕ → ℕ → Type 0) (sx mx nx dx kx tx sy my ny dy ky ty ey : ℕ)
-    (UX UY : ℕ → ℕ → ℕ → Type 0) (EX EY RX RY : ℕ → ℕ → Type 0) (SX SY : ℕ → Type 0) : Type 0 where
-  pub due_x : DX sx dx
-  pub due_y : DY sy dy
-  pub sent_ux : (c m n : ℕ) → UX c m n → (m < mx) × (n ≤ nx)
-  pub sent_rx : (p o : ℕ) → RX p o → (p ≤ mx) × (o ≤ nx)
-  pub sent_sx : (m : ℕ) → SX m → m ≤ mx
-  pub sent_ex : (m e : ℕ) → EX m e → m < mx
-  pub sent_uy : (c m n : ℕ) → UY c m n → (m ≤ my) × (n ≤ ny)
-  pub sent_ry : (p o : ℕ) → RY p o → (p ≤ my) × (o ≤ ny)
-  pub sent_sy : (m : ℕ) → SY m → m ≤ nx
-  pub sent_ey : (m e : ℕ) → EY m e → m ≤ my
-  pub replies_before_x : Ending sx dx → (p o : ℕ) → RX p o → p < mx
-  pub replies_before_y : Ending sy dy → (p o : ℕ) → RY p o → p < my
-  pub reply_then_update_x : (c m n p o : ℕ) → UX c m n → RX p o → p ≤ m → o ≤ n
-  pub reply_then_update_y : (c m n p o : ℕ) → UY c m n → RY p o → p ≤ m → o ≤ n
-  pub last_word_y : Ending sy dy → (c m n : ℕ) → UY c m n → m ≡ my → c ≡ dy
-  pub last_active_y : (c m n : ℕ) → UY c m n → m ≡ my → dy ≡ 2 → (2 ≤ c) × (c ≤ 3)
-  pub last_end_y : (m e : ℕ) → EY m e → m ≡ my → dy ≡ 2 → e ≡ ey
-  pub count_x : nx ≤ my
-  pub count_y : ny ≤ mx
-  pub no_ends_x : (kx ≡ 0) × (tx ≡ 0)
-  pub no_ends_y : sy ≤ 1 → (ky ≡ 0) × (ty ≡ 0)
-  -- once Y answered the mark, its unit is as the mark wants it, and what it says later is that it is free
-  pub answered : (p o : ℕ) → RY p o → o ≡ mx → (sy ≡ f) × (f ≡ 0 → p ≡ my)
-  pub free_after : (p o : ℕ) → RY p o → o ≡ mx → (c m n : ℕ) → UY c m n → p < m → c ≡ 0
+use Rattle.pair_world.specs.Marked.{Marked}
+use Rattle.pair_world.specs.Phases.{Ending}
+use Rattle.pair_world.proofs.Phases.{Old, OldReply, by_word}
 
 module _ (f : ℕ) (DX DY : ℕ → ℕ → Type 0) (sx mx nx dx kx tx sy my ny dy ky ty ey : ℕ)
     (UX UY : ℕ → ℕ → ℕ → Type 0) (EX EY RX RY : ℕ → ℕ → Type 0) (SX SY : ℕ → Type 0)

@@ -1,14 +1,10 @@
 -- A mark is set, and goes by the other server's reply.
-use Rattle.std.specs.Prelude.{◌≡◌, ℕ, ◌+◌, ◌≤◌, ◌⊎◌}
+use Rattle.std.specs.Prelude.{◌≡◌, ℕ, ◌+◌, ◌⊎◌}
 use Rattle.std.proofs.Common.{arith, inl, inr, refl}
-use Rattle.pair_world.proofs.Phases.{Due, DueAtB, Phases, by_word}
-use Rattle.pair_world.proofs.Acks.{Acks}
-use Rattle.pair_world.proofs.Marked.{Marked}
-
--- a seized word that is new is of a mark
-pub record Stale (na nb : ℕ) (SA SB : ℕ → Type 0) : Type 0 where
-  pub stale_a : (m : ℕ) → SA m → m ≤ nb
-  pub stale_b : (m : ℕ) → SB m → m ≤ na
+use Rattle.pair_world.specs.Acks.{Acks, Stale}
+use Rattle.pair_world.specs.Marked.{Marked}
+use Rattle.pair_world.specs.Phases.{Due, DueAtB, Phases}
+use Rattle.pair_world.proofs.Phases.{by_word}
 
 module _ (sa ma na da ka ta ea sb mb nb db kb tb eb : ℕ) (UA UB : ℕ → ℕ → ℕ → Type 0) (EA EB RA RB : ℕ → ℕ → Type 0) (SA SB : ℕ → Type 0)
     (inv : Phases sa ma na da sb mb nb db UA UB RA RB) (acks : Acks sa ma na da ka ta ea sb mb nb db kb tb eb UA UB EA EB RA RB) (stale : Stale na nb SA SB) where

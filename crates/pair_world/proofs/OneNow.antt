@@ -1,5 +1,5 @@
 -- What a step leads to is such a world again, and of a unit at most one client has an address now.
-use Rattle.std.specs.Prelude.{◌≡◌, ℕ, ◌≤◌, true, false, List, [], ◌∷◌, ◌++◌, length, Result, Ok, Err}
+use Rattle.std.specs.Prelude.{◌≡◌, ℕ, ◌≤◌, true, false, List, [], ◌∷◌, ◌++◌, length, Result, Ok}
 use Rattle.std.specs.declared.cmp.Ordering.TheVariants.{Less}
 use Rattle.std.specs.Ordering.{is_eq}
 use Rattle.std.proofs.Common.{arith, refl, sym, ◌∙◌, ap, subst}
@@ -15,7 +15,7 @@ use Rattle.server_book.specs.Settings.{ServerSettings}
 use Rattle.attribution.specs.Run.{StartInTime}
 use Rattle.pair_world.specs.declared.event.Event.{Event}
 use Rattle.pair_world.specs.declared.error.WorldError.{WorldError}
-use Rattle.pair_world.specs.PairWorld.{PairWorld, IsStep, Reaches, AreDone}
+use Rattle.pair_world.specs.PairWorld.{PairWorld, IsStep, Reaches}
 use Rattle.pair_world.specs.Holders.{client_cmp, HasSome, AreHolders}
 use Rattle.pair_world.specs.PairSafe.{Comes, StepStays, RunStays, OneHolderNow}
 use Rattle.pair_world.proofs.Worlds.{Good, good}

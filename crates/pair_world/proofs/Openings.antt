@@ -1,6 +1,7 @@
 -- What the opening lines leave: the settings, and nothing said, granted or sent.
 use Rattle.std.specs.Prelude.{◌≡◌, ◌+◌, ◌≤◌, ◌∷◌, ◌++◌, [], if◌then◌else◌, Bool, List, false, map, true, ℕ, ⊤}
 use Rattle.std.proofs.Common.{◌∙◌, ap, append_assoc, refl, subst, suc, sym, zero}
+use Rattle.pair_world.specs.UnitInRun.{entry_of, log_of, messages, sent_with, server_of, setting_of}
 use Rattle.prefix_range.specs.Prefix.{Prefix}
 use Rattle.binding_rules.specs.declared.message.PartnerMessage.{PartnerMessage}
 use Rattle.binding_rules.specs.declared.role.Role.{Role}
@@ -16,14 +17,11 @@ use Rattle.book_rules.specs.NextHead.{lines_from, pool_event, transit_events}
 use Rattle.server_book.specs.Settings.{ServerSettings, opening}
 use Rattle.server_book.specs.Replayed.{state_of}
 use Rattle.attribution.specs.Run.{Step}
-use Rattle.pair_world.specs.UnitWorld.{Entry, Setting}
+use Rattle.pair_world.specs.UnitWorld.{Entry}
 use Rattle.pair_world.specs.PairWorld.{steps_of}
 use Rattle.pair_world.proofs.Traces.{AreAt}
 use Rattle.pair_world.proofs.Pairs.{Settled}
 use Rattle.pair_world.proofs.Effects.{by_test}
-use Rattle.pair_world.proofs.BookSteps.{entry_of, sent_with}
-use Rattle.pair_world.proofs.Lists.{log_of, messages}
-use Rattle.pair_world.proofs.Books.{server_of}
 
 -- the events of a first volume's head
 abbrev pub is_opening : Event → Bool
@@ -135,9 +133,6 @@ messages_heads side (s ∷ ss) ms h = messages_heads side ss (if is_side side s.
     ∙ by_test (λ z. z ≡ ms) (is_side side s.side) (sent_with s.line.event ms) ms (λ _. head_sent s.line.event ms h.0) (λ _. refl)
 
 -- the settings
-abbrev pub setting_of : ServerSettings → Setting
-setting_of s = record { skew = s.skew; transit = s.transit; mclt = s.mclt }
-
 record Sets (s : ServerSettings) (pools : List Pool) (b : Book) : Type 0 where
   role_is : b.role ≡ s.role
   skew_is : b.skew ≡ s.skew

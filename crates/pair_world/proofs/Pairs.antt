@@ -1,6 +1,7 @@
 -- What is known of a world of two books at each prefix, and that each event keeps it.
 use Rattle.std.specs.Prelude.{◌≡◌, ◌+◌, ◌≤◌, ◌&&◌, ◌==◌, if◌then◌else◌, Bool, List, false, nat_lt, true, ℕ}
 use Rattle.std.proofs.Common.{◌∙◌, refl, subst, sym}
+use Rattle.pair_world.specs.UnitInRun.{entry_of, sent_with, server_of}
 use Rattle.prefix_range.specs.Prefix.{Prefix}
 use Rattle.binding_rules.specs.declared.message.Body.{Body}
 use Rattle.binding_rules.specs.declared.message.Body.TheVariants.{Contact as ContactBody, Reply as ReplyBody, Update as UpdateBody}
@@ -17,9 +18,9 @@ use Rattle.book_rules.specs.declared.pool.Pool.{Pool}
 use Rattle.book_rules.specs.Effects.{after, effect, learned, taken_body}
 use Rattle.book_rules.specs.NextHead.{is_head}
 use Rattle.pair_world.specs.UnitWorld.{Entry, Server, Setting}
-use Rattle.pair_world.proofs.BookSteps.{Agrees, IsDownFor, IsFed, MayWrite, entry_of, sent_with, step, stopped_after}
+use Rattle.pair_world.proofs.BookSteps.{Agrees, IsDownFor, IsFed, MayWrite, step, stopped_after}
 use Rattle.pair_world.proofs.Safety.{Invariant, alone_gives, alone_gives_back, passes}
-use Rattle.pair_world.proofs.Books.{Moves, server_of}
+use Rattle.pair_world.proofs.Books.{Moves}
 use Rattle.pair_world.proofs.Effects.{by_test}
 use Rattle.pair_world.proofs.KeptA.{kept_expires_a, kept_goes_down_a, kept_goes_up_a, kept_grants_a, kept_moves_a, kept_reclaims_a, kept_releases_a, kept_restarts_a, kept_says_a, kept_seizes_a, kept_sends_reply_a, kept_sends_update_a, kept_stops_a, kept_takes_a, kept_takes_contact_a, kept_takes_higher_a, kept_takes_reply_a}
 use Rattle.pair_world.proofs.KeptB.{kept_expires_b, kept_goes_down_b, kept_goes_up_b, kept_grants_b, kept_releases_b, kept_restarts_b, kept_says_b, kept_seizes_b, kept_sends_reply_b, kept_sends_update_b, kept_stops_b, kept_takes_b, kept_takes_contact_b, kept_takes_higher_b, kept_takes_reply_b}

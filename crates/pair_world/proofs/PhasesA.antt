@@ -1,7 +1,8 @@
 -- The primary's steps keep the phases.
 use Rattle.std.specs.Prelude.{◌≡◌, ℕ, ◌+◌, ◌<◌, ◌≤◌, ◌⊎◌}
 use Rattle.std.proofs.Common.{arith, inl, inr, refl}
-use Rattle.pair_world.proofs.Phases.{Ending, Heard, Phases, Old, OldReply, by_word, or_eq, or_le}
+use Rattle.pair_world.specs.Phases.{Ending, Heard, Phases}
+use Rattle.pair_world.proofs.Phases.{Old, OldReply, by_word, or_eq, or_le}
 
 module _ (sa ma na da sb mb nb db : ℕ) (UA UB : ℕ → ℕ → ℕ → Type 0) (RA RB : ℕ → ℕ → Type 0) (inv : Phases sa ma na da sb mb nb db UA UB RA RB) where
   pub grant_a : (s' : ℕ) (UA' : ℕ → ℕ → ℕ → Type 0) (RA' : ℕ → ℕ → Type 0) → 2 ≤ s' → s' ≤ 3 → (sa ≡ 0) ⊎ (sa ≡ s')

@@ -1,7 +1,8 @@
 -- The secondary's steps keep the phases.
 use Rattle.std.specs.Prelude.{◌≡◌, ℕ, ◌+◌, ◌<◌, ◌≤◌, ◌⊎◌}
 use Rattle.std.proofs.Common.{arith, inl, inr, refl}
-use Rattle.pair_world.proofs.Phases.{Ending, Gone, Phases, Old, OldReply, by_word, or_eq}
+use Rattle.pair_world.specs.Phases.{Ending, Gone, Phases}
+use Rattle.pair_world.proofs.Phases.{Old, OldReply, by_word, or_eq}
 
 module _ (sa ma na da sb mb nb db : ℕ) (UA UB : ℕ → ℕ → ℕ → Type 0) (RA RB : ℕ → ℕ → Type 0) (inv : Phases sa ma na da sb mb nb db UA UB RA RB) where
   -- where the secondary isn't free, the primary's end is news to it

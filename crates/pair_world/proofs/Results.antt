@@ -2,6 +2,7 @@
 use Rattle.std.specs.Prelude.{◌≡◌, ◌+◌, ◌*◌, ◌<◌, [], true, ℕ}
 use Rattle.std.proofs.Common.{◌∙◌, ap, arith, refl, subst, sym}
 use Rattle.std.proofs.lemmas.Bool.{cases_lt}
+use Rattle.pair_world.specs.UnitInRun.{holder_of, log_of}
 use Rattle.prefix_range.specs.Prefix.{HasAddress, IsPrefix, Prefix}
 use Rattle.binding_rules.specs.declared.unit.Binding.{Binding}
 use Rattle.binding_rules.specs.declared.role.Role.TheVariants.{Primary, Secondary}
@@ -15,9 +16,7 @@ use Rattle.pair_world.specs.UnitSafe.{HasUnit}
 use Rattle.pair_world.specs.PairWorld.{PairWorld, journal}
 use Rattle.pair_world.proofs.Worlds.{Good, good}
 use Rattle.pair_world.proofs.Phases.{by_word}
-use Rattle.pair_world.proofs.Books.{holder_of}
 use Rattle.pair_world.proofs.Traces.{is_run}
-use Rattle.pair_world.proofs.Lists.{log_of}
 use Rattle.pair_world.proofs.Units.{one_unit}
 use Rattle.pair_world.proofs.Valid.{valid_holds}
 

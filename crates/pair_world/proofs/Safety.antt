@@ -2,6 +2,8 @@
 use Rattle.std.specs.Prelude.{◌≡◌, ℕ, ◌+◌, ◌<◌, ◌≤◌, List, [], ◌∷◌}
 use Rattle.std.proofs.Common.{arith, inl, inr, refl, sym, ap}
 use Rattle.std.proofs.lemmas.Bool.{cases_lt}
+use Rattle.pair_world.specs.Kept.{Ends, IsActiveOf, Kept, Waits}
+use Rattle.pair_world.specs.Said.{Answer, InCalm, Says, SaysEnd, SaysMark, Word, active_code, code}
 use Rattle.binding_rules.specs.declared.unit.Binding.{Binding}
 use Rattle.pair_world.specs.UnitSafe.{EndsInTime, HasUnit, IsAckTold, OneHolder, PartnerDownLaws, PartnerWaits, Runs}
 use Rattle.pair_world.specs.UnitWorld.{Entry, Expires, Gives, GivesBack, GoesDown, GoesUp, Grants, IsAllowed, IsAlone, LearnsTerm, MayHappen, MovesToBackup, Passes, Reclaims, Releases, Restarts, Seizes, SendsContact, SendsReply, SendsUpdate, Server, Setting, Stops, TakesContact, TakesReply, TakesUpdate, UnitEvent, UnitWorld, first, next, server, start, world_after}
@@ -11,11 +13,10 @@ use Rattle.binding_rules.specs.declared.unit.UnitStatus.{UnitStatus}
 use Rattle.binding_rules.specs.Role.{partner_of}
 use Rattle.binding_rules.specs.Unit.{same_binding}
 use Rattle.pair_world.proofs.Phases.{by_word}
-use Rattle.pair_world.proofs.Words.{Says, SaysMark, SaysEnd, Word, Answer, InCalm, code, active_code, code_low, code_high, code_is, code_active, IsActiveOf}
-use Rattle.pair_world.proofs.Servers.{Waits}
-use Rattle.pair_world.proofs.Ends.{Ends, past_on, held_runs, active_once}
+use Rattle.pair_world.proofs.Words.{code_low, code_high, code_is, code_active}
+use Rattle.pair_world.proofs.Ends.{past_on, held_runs, active_once}
 use Rattle.pair_world.proofs.EndsSteps.{later}
-use Rattle.pair_world.proofs.Kept.{Kept, by_modes}
+use Rattle.pair_world.proofs.Kept.{by_modes}
 use Rattle.pair_world.proofs.KeptA.{kept_grants_a, kept_releases_a, kept_expires_a, kept_moves_a, kept_reclaims_a, kept_takes_a, kept_takes_reply_a, kept_seizes_a, kept_sends_update_a, kept_sends_reply_a, kept_says_a, kept_takes_contact_a, kept_takes_higher_a, kept_goes_down_a, kept_goes_up_a, kept_stops_a, kept_restarts_a, ack_told_a, in_time_a}
 use Rattle.pair_world.proofs.KeptB.{kept_grants_b, kept_releases_b, kept_expires_b, kept_takes_b, kept_takes_reply_b, kept_seizes_b, kept_sends_update_b, kept_sends_reply_b, kept_says_b, kept_takes_contact_b, kept_takes_higher_b, kept_goes_down_b, kept_goes_up_b, kept_stops_b, kept_restarts_b, ack_told_b, in_time_b}
 

@@ -2,25 +2,13 @@
 use Rattle.std.specs.Prelude.{◌≡◌, ◌≢◌, ℕ, ◌+◌, ◌≤◌, ◌&&◌, ◌==◌, nat_le, true, false, List, ◌∷◌, Some, None}
 use Rattle.std.proofs.Common.{arith, inl, inr, refl, ap, subst}
 use Rattle.std.proofs.lemmas.Bool.{and_parts, eqb-true}
+use Rattle.pair_world.specs.Kept.{Servers}
 use Rattle.binding_rules.specs.declared.update.BindReply.{BindReply}
 use Rattle.pair_world.specs.UnitWorld.{Contact, IsAlone, IsIn, MaySay, Server, asked_by, contacted}
-use Rattle.pair_world.specs.UnitSafe.{PartnerWaits}
 use Rattle.binding_rules.specs.declared.unit.Unit.{Unit as UnitValue}
 use Rattle.binding_rules.specs.declared.update.Update.{Update}
 use Rattle.pair_world.proofs.Phases.{by_word}
 use Rattle.pair_world.proofs.Effects.{by_test}
-
--- what x says and is said of y
-pub record Waits (x y : Server) : Type 0 where
-  pub law : PartnerWaits x y
-  pub asked_low : x.asked ≤ y.restart
-  pub said_low : (c : Contact) → IsIn x.contacts c → (c.answer ≤ y.restart) × (c.ask ≤ x.restart)
-  pub numbered : y.waiting ≡ true → 1 ≤ y.restart
-
-pub record Servers (x y : Server) : Type 0 where
-  pub there : Waits x y
-  pub back : Waits y x
-  pub one : IsAlone x → IsAlone y → ⊥
 
 pub turned : (x y : Server) → Servers x y → Servers y x
 turned x y h = record { there = h.back; back = h.there; one = λ p q. h.one q p }

@@ -1,6 +1,10 @@
 -- The primary's events keep what is kept while the unit is marked at neither.
 use Rattle.std.specs.Prelude.{◌≡◌, ℕ, ◌<◌, ◌≤◌, ◌⊎◌, true, false, ◌∷◌, Some, None}
 use Rattle.std.proofs.Common.{arith, inl, inr, refl, sym, ap, subst}
+use Rattle.pair_world.specs.Acks.{Stale}
+use Rattle.pair_world.specs.Kept.{IsActiveOf}
+use Rattle.pair_world.specs.Phases.{Due}
+use Rattle.pair_world.specs.Said.{Answer, InCalm, Says, SaysMark, Word, binding_of, bound, code, due_code, is_mark, word_code_by}
 use Rattle.binding_rules.specs.declared.unit.UnitStatus.TheVariants.{Active, Expired, Free, FreeBackup, Released}
 use Rattle.binding_rules.specs.declared.update.Status.TheVariants.{Active as ActiveDue, Backup as BackupDue, Expired as ExpiredDue, Free as FreeDue, Released as ReleasedDue, Seized as SeizedDue}
 use Rattle.binding_rules.specs.declared.update.BindReply.{BindReply}
@@ -17,12 +21,10 @@ use Rattle.binding_rules.specs.Table.{answered}
 use Rattle.book_rules.specs.Effects.{changed, expired}
 use Rattle.binding_rules.specs.Reply.{is_accept}
 use Rattle.binding_rules.specs.Unit.{status_of}
-use Rattle.pair_world.proofs.Phases.{Due}
 use Rattle.pair_world.proofs.PhasesA.{grant_a, end_a, to_backup_a, reclaim_a, take_active_a, take_over_a, reply_keep_a, reply_free_a}
 use Rattle.pair_world.proofs.Acks.{fewer_ends}
 use Rattle.pair_world.proofs.AcksA.{grant_a_ends, change_a_ends, take_active_a_ends, take_over_a_ends, reply_keep_a_ends, reply_free_a_ends}
-use Rattle.pair_world.proofs.Marks.{Stale}
-use Rattle.pair_world.proofs.Words.{code, code_low, code_high, word_code_by, due_code, is_mark, Says, SaysMark, Word, Answer, InCalm, new_word, new_word_at, new_end, no_word, no_end, no_end_silent, new_answer, same_marks, word_sent, end_sent, mark_sent, answer_sent, answer_reject, IsActiveOf, binding_of, bound}
+use Rattle.pair_world.proofs.Words.{code_low, code_high, new_word, new_word_at, new_end, no_word, no_end, no_end_silent, new_answer, same_marks, word_sent, end_sent, mark_sent, answer_sent, answer_reject}
 use Rattle.pair_world.proofs.Effects.{accepted_as, replied, any_active_is, ended_at, active_codes, grantable_a, accept_active_a, no_backup_a, no_free_a, no_mark_due, kept_code, kept_is, keep_shape, free_shape, fewer, accepts_as, expired_is}
 
 active_due : (s d : ℕ) → Due s d → d ≡ 2 → 2 ≤ s

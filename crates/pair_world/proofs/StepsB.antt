@@ -1,6 +1,10 @@
 -- The secondary's events keep what is kept while the unit is marked at neither.
 use Rattle.std.specs.Prelude.{◌≡◌, ℕ, ◌<◌, ◌≤◌, true, false, ◌∷◌, Some, None}
 use Rattle.std.proofs.Common.{arith, inl, refl, sym, ap, subst}
+use Rattle.pair_world.specs.Acks.{Stale}
+use Rattle.pair_world.specs.Kept.{IsActiveOf}
+use Rattle.pair_world.specs.Phases.{DueAtB}
+use Rattle.pair_world.specs.Said.{Answer, InCalm, Says, SaysMark, Word, binding_of, bound, code, due_code, is_mark, word_code_by}
 use Rattle.binding_rules.specs.declared.unit.UnitStatus.TheVariants.{Active, Expired, Released}
 use Rattle.binding_rules.specs.declared.update.Status.TheVariants.{Active as ActiveDue, Backup as BackupDue, Expired as ExpiredDue, Free as FreeDue, Released as ReleasedDue, Seized as SeizedDue}
 use Rattle.binding_rules.specs.declared.update.BindReply.{BindReply}
@@ -17,12 +21,10 @@ use Rattle.binding_rules.specs.Table.{answered}
 use Rattle.book_rules.specs.Effects.{changed, expired}
 use Rattle.binding_rules.specs.Reply.{is_accept}
 use Rattle.binding_rules.specs.Unit.{status_of}
-use Rattle.pair_world.proofs.Phases.{DueAtB}
 use Rattle.pair_world.proofs.PhasesB.{grant_b, end_b, take_active_b, take_over_b, take_backup_b, take_free_b, reply_keep_b, reply_free_b}
 use Rattle.pair_world.proofs.Acks.{fewer_ends}
 use Rattle.pair_world.proofs.AcksB.{grant_b_ends, end_b_ends, take_active_b_ends, take_over_b_ends, take_backup_b_ends, take_free_b_ends, reply_keep_b_ends, reply_free_b_ends}
-use Rattle.pair_world.proofs.Marks.{Stale}
-use Rattle.pair_world.proofs.Words.{code, code_low, code_high, word_code_by, due_code, is_mark, Says, SaysMark, Word, Answer, InCalm, new_word, new_word_at, new_end, no_word, no_end, no_end_silent, new_answer, same_marks, word_sent, end_sent, mark_sent, answer_sent, answer_reject, IsActiveOf, binding_of, bound}
+use Rattle.pair_world.proofs.Words.{code_low, code_high, new_word, new_word_at, new_end, no_word, no_end, no_end_silent, new_answer, same_marks, word_sent, end_sent, mark_sent, answer_sent, answer_reject}
 use Rattle.pair_world.proofs.Effects.{accepted_as, replied, any_active_is, ended_at, active_codes, grantable_b, accept_active_b, due_none, pool_b, no_mark_due, kept_code, kept_is, fewer, accepts_as, expired_is, backup_of}
 
 -- what is due at the secondary tells its status

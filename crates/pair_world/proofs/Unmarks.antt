@@ -1,10 +1,10 @@
 -- The mark goes by the other server's reply. Where a change is due, the count rises by one, and the word of that change is the only new one.
 use Rattle.std.specs.Prelude.{◌≡◌, ◌≢◌, ℕ, ◌+◌, ◌<◌, ◌⊎◌}
 use Rattle.std.proofs.Common.{arith, inl, refl}
-use Rattle.pair_world.proofs.Phases.{Due, DueAtB, Phases, by_word}
-use Rattle.pair_world.proofs.Acks.{Acks}
-use Rattle.pair_world.proofs.Marked.{Marked}
-use Rattle.pair_world.proofs.Marks.{Stale}
+use Rattle.pair_world.specs.Acks.{Acks, Stale}
+use Rattle.pair_world.specs.Marked.{Marked}
+use Rattle.pair_world.specs.Phases.{Due, DueAtB, Phases}
+use Rattle.pair_world.proofs.Phases.{by_word}
 
 abbrev pub Raised : (d m m' : ℕ) → Type 0
 Raised d m m' = ((d ≡ 9) × (m' ≡ m)) ⊎ ((d ≢ 9) × (m' ≡ m + 1))

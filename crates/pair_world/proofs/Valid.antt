@@ -1,6 +1,7 @@
 -- A delegation that is valid is one that the log of its prefix holds.
 use Rattle.std.specs.Prelude.{◌≡◌, ◌+◌, ◌*◌, ◌<◌, ◌≤◌, ◌∷◌, [], List, true, ℕ}
 use Rattle.std.proofs.Common.{ap, arith, inl, inr, refl, subst, suc, sym, zero}
+use Rattle.pair_world.specs.UnitInRun.{entry_of, holder_of, log_of}
 use Rattle.prefix_range.specs.Prefix.{Prefix}
 use Rattle.binding_rules.specs.declared.unit.Binding.{Binding}
 use Rattle.binding_rules.specs.declared.role.Role.{Role}
@@ -12,9 +13,7 @@ use Rattle.attribution.specs.Run.{At, Step}
 use Rattle.pair_world.specs.UnitWorld.{Entry, Gives, GivesBack}
 use Rattle.pair_world.specs.UnitSafe.{HasUnit, Runs}
 use Rattle.pair_world.proofs.Effects.{by_test}
-use Rattle.pair_world.proofs.BookSteps.{entry_of}
-use Rattle.pair_world.proofs.Books.{holder_of, same_prefix_is, same_prefix_self}
-use Rattle.pair_world.proofs.Lists.{log_of}
+use Rattle.pair_world.proofs.Books.{same_prefix_is, same_prefix_self}
 
 -- What may be said of a grant by its binding, and stays where the binding's release isn't added.
 pub record Lasting (k : Binding) (Never : ℕ → Type 0) (P : List Entry → Type 0) : Type 0 where

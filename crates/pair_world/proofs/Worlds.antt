@@ -1,6 +1,8 @@
 -- Every world that a list of events leads to is good: its run is a run of the pair, and at each unit the invariant holds.
 use Rattle.std.specs.Prelude.{◌≡◌, ◌+◌, ◌≤◌, ◌∷◌, ◌++◌, [], Bool, Err, List, Ok, Result, false, max, true, ℕ}
 use Rattle.std.proofs.Common.{◌∙◌, ap, append-nil, ap₂, arith, refl, subst, suc, sym, zero}
+use Rattle.pair_world.specs.Kept.{Kept}
+use Rattle.pair_world.specs.UnitInRun.{entry_of, log_of, messages, sent_with, server_of, setting_of}
 use Rattle.prefix_range.specs.Prefix.{IsPrefix, Prefix}
 use Rattle.lead_time.specs.Lease.{allowed_lifetime}
 use Rattle.binding_rules.specs.declared.message.PartnerMessage.{PartnerMessage}
@@ -32,16 +34,14 @@ use Rattle.pair_world.specs.declared.event.Event.TheVariants.{Deliver, Pass, Res
 use Rattle.pair_world.specs.UnitWorld.{IsIn, Setting, first}
 use Rattle.pair_world.specs.declared.error.WorldError.{WorldError}
 use Rattle.pair_world.specs.declared.event.Event.{Event as WorldEvent}
-use Rattle.pair_world.proofs.Openings.{AreOpening, AreOpeningSteps, head_append, head_steps, heads_server, is_opening, log_heads, messages_heads, opening_heading, setting_of, settled}
+use Rattle.pair_world.proofs.Openings.{AreOpening, AreOpeningSteps, head_append, head_steps, heads_server, is_opening, log_heads, messages_heads, opening_heading, settled}
 use Rattle.pair_world.proofs.Pairs.{AreSettled, Known, Pair, Settled, line_a, line_b, pass, settled_after, stop_a, stop_b}
 use Rattle.pair_world.proofs.Safety.{Invariant, at_start, passes}
-use Rattle.pair_world.proofs.Kept.{Kept}
-use Rattle.pair_world.proofs.BookSteps.{MayWrite, entry_of, sent_with, step, stopped_after}
+use Rattle.pair_world.proofs.BookSteps.{MayWrite, step, stopped_after}
 use Rattle.pair_world.proofs.Traces.{Trace, blank_trace, book_in, book_on, lines_of_own, lines_of_partner, trace_later, trace_lines, trace_on}
-use Rattle.pair_world.proofs.Lists.{at_split, lines_append, lines_other, lines_same, log_append, log_of, messages, messages_append, numbered_at, numbered_in}
+use Rattle.pair_world.proofs.Lists.{at_split, lines_append, lines_other, lines_same, log_append, messages_append, numbered_at, numbered_in}
 use Rattle.pair_world.proofs.Phases.{by_word}
 use Rattle.pair_world.proofs.Shapes.{fed_of, may_write, shape}
-use Rattle.pair_world.proofs.Books.{server_of}
 
 -- each grant is of a unit, and none is endless
 abbrev pub AreGifts : List Pool → List Step → Type 0

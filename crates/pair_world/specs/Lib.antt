@@ -1,5 +1,11 @@
 pub mod UnitWorld
 pub mod UnitSafe
+pub mod Phases
+pub mod Acks
+pub mod Marked
+pub mod Said
+pub mod Kept
+pub mod UnitInRun
 pub mod PairWorld
 pub mod Holders
 pub mod PairSafe

@@ -1,10 +1,10 @@
 -- Pair safety: what every world of two books keeps, whatever is served, delivered, stopped and restarted.
 use Rattle.std.specs.Prelude.{◌≡◌, ◌≢◌, ◌⊎◌, ℕ, ◌+◌, ◌*◌, ◌^◌, ◌≤◌, false, true, List, max, Some}
-use Rattle.std.specs.Prelude.{length, Result}
+use Rattle.std.specs.Prelude.{length, Result, []}
 use Rattle.server_book.specs.declared.reply.Reply.{Reply}
 use Rattle.prefix_range.specs.Prefix.{Prefix, IsPrefix, HasAddress}
 use Rattle.binding_rules.specs.declared.role.Role.{Role}
-use Rattle.binding_rules.specs.declared.role.Role.TheVariants.{Primary}
+use Rattle.binding_rules.specs.declared.role.Role.TheVariants.{Primary, Secondary}
 use Rattle.binding_rules.specs.Role.{partner_of}
 use Rattle.binding_rules.specs.declared.message.Body.TheVariants.{Contact}
 use Rattle.binding_rules.specs.declared.message.PartnerMessage.{PartnerMessage}
@@ -21,6 +21,8 @@ use Rattle.pair_world.specs.PairWorld.{PairWorld, journal, book, is_stopped, Are
 use Rattle.pair_world.specs.PairWorld.{IsStep, AreDone}
 use Rattle.pair_world.specs.Holders.{AreHolders}
 use Rattle.pair_world.specs.declared.error.WorldError.{WorldError}
+use Rattle.pair_world.specs.Kept.{Kept}
+use Rattle.pair_world.specs.UnitInRun.{setting_of, log_of, server_of, messages}
 
 -- settings by which the pair may open at a moment: each within its limits, and alike
 pub record MayOpen (moment : ℕ) (s t : ServerSettings) : Type 0 where
@@ -83,6 +85,16 @@ abbrev pub OneHolderNow : Type 0
 OneHolderNow =
     (s t : ServerSettings) (w : PairWorld) → Comes s t w → (p : Prefix) → IsPrefix p → IsUnit (book Primary w) p
     → (clients : List (List ℕ)) → AreHolders w p clients → length clients ≤ 1
+
+-- ---- the invariant
+
+-- At each unit the two books keep what is between them.
+abbrev pub BooksKeep : Type 0
+BooksKeep =
+    (s t : ServerSettings) (w : PairWorld) → Comes s t w → (p : Prefix) → IsUnit (book Primary w) p
+    → Kept (setting_of s) w.moment (log_of p w.run [])
+    (server_of p (book Primary w) (messages Primary w.run []) w.stopped_a)
+    (server_of p (book Secondary w) (messages Secondary w.run []) w.stopped_b)
 
 -- ---- while a partner is down
 

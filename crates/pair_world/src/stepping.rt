@@ -195,8 +195,8 @@ impl World {
         }
     }
 
-    /// Lets events happen one behind the other, up to the first that is refused, as `step` refuses it: the world is then
-    /// as the events before it left it.
+    /// Lets events happen one behind the other, up to the first that is refused, as `step` refuses it: the world is
+    /// then as the events before it left it.
     pub fn run(&mut self, events: &[Event]) -> Result<(), WorldError>
         ensures done { IfOk result (λ _. AreDone self.old events.now self.new) }
         ensures refused { IfErr result (λ e. StopsAt self.old events.now e self.new) }
