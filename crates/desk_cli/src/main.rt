@@ -5,6 +5,7 @@
 
 use attribution_desk::{DeskError, UsageError, Watched, command_of, run};
 use std::process::ExitCode;
+use std::thread::Threads;
 use std::{env, io};
 use thiserror::Error;
 
@@ -31,16 +32,16 @@ fn usage_fault(error: io::Error) -> UsageError {
     }
 }
 
-fn answered(rt: &HostRuntime) -> Result<u8, Fault> {
+fn answered(rt: &HostRuntime, threads: &(impl Threads + Sync)) -> Result<u8, Fault> {
     let words = words_given(rt).map_err(Fault::Usage)?;
     let command = command_of(rt.alloc(), &words).map_err(Fault::Usage)?;
     let mut reader = Watched::new(rt.stdin());
     let mut writer = Watched::new(rt.stdout());
-    run(rt, rt.alloc(), &command, &mut reader, &mut writer).map_err(Fault::Desk)
+    run(threads, rt.alloc(), &command, &mut reader, &mut writer).map_err(Fault::Desk)
 }
 
 fn main(rt: HostRuntime) -> ExitCode {
-    match answered(&rt) {
+    match answered(&rt, &rt) {
         Ok(status) => ExitCode::from(status),
         Err(fault) => {
             let _ = eprintln!(rt; "{fault}");
