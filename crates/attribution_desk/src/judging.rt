@@ -43,8 +43,8 @@ fn verdict_on_journals(
     Ok(audit(&index, claim, skew, transit))
 }
 
-/// The verdict on what two texts are as journals and on a certificate's text: the first of the faults of A's journal, of
-/// B's and of the certificate's text, then what refuses the two journals, then the verdict of `audit`.
+/// The verdict on what two texts are as journals and on a certificate's text: the first of the faults of A's journal,
+/// of B's and of the certificate's text, then what refuses the two journals, then the verdict of `audit`.
 pub(crate) fn verdict_on_parsed(
     rt: &(impl Threads + Sync),
     alloc: Global,
