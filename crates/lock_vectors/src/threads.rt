@@ -1,0 +1,138 @@
+//! Two threads that serve out of one book.
+
+ghost use Rattle.std.specs.Prelude.{◌≡◌, length};
+
+use crate::books::{at, opened, request};
+use lead_time::Reading;
+use locked_book::{BookName, Pass, SharedBook};
+use prefix_range::Prefix;
+use server_book::{Book, Order, Reply};
+use std::alloc::Global;
+use std::marker::Brand;
+use std::sync::Wait;
+use std::sync::ledger::Blank;
+use std::test::*;
+use std::thread;
+use std::thread::Threads;
+
+const EACH: u8 = 100;
+
+const TURNS: usize = 1_000_000;
+
+/// Looks until there are four lines: the opening's two, this thread's and the other's.
+fn sees_another<N: BookName, R: Wait>(
+    rt: &R,
+    shared: &SharedBook<N>,
+    pass: &mut Pass<N>,
+    prefix: Prefix,
+) -> bool {
+    for _ in 0..TURNS {
+        match shared.look(rt, pass, prefix) {
+            Ok(look) => {
+                if look.lines >= 4 {
+                    return true;
+                }
+            }
+            Err(_) => return false,
+        }
+        thread::yield_now();
+    }
+    false
+}
+
+/// Serves one client.
+fn serves<N: BookName, R: Wait>(
+    rt: &R,
+    shared: &SharedBook<N>,
+    pass: &mut Pass<N>,
+    now: Reading,
+    order: Option<Order>,
+) -> Option<Prefix> {
+    let order = order?;
+    match shared.serve(rt, pass, now, &order) {
+        Ok(receipt) => match receipt.reply {
+            Reply::Granted { prefix, valid: _ } => Some(prefix),
+            _ => None,
+        },
+        Err(_) => None,
+    }
+}
+
+/// Serves a hundred clients, and says whether all went well.
+fn serves_all<N: BookName, R: Wait>(
+    rt: &R,
+    shared: &SharedBook<N>,
+    mut pass: Pass<N>,
+    now: Reading,
+    thread: u8,
+) -> (Pass<N>, bool) {
+    let Some(prefix) = serves(rt, shared, &mut pass, now, request(thread, 0)) else {
+        return (pass, false);
+    };
+    let mut well = sees_another(rt, shared, &mut pass, prefix);
+    for client in 1..EACH {
+        well = well && serves(rt, shared, &mut pass, now, request(thread, client)).is_some();
+    }
+    (pass, well)
+}
+
+/// The receipts of two threads.
+struct Served {
+    book: Book,
+    count: usize,
+    well: bool,
+}
+
+/// What two threads leave: the closed book, how many receipts there were, and whether all went well.
+fn by_two<N: BookName + Send + Sync, R: Threads + Wait + Sync>(
+    rt: &R,
+    alloc: Global,
+    blank: Blank,
+    book: Book,
+    now: Reading,
+) -> Option<Served>
+    requires name { blank.name ≡ N.name }
+    requires passes { (blank.parts ≡ N.parts) × (N.parts ≡ 2) × (N.passes ≡ 2) }
+    requires lines { N.opened ≡ length book.lines }
+{
+    let Ok((shared, mut passes)) = SharedBook::<N>::open(alloc, blank, book, 2) else {
+        return None;
+    };
+    let second = passes.pop()?;
+    let first = passes.pop()?;
+    let lent = &shared;
+    let (one, other) = thread::join(
+        rt,
+        move || serves_all(rt, lent, first, now, 1),
+        move || serves_all(rt, lent, second, now, 2),
+    );
+    let (first, well) = one;
+    let (second, also) = other;
+    let count = first
+        .receipts()
+        .len()
+        .saturating_add(second.receipts().len());
+    passes.push(first).ok()?;
+    passes.push(second).ok()?;
+    match shared.close(passes) {
+        Ok(book) => Some(Served {
+            book,
+            count,
+            well: well && also,
+        }),
+        Err(_) => None,
+    }
+}
+
+#[test]
+fn two_threads_serve(rt: HostRuntime) -> Result<(), Fail> {
+    let book = opened(rt.alloc())?;
+    let Some(served) = by_two::<Brand, _>(&rt, rt.alloc(), Blank::new(2), book, at(10000)?) else {
+        return Err(Fail::from("not served"));
+    };
+    let Served { book, count, well } = served;
+    assert!(rt; well);
+    assert_eq!(rt; count, 200);
+    assert_eq!(rt; book.journal().len(), 202);
+    Ok(())
+}

@@ -1,0 +1,5 @@
+pub mod Lists
+pub mod Same
+pub mod Rising
+pub mod Legal
+pub mod Receipts

@@ -1,0 +1,112 @@
+-- What a pass knows of the book, and what a call under the lock answers.
+use Rattle.std.specs.Prelude.{◌≡◌, ◌≢◌, ℕ, zero, suc, ◌+◌, ◌-◌, false, true, List, [], ◌∷◌, ◌++◌, length, slice_get}
+use Rattle.std.specs.Prelude.{Option, Some, None, IfSome, MatchOption, Result, Ok, Err}
+use Rattle.prefix_range.specs.Prefix.{Prefix}
+use Rattle.binding_rules.specs.declared.unit.Unit.{Unit as UnitValue}
+use Rattle.journal_lines.specs.declared.line.Line.{Line}
+use Rattle.journal_lines.specs.declared.line.Journal.{Journal}
+use Rattle.book_rules.specs.Book.{Book as BookState, is_unit}
+use Rattle.server_book.specs.declared.order.Order.{Order}
+use Rattle.server_book.specs.declared.reply.Reply.TheVariants.{Granted}
+use Rattle.server_book.specs.Answer.{IsAnswer, IsFirstRefusal, IsRefusal}
+use Rattle.server_book.specs.Bindings.{IsLeastOf}
+use Rattle.server_book.specs.Queries.{IsToExpire, IsFirstExpiry, IsToSeize, HasReply, HasChange, HasMark}
+use Rattle.server_book.specs.Replayed.{state_of}
+use Rattle.locked_book.specs.declared.receipt.Receipt.{Receipt}
+use Rattle.locked_book.specs.declared.receipt.Look.{Look}
+use Rattle.locked_book.specs.declared.receipt.Work.{Work}
+use Rattle.locked_book.specs.declared.error.ServeError.{ServeError}
+use Rattle.locked_book.specs.declared.error.ServeError.TheVariants.{Stranger, Book, Memory}
+
+-- the value behind the lock: the book, how many lines it was opened with, and the total of the ledger
+pub record KeptBook : Type 0 where
+  pub journal : Journal
+  pub opened : ℕ
+  pub total : ℕ
+
+-- a pass: its receipts in order, and its share of the ledger's total
+pub record PassState : Type 0 where
+  pub receipts : List Receipt
+  pub share : ℕ
+
+-- lines are numbered from 1
+abbrev pub line_at : List Line → ℕ → Option Line
+line_at lines zero = None
+line_at lines (suc before) = slice_get lines before
+
+abbrev pub last_receipt : List Receipt → Option Receipt
+last_receipt receipts = slice_get receipts (length receipts - 1)
+
+-- the line of this receipt, if there is one, stands at its number
+abbrev pub Stands : List Line → Option Receipt → Type 0
+Stands lines last = IfSome last (λ r. line_at lines r.number ≡ Some r.line)
+
+-- the line that was found isn't the receipt's
+abbrev pub IsStrange : List Line → Option Receipt → ℕ → Option Line → Type 0
+IsStrange lines last number found =
+    (r : Receipt) × (last ≡ Some r) × (number ≡ r.number) × (found ≡ line_at lines number) × (found ≢ Some r.line)
+
+-- the only refusal is that the line that was found isn't the last receipt's
+abbrev pub IsShown : List Line → Option Receipt → Result (Unit {0}) ServeError → Type 0
+IsShown lines last (Ok done) = Stands lines last
+IsShown lines last (Err (Stranger number found)) = IsStrange lines last number found
+IsShown lines last (Err _) = ⊥
+
+-- ---- answers at a journal, for a pass with this last receipt
+
+-- an order's, which adds a line
+abbrev pub IsServed : Journal → Option Receipt → ℕ → Order → Result Receipt ServeError → Type 0
+IsServed j last now order (Ok r) =
+    Stands j.lines last × IsAnswer (state_of j) now order r.line r.reply × (r.number ≡ length j.lines + 1)
+IsServed j last now order (Err (Stranger number found)) = IsStrange j.lines last number found
+IsServed j last now order (Err (Book e)) = Stands j.lines last × IsRefusal (state_of j) now order e
+IsServed j last now order (Err Memory) = Stands j.lines last
+
+-- an offer's: what a Request would be given
+abbrev pub IsOffered : Journal → Option Receipt → ℕ → Order → Result (Prefix × ℕ) ServeError → Type 0
+IsOffered j last now order (Ok g) =
+    Stands j.lines last × (l : Line) × IsAnswer (state_of j) now order l (Granted g.0 g.1)
+IsOffered j last now order (Err (Stranger number found)) = IsStrange j.lines last number found
+IsOffered j last now order (Err (Book e)) = Stands j.lines last × IsFirstRefusal (state_of j) now order e
+IsOffered j last now order (Err Memory) = ⊥
+
+-- the unit of a prefix, if it is one
+abbrev pub IsUnitFound : BookState → Prefix → Option UnitValue → Type 0
+IsUnitFound b p found =
+    MatchOption found (is_unit b.pools p ≡ false) (λ u. (is_unit b.pools p ≡ true) × (u ≡ b.units p))
+
+pub record IsLook (j : Journal) (p : Prefix) (look : Look) : Type 0 where
+  pub lines : look.lines ≡ length j.lines
+  pub unit : IsUnitFound (state_of j) p look.unit
+  pub waiting : look.waiting ≡ (state_of j).waiting
+  pub down : look.down ≡ (state_of j).down
+
+abbrev pub IsLooked : Journal → Option Receipt → Prefix → Result Look ServeError → Type 0
+IsLooked j last p (Ok look) = Stands j.lines last × IsLook j p look
+IsLooked j last p (Err (Stranger number found)) = IsStrange j.lines last number found
+IsLooked j last p (Err _) = ⊥
+
+-- what there is to do at a reading
+pub record IsWork (j : Journal) (now : ℕ) (work : Work) : Type 0 where
+  pub lines : work.lines ≡ length j.lines
+  pub expired : IsLeastOf (IsToExpire (state_of j) now) work.expired
+  pub expiry : IsFirstExpiry (state_of j) work.expiry
+  pub reply : IsLeastOf (HasReply (state_of j) 0) work.reply
+  pub change : IsLeastOf (HasChange (state_of j) 0) work.change
+  pub mark : IsLeastOf (HasMark (state_of j) 0) work.mark
+  pub seizable : IsLeastOf (IsToSeize (state_of j) now) work.seizable
+
+abbrev pub IsWorkFound : Journal → Option Receipt → ℕ → Result Work ServeError → Type 0
+IsWorkFound j last now (Ok work) = Stands j.lines last × IsWork j now work
+IsWorkFound j last now (Err (Stranger number found)) = IsStrange j.lines last number found
+IsWorkFound j last now (Err _) = ⊥
+
+-- ---- the change
+
+-- the receipt's line was added to the book and the receipt to the pass, and nothing else has changed
+pub record IsEntered (old new : KeptBook) (had has : PassState) (r : Receipt) : Type 0 where
+  pub journal : new.journal ≡ record old.journal { lines = old.journal.lines ++ r.line ∷ [] }
+  pub receipts : has.receipts ≡ had.receipts ++ r ∷ []
+  pub opened : new.opened ≡ old.opened
+  pub total : new.total ≡ old.total + 1
+  pub share : has.share ≡ had.share + 1

@@ -1,0 +1,28 @@
+//! A server's book that many workers share. Each serves through a pass of its own, and at the end the journal is the
+//! opening and one line for each receipt of the passes: nothing is lost, doubled or changed under way.
+//!
+//! A [`SharedBook`] is a book behind a lock. `open` makes it, with the passes to it; `serve` does one order and gives
+//! the pass its [`Receipt`]; `look`, `work` and `offer` read; `close` gives the book back. The lock is held for one
+//! order and no longer. [`Kept`] is the value behind the lock: it stands in a module of its own, with private fields,
+//! so that only `enter` changes the book, and `enter` says the change in full.
+//!
+//! How many lines were added is counted in a ledger, of which each pass has a share: the number of its receipts. So
+//! an accepted `serve` is one accepted `enter`. What calls under the lock answer is in specs/Serving, what `close`
+//! promises in specs/Closing.
+#![tactic(auto)]
+
+mod closing;
+mod error;
+mod keeping;
+mod looking;
+mod name;
+mod receipt;
+mod shared;
+mod showing;
+mod telling;
+
+pub use error::{CloseFault, LockFault, ServeError};
+pub use keeping::{Kept, Pass};
+pub use name::BookName;
+pub use receipt::{Look, Receipt, Work};
+pub use shared::{CloseError, LockError, SharedBook};

@@ -1,0 +1,47 @@
+//! What a pass is given.
+
+use binding_rules::Unit;
+use journal_lines::Line;
+use lead_time::{End, Reading};
+use prefix_range::Prefix;
+use server_book::Reply;
+
+/// One accepted order: the line that it added, the line's number (from 1) and the reply.
+#[derive(Clone, Copy, Debug, PartialEq, Eq)]
+pub struct Receipt {
+    pub number: u32,
+    pub line: Line,
+    pub reply: Reply,
+}
+
+/// What one look at the book found.
+#[derive(Clone, Copy, Debug, PartialEq, Eq)]
+pub struct Look {
+    /// How many lines the journal has.
+    pub lines: usize,
+    /// The unit that was asked for; `None` where the prefix is no unit of the server's pools.
+    pub unit: Option<Unit>,
+    /// Whether the server waits for its partner's answer to the last restart.
+    pub waiting: bool,
+    /// The reading since which the partner is taken for down.
+    pub down: Option<Reading>,
+}
+
+/// What there is to do in a book at a reading: of each kind the unit with the lowest address, if there is one.
+#[derive(Clone, Copy, Debug, PartialEq, Eq)]
+pub struct Work {
+    /// How many lines the journal has.
+    pub lines: usize,
+    /// The unit that an Expire ends.
+    pub expired: Option<Prefix>,
+    /// The first reading at which an Expire ends one, in milliseconds.
+    pub expiry: Option<End>,
+    /// The unit with a pending reply.
+    pub reply: Option<Prefix>,
+    /// The unit with a change that is due to be told.
+    pub change: Option<Prefix>,
+    /// The unit that was seized, and isn't acknowledged yet.
+    pub mark: Option<Prefix>,
+    /// The unit that a Seize takes over.
+    pub seizable: Option<Prefix>,
+}

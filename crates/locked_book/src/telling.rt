@@ -1,0 +1,40 @@
+//! What is told of a line.
+
+ghost use Rattle.std.specs.Prelude.{◌≡◌};
+ghost use Rattle.book_rules.specs.Book.{Book};
+ghost use Rattle.server_book.specs.Answer.{reply_to};
+ghost use Rattle.locked_book.specs.Telling.{outcome_in};
+
+use binding_rules::Outcome;
+use journal_lines::{Event, Line};
+use server_book::Reply;
+
+/// What was made of a message, where the reply tells it.
+pub(crate) fn outcome_in(reply: &Reply) -> Option<Outcome>
+    ensures { result ≡ outcome_in reply.now }
+{
+    match reply {
+        Reply::Taken(outcome) => Some(*outcome),
+        _ => None,
+    }
+}
+
+/// The reply that a line had, where this was made of the message that it takes.
+pub(crate) fn reply_of(line: &Line, told: Option<Outcome>) -> Reply
+    ensures { (b : Book) → told ≡ outcome_in (reply_to b line.now.reading line.now.event)
+        → result ≡ reply_to b line.now.reading line.now.event }
+{
+    match (&line.event, told) {
+        (Event::Grant(lease), _) => Reply::Granted {
+            prefix: lease.prefix,
+            valid: lease.valid,
+        },
+        (Event::Release { .. }, _) => Reply::Released,
+        (Event::Send(message), _) => Reply::Sent {
+            serial: message.serial,
+            body: message.body,
+        },
+        (Event::Take(_), Some(outcome)) => Reply::Taken(outcome),
+        _ => Reply::Done,
+    }
+}
