@@ -25,3 +25,9 @@ pub timeline_written : (given held now : Option (List ℕ)) (input : List ℕ) (
     → IfOk r (Tells (IsTimelineOf a b) held now) → IfOk r (IsWritten IsTimeline given held now)
 timeline_written given held now input a b (Err e) is ea eb h = tt
 timeline_written given held now input a b (Ok status) is ea eb (text, of, appended) = written IsTimeline given held now input text status is (timeline_of input a b text status ea eb of) appended
+
+-- what is so of what the texts of an input were read to is so of the input
+pub of_input : (P : Result Journal JournalFault → Result Journal JournalFault → List ℕ → Type 0) (input : List ℕ) (a b : Result Journal JournalFault) (rest : List ℕ)
+    → a ≡ journal_of_side Primary (first_text input) → b ≡ journal_of_side Secondary (first_text (text_behind input)) → rest ≡ text_behind (text_behind input)
+    → P a b rest → P (journal_of_side Primary (first_text input)) (journal_of_side Secondary (first_text (text_behind input))) (text_behind (text_behind input))
+of_input P input a b rest ea eb er h = subst (λ r. P (journal_of_side Primary (first_text input)) (journal_of_side Secondary (first_text (text_behind input))) r) er (subst (λ x. P (journal_of_side Primary (first_text input)) x rest) eb (subst (λ x. P x b rest) ea h))

@@ -38,3 +38,8 @@ given_otherwise most None n is = absurd is
 pub none_otherwise : (most : ℕ) (o : Option Text) → o ≢ None → ((n : ℕ) → IsNumber most o n → ⊥) → (n : ℕ) → IsNumberOrNone most o n → ⊥
 none_otherwise most (Some text) some fails n is = fails n is
 none_otherwise most None some _ n is = some refl
+
+-- an option has one number
+pub same_number : (most : ℕ) → most < 2 ^ 64 → (o : Option Text) (n m : ℕ) → IsNumber most o n → IsNumber most o m → n ≡ m
+same_number most fits (Some text) n m a b = let same : Some n ≡ Some m = sym (spelled_number most fits text n a) ∙ spelled_number most fits text m b in cc
+same_number most fits None n m a b = absurd a

@@ -1,9 +1,12 @@
 -- What the desk answers to an input.
-use Rattle.std.specs.Prelude.{◌≡◌, ℕ, List, take, drop}
+use Rattle.std.specs.Prelude.{◌≡◌, ℕ, List, take, drop, Result}
+use Rattle.journal_lines.specs.declared.line.Journal.{Journal}
+use Rattle.journal_lines.specs.declared.fault.JournalFault.{JournalFault}
+use Rattle.certificate.specs.Faults.{certificate_of}
 use Rattle.attribution.specs.declared.verdict.Verdict.{Verdict}
 use Rattle.attribution.specs.declared.verdict.Verdict.TheVariants.{Accepted}
 use Rattle.attribution.specs.VerdictText.{verdict_line}
-use Rattle.auditor.specs.Texts.{IsVerdictOfTexts}
+use Rattle.auditor.specs.Texts.{IsVerdictOfParsed, IsVerdictOfTexts}
 use Rattle.attribution_desk.specs.Input.{text_length}
 
 -- the input's first text, and what follows it
@@ -17,7 +20,14 @@ abbrev pub status_of : Verdict → ℕ
 status_of Accepted = 0
 status_of _ = 1
 
--- the line and the status of the verdict on journal A, journal B and the certificate, one after the other
+-- the line and the status of the verdict on what two texts are as journals and on a certificate's text
+abbrev pub IsAnswerOf : Result Journal JournalFault → Result Journal JournalFault → List ℕ → (skew transit : ℕ)
+    → List ℕ → ℕ → Type 0
+IsAnswerOf a b certificate skew transit line status =
+    (v : Verdict) × IsVerdictOfParsed a b skew transit (certificate_of certificate) v
+    × (line ≡ verdict_line v) × (status ≡ status_of v)
+
+-- of an input: journal A, journal B and the certificate, one after the other
 abbrev pub IsAnswer : List ℕ → (skew transit : ℕ) → List ℕ → ℕ → Type 0
 IsAnswer input skew transit line status =
     (v : Verdict)

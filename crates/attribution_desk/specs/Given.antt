@@ -1,9 +1,9 @@
 -- The command that the words of a command line give, as clap reads them.
-use Rattle.std.specs.Prelude.{◌≡◌, ℕ, ◌≤◌, List, Option, Some, None, codes}
+use Rattle.std.specs.Prelude.{◌≡◌, ℕ, ◌<◌, ◌≤◌, List, Option, Some, None, codes}
 use Rattle.std.specs.Fmt.{decimal}
 use Rattle.clap.specs.Words.{Row, Text, first_of}
 use Rattle.attribution_desk.specs.declared.command.Command.{Command}
-use Rattle.attribution_desk.specs.declared.command.Command.TheVariants.{Audit, Timeline}
+use Rattle.attribution_desk.specs.declared.command.Command.TheVariants.{Audit, Batch, Timeline}
 
 -- the text is this number's, in decimal digits, which is at most so much
 abbrev pub IsNumber : (most : ℕ) → Option Text → ℕ → Type 0
@@ -23,12 +23,20 @@ IsSkew text skew = IsNumber 86400000 text skew
 abbrev pub IsTransit : Option Text → ℕ → Type 0
 IsTransit text transit = IsNumberOrNone 3600000 text transit
 
+-- 1 to 64
+abbrev pub IsWorkers : Option Text → ℕ → Type 0
+IsWorkers text workers = IsNumber 64 text workers × (0 < workers)
+
 -- the subcommand that clap finds in the words and the values of its options are those of the command
 abbrev pub IsGiven : Option (Text × List Row) → Command → Type 0
 IsGiven None command = ⊥
 IsGiven (Some found) (Audit skew transit) =
     (found.0 ≡ codes "audit") × IsSkew (first_of (codes "skew-ms") found.1) skew
     × IsTransit (first_of (codes "transit-ms") found.1) transit
+IsGiven (Some found) (Batch skew transit workers) =
+    (found.0 ≡ codes "batch") × IsSkew (first_of (codes "skew-ms") found.1) skew
+    × IsTransit (first_of (codes "transit-ms") found.1) transit
+    × IsWorkers (first_of (codes "workers") found.1) workers
 IsGiven (Some found) Timeline = found.0 ≡ codes "timeline"
 
 -- they are those of no command

@@ -2,7 +2,9 @@ pub mod Words
 pub mod Given
 pub mod Input
 pub mod Answer
+pub mod Batch
 pub mod Timeline
 pub mod Running
 pub mod Intake
 pub mod Telling
+pub mod Claims

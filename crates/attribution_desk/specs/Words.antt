@@ -12,6 +12,11 @@ audit_app =
     with_rule (with_rule (new_app (codes "audit")) (option_rule (codes "skew-ms") true))
     (option_rule (codes "transit-ms") false)
 
+abbrev pub batch_app : App
+batch_app =
+    with_rule (with_rule (with_rule (new_app (codes "batch")) (option_rule (codes "skew-ms") true))
+    (option_rule (codes "workers") true)) (option_rule (codes "transit-ms") false)
+
 -- a subcommand has to be named
 abbrev pub bare : App
 bare = record {
@@ -20,4 +25,6 @@ bare = record {
 }
 
 abbrev pub desk : App
-desk = with_subcommand (with_subcommand bare audit_app.top) (new_app (codes "timeline")).top
+desk =
+    with_subcommand (with_subcommand (with_subcommand bare audit_app.top) batch_app.top)
+    (new_app (codes "timeline")).top

@@ -17,7 +17,7 @@ pub struct Answer {
     pub status: u8,
 }
 
-fn status_of(verdict: &Verdict) -> u8
+pub(crate) fn status_of(verdict: &Verdict) -> u8
     ensures { result ≡ status_of verdict.now }
 {
     match verdict {

@@ -1,12 +1,15 @@
 //! Answering one certificate over two journals.
 
 ghost use Rattle.std.specs.Prelude.{◌≡◌, ◌⊎◌, true, IfOk, IfErr, IsErrOf};
-ghost use Rattle.attribution_desk.specs.Answer.{IsAnswer};
+ghost use Rattle.std.specs.Result.{ForOk};
+ghost use Rattle.journal_text.specs.Closed.{IsClosed};
+ghost use Rattle.attribution_desk.specs.Answer.{IsAnswerOf, IsAnswer};
 ghost use Rattle.attribution_desk.specs.Running.{IsWritten};
 
 use crate::answer::Answer;
 use crate::error::DeskError;
-use crate::intake::Intake;
+use crate::intake::{Intake, ReadInput};
+use crate::judging::verdict_on_parsed;
 use crate::taking::{Taking, take_all};
 use crate::watched::Watched;
 use lead_time::{Skew, Transit};
@@ -14,10 +17,36 @@ use std::alloc::Global;
 use std::io::{Read, Write};
 use std::thread::Threads;
 
+/// The answer to two journals and a certificate's text.
+fn answer_to<T: Threads + Sync>(
+    rt: &T,
+    alloc: Global,
+    input: ReadInput,
+    skew: Skew,
+    transit: Transit,
+) -> Result<Answer, DeskError>
+    requires primary_closed { ForOk input.primary (λ journal. IsClosed journal.lines) }
+    requires secondary_closed { ForOk input.secondary (λ journal. IsClosed journal.lines) }
+    ensures answer { IfOk result (λ answer. IsAnswerOf input.primary input.secondary input.rest.items skew transit
+        answer.line.items answer.status) }
+    ensures refused { IfErr result (λ e. e ≡ DeskError.Memory) }
+{
+    let verdict = verdict_on_parsed(
+        rt,
+        alloc,
+        input.primary,
+        input.secondary,
+        &input.rest,
+        skew,
+        transit,
+    )?;
+    Answer::new(alloc, &verdict)
+}
+
 /// The verdict on the input's three texts, journal A, journal B and the certificate, as a line and a status;
 /// `Memory` where a growth was refused.
-pub fn judge(
-    rt: &(impl Threads + Sync),
+pub fn judge<T: Threads + Sync>(
+    rt: &T,
     alloc: Global,
     input: &[u8],
     skew: Skew,
@@ -26,9 +55,8 @@ pub fn judge(
     ensures answer { IfOk result (λ answer. IsAnswer input.now skew transit answer.line.items answer.status) }
     ensures refused { IfErr result (λ e. e ≡ DeskError.Memory) }
 {
-    Intake::new(alloc)
-        .take(input)?
-        .answer(rt, alloc, skew, transit)
+    let intake = Intake::new(alloc).take(input)?;
+    answer_to(rt, alloc, intake.finish(), skew, transit)
 }
 
 /// Writes the verdict on all that a reader gives.
@@ -46,7 +74,7 @@ pub(crate) fn audit_input<T: Threads + Sync, R: Read, W: Write>(
     ensures write { IsErrOf result DeskError.Write → writer.new.failed ≡ true }
 {
     let intake = take_all(alloc, reader, Intake::new(alloc))?;
-    let answer = intake.answer(rt, alloc, skew, transit)?;
+    let answer = answer_to(rt, alloc, intake.finish(), skew, transit)?;
     writer.write_out(&answer.line)?;
     Ok(answer.status)
 }

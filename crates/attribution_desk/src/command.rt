@@ -5,10 +5,11 @@ ghost use Rattle.std.specs.Prelude.{map, string_bytes};
 ghost use Rattle.clap.specs.Words.{app_of, rule_of, first_of, rows_of, found_of, subcommand_of, subcommand_rows_of};
 ghost use Rattle.clap.specs.Words.{takes, fault_of, kind_of};
 ghost use Rattle.clap.specs.declared.builder.command.Command.TheViews.{out-Command};
-ghost use Rattle.attribution_desk.specs.Words.{option_rule, audit_app, desk};
-ghost use Rattle.attribution_desk.specs.Given.{IsNumber, IsSkew, IsTransit, IsGiven, IsNoCommand};
+ghost use Rattle.attribution_desk.specs.Words.{option_rule, audit_app, batch_app, desk};
+ghost use Rattle.attribution_desk.specs.Given.{IsNumber, IsSkew, IsTransit, IsWorkers, IsGiven, IsNoCommand};
 
 use crate::error::UsageError;
+use crate::workers::Workers;
 use clap::error::ErrorKind;
 use clap::{Arg, ArgAction, ArgMatches, Command as ClapCommand, Error as ClapError};
 use lead_time::{Skew, Transit};
@@ -20,7 +21,16 @@ use text_fields::number_of;
 pub enum Command {
     /// Judge one certificate over two journals, with clocks within this skew of true time and answers that reach
     /// their clients within this transit.
-    Audit { skew: Skew, transit: Transit },
+    Audit {
+        skew: Skew,
+        transit: Transit,
+    },
+    /// Judge any number of certificates over two journals in the same way, by this many workers.
+    Batch {
+        skew: Skew,
+        transit: Transit,
+        workers: Workers,
+    },
     /// Print the lines of two journals in one order.
     Timeline,
 }
@@ -45,14 +55,30 @@ fn audit_command<'a>(alloc: Global) -> Result<ClapCommand<'a>, AllocError>
     ClapCommand::new(alloc, "audit").arg(skew)?.arg(transit)
 }
 
+/// `batch --skew-ms N --workers N [--transit-ms N]`.
+fn batch_command<'a>(alloc: Global) -> Result<ClapCommand<'a>, AllocError>
+    ensures app { IfOk result (λ c. app_of c ≡ batch_app) }
+    ensures local { IfOk result (λ c. (out-Command c).has_globals ≡ false) }
+{
+    let skew = number_option(alloc, "skew-ms", true);
+    let workers = number_option(alloc, "workers", true);
+    let transit = number_option(alloc, "transit-ms", false);
+    ClapCommand::new(alloc, "batch")
+        .arg(skew)?
+        .arg(workers)?
+        .arg(transit)
+}
+
 fn desk_command<'a>(alloc: Global) -> Result<ClapCommand<'a>, AllocError>
     ensures { IfOk result (λ c. app_of c ≡ desk) }
 {
     let audit = audit_command(alloc)?;
+    let batch = batch_command(alloc)?;
     ClapCommand::new(alloc, "desk_cli")
         .subcommand_required(true)
         .disable_help_subcommand(true)
         .subcommand(audit)?
+        .subcommand(batch)?
         .subcommand(ClapCommand::new(alloc, "timeline"))
 }
 
@@ -99,6 +125,16 @@ fn transit_given(options: &ArgMatches) -> Option<Transit>
     Transit::new(number_given(options, "transit-ms", Transit::MAX)?).ok()
 }
 
+/// How many workers, 1 to 64.
+fn workers_given(options: &ArgMatches) -> Option<Workers>
+    ensures given { IfSome result (IsWorkers (first_of (codes "workers") (rows_of (found_of options.now)))) }
+    ensures none { result ≡ None
+        → (workers : ℕ) → IsWorkers (first_of (codes "workers") (rows_of (found_of options.now))) workers → ⊥ }
+{
+    let count = number_given(options, "workers", Workers::MAX)?;
+    Workers::new(count)
+}
+
 fn command_in(matches: &ArgMatches) -> Option<Command>
     ensures given { IfSome result (IsGiven (subcommand_rows_of matches.now)) }
     ensures none { result ≡ None → IsNoCommand (subcommand_rows_of matches.now) }
@@ -108,6 +144,15 @@ fn command_in(matches: &ArgMatches) -> Option<Command>
         let skew = skew_given(options)?;
         let transit = transit_given(options)?;
         Some(Command::Audit { skew, transit })
+    } else if name == "batch" {
+        let skew = skew_given(options)?;
+        let transit = transit_given(options)?;
+        let workers = workers_given(options)?;
+        Some(Command::Batch {
+            skew,
+            transit,
+            workers,
+        })
     } else if name == "timeline" {
         Some(Command::Timeline)
     } else {

@@ -5,6 +5,7 @@ ghost use Rattle.attribution_desk.specs.declared.error.DeskError.TheVariants.{Me
 
 use auditor::AuditError;
 use line_index::IndexError;
+use parallel_check::CheckError;
 use std::alloc::AllocError;
 use thiserror::Error;
 
@@ -44,6 +45,15 @@ impl From<AuditError> for DeskError {
     ghost from_gives = { λ _ e. e ≡ Memory };
 
     fn from(_e: AuditError) -> DeskError {
+        DeskError::Memory
+    }
+}
+
+impl From<CheckError> for DeskError {
+    ghost from_gives = { λ _ e. e ≡ Memory };
+
+    // The desk hands over 1 to 64 workers.
+    fn from(_e: CheckError) -> DeskError {
         DeskError::Memory
     }
 }

@@ -1,27 +1,35 @@
 //! Standard input in chunks.
 
-ghost use Rattle.std.specs.Prelude.{◌≡◌, ℕ, List, [], IfOk, IfErr};
-ghost use Rattle.attribution_desk.specs.Answer.{IsAnswer};
+ghost use Rattle.std.specs.Prelude.{◌≡◌, ℕ, List, []};
+ghost use Rattle.std.specs.Result.{ForOk};
+ghost use Rattle.binding_rules.specs.declared.role.Role.TheVariants.{Primary as A, Secondary as B};
+ghost use Rattle.journal_text.specs.Closed.{IsClosed};
+ghost use Rattle.journal_text.specs.Faults.{journal_of_side};
+ghost use Rattle.attribution_desk.specs.Answer.{first_text, text_behind};
 ghost use Rattle.attribution_desk.specs.Intake.{HasTaken};
 
-use crate::answer::Answer;
 use crate::error::DeskError;
 use crate::journal_intake::JournalIntake;
-use crate::judging::verdict_on_parsed;
 use crate::taking::Taking;
 use binding_rules::Role;
-use journal_text::{text_gives_what_it_spells, written_is_closed};
-use lead_time::{Skew, Transit};
+use journal_text::{Journal, JournalFault, text_gives_what_it_spells, written_is_closed};
 use std::alloc::Global;
-use std::thread::Threads;
 
-/// The input's three texts, journal A, journal B and the certificate, as far as they have come: the lines of the
-/// journals, and the octets of the certificate.
+/// The input's three texts, journal A, journal B and what follows them, as far as they have come: the lines of the
+/// journals, and the octets of the rest.
 #[derive(Drop)]
 pub(crate) struct Intake {
     primary: JournalIntake,
     secondary: JournalIntake,
     certificate: Vec<u8>,
+}
+
+/// What the first two texts are as journals, or their first faults, and the octets that follow.
+#[derive(Drop)]
+pub(crate) struct ReadInput {
+    pub(crate) primary: Result<Journal, JournalFault>,
+    pub(crate) secondary: Result<Journal, JournalFault>,
+    pub(crate) rest: Vec<u8>,
 }
 
 impl Intake {
@@ -36,35 +44,26 @@ impl Intake {
         }
     }
 
-    /// The answer to the input that was taken; `Memory` where a growth was refused.
-    pub(crate) fn answer(
-        self,
-        rt: &(impl Threads + Sync),
-        alloc: Global,
-        skew: Skew,
-        transit: Transit,
-    ) -> Result<Answer, DeskError>
+    /// The journals of the input that was taken, and what follows them.
+    pub(crate) fn finish(self) -> ReadInput
         // What was made by `new` and `take` has taken some input.
         requires { (input : List ℕ) × HasTaken self input }
-        ensures answer { IfOk result
-            (λ answer. (input : List ℕ) → HasTaken self input
-            → IsAnswer input skew transit answer.line.items answer.status) }
-        ensures refused { IfErr result (λ e. e ≡ DeskError.Memory) }
+        ensures primary { (input : List ℕ) → HasTaken self input
+            → result.primary ≡ journal_of_side A (first_text input) }
+        ensures secondary { (input : List ℕ) → HasTaken self input
+            → result.secondary ≡ journal_of_side B (first_text (text_behind input)) }
+        ensures rest { (input : List ℕ) → HasTaken self input
+            → result.rest.items ≡ text_behind (text_behind input) }
+        ensures primary_closed { ForOk result.primary (λ journal. IsClosed journal.lines) }
+        ensures secondary_closed { ForOk result.secondary (λ journal. IsClosed journal.lines) }
     {
         text_gives_what_it_spells();
         written_is_closed();
-        let primary = self.primary.finish();
-        let secondary = self.secondary.finish();
-        let verdict = verdict_on_parsed(
-            rt,
-            alloc,
-            primary,
-            secondary,
-            &self.certificate,
-            skew,
-            transit,
-        )?;
-        Answer::new(alloc, &verdict)
+        ReadInput {
+            primary: self.primary.finish(),
+            secondary: self.secondary.finish(),
+            rest: self.certificate,
+        }
     }
 }
 

@@ -14,6 +14,8 @@
 
 mod answer;
 mod audit;
+mod batch;
+mod certificates;
 mod command;
 mod end_line;
 mod error;
@@ -25,6 +27,7 @@ mod running;
 mod taking;
 mod timelines;
 mod watched;
+mod workers;
 
 pub use answer::Answer;
 pub use audit::judge;
@@ -33,3 +36,4 @@ pub use error::{DeskError, UsageError};
 pub use running::run;
 pub use timelines::timeline;
 pub use watched::Watched;
+pub use workers::Workers;

@@ -4,17 +4,19 @@ ghost use Rattle.std.specs.Prelude.{◌≡◌, ◌⊎◌, true, IfOk, IsErrOf};
 ghost use Rattle.attribution_desk.specs.Running.{Answers, IsWritten};
 
 use crate::audit::audit_input;
+use crate::batch::batch_input;
 use crate::command::Command;
 use crate::error::DeskError;
 use crate::timelines::timeline_input;
 use crate::watched::Watched;
 use std::alloc::Global;
 use std::io::{Read, Write};
+use std::sync::Wait;
 use std::thread::Threads;
 
 /// Carries out a command: reads all of the input, writes the answer and gives the status. `Read` where the input fails
 /// or goes on for too long, `Write` where the output fails, `Memory` where a growth was refused.
-pub fn run<T: Threads + Sync, R: Read, W: Write>(
+pub fn run<T: Threads + Wait + Sync, R: Read, W: Write>(
     rt: &T,
     alloc: Global,
     command: &Command,
@@ -29,6 +31,11 @@ pub fn run<T: Threads + Sync, R: Read, W: Write>(
 {
     match command {
         Command::Audit { skew, transit } => audit_input(rt, alloc, *skew, *transit, reader, writer),
+        Command::Batch {
+            skew,
+            transit,
+            workers,
+        } => batch_input(rt, alloc, *skew, *transit, *workers, reader, writer),
         Command::Timeline => timeline_input(alloc, reader, writer),
     }
 }

@@ -5,6 +5,7 @@
 
 use attribution_desk::{DeskError, UsageError, Watched, command_of, run};
 use std::process::ExitCode;
+use std::sync::Wait;
 use std::thread::Threads;
 use std::{env, io};
 use thiserror::Error;
@@ -32,7 +33,7 @@ fn usage_fault(error: io::Error) -> UsageError {
     }
 }
 
-fn answered(rt: &HostRuntime, threads: &(impl Threads + Sync)) -> Result<u8, Fault> {
+fn answered(rt: &HostRuntime, threads: &(impl Threads + Wait + Sync)) -> Result<u8, Fault> {
     let words = words_given(rt).map_err(Fault::Usage)?;
     let command = command_of(rt.alloc(), &words).map_err(Fault::Usage)?;
     let mut reader = Watched::new(rt.stdin());

@@ -6,6 +6,7 @@ use lead_time::{Skew, Transit};
 use std::alloc::Global;
 use std::io;
 use std::io::Read;
+use std::sync::Wait;
 use std::test::Fail;
 use std::thread::Threads;
 
@@ -33,7 +34,7 @@ fn audit(skew: Skew) -> Command {
 
 /// What the desk writes for an input that is read in chunks of this length.
 fn line_in_chunks(
-    rt: &(impl Threads + Sync),
+    rt: &(impl Threads + Wait + Sync),
     alloc: Global,
     input: &str,
     length: usize,

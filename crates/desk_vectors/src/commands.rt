@@ -1,6 +1,6 @@
 //! Which words are commands.
 
-use attribution_desk::{Command, UsageError, command_of};
+use attribution_desk::{Command, UsageError, Workers, command_of};
 use lead_time::{Skew, Transit};
 use std::alloc::{AllocError, Global};
 use std::test::Fail;
@@ -14,7 +14,7 @@ fn command(alloc: Global, words: &[&str]) -> Result<Result<Command, UsageError>,
 }
 
 #[test]
-fn finds_commands(rt: HostRuntime) -> Result<(), Fail> {
+fn finds_audits(rt: HostRuntime) -> Result<(), Fail> {
     let audit = Command::Audit {
         skew: Skew::new(2000)?,
         transit: Transit::ZERO,
@@ -34,11 +34,48 @@ fn finds_commands(rt: HostRuntime) -> Result<(), Fail> {
         "2000",
     ];
     assert_eq!(rt; command(rt.alloc(), &words)?, Ok(longest));
+    Ok(())
+}
+
+#[test]
+fn finds_batches(rt: HostRuntime) -> Result<(), Fail> {
+    let Some(workers) = Workers::new(64) else {
+        return Err(Fail::from("1 to 64"));
+    };
+    let batch = Command::Batch {
+        skew: Skew::new(2000)?,
+        transit: Transit::ZERO,
+        workers,
+    };
+    let words = ["desk_cli", "batch", "--skew-ms", "2000", "--workers", "64"];
+    assert_eq!(rt; command(rt.alloc(), &words)?, Ok(batch));
+    Ok(())
+}
+
+#[test]
+fn finds_timelines(rt: HostRuntime) -> Result<(), Fail> {
     let found = command(rt.alloc(), &["desk_cli", "timeline"])?;
     assert_eq!(rt; found, Ok(Command::Timeline));
-    let others: [&[&str]; 13] = [
-        &["desk_cli", "timeline", "--skew-ms", "2000"],
+    Ok(())
+}
+
+#[test]
+fn refuses_other_words(rt: HostRuntime) -> Result<(), Fail> {
+    let others: [&[&str]; 4] = [
         &["desk_cli"],
+        &["desk_cli", "timeline", "--skew-ms", "2000"],
+        &["desk_cli", "audit", "--help"],
+        &["desk_cli", "judge", "--skew-ms", "2000"],
+    ];
+    for words in others {
+        assert_eq!(rt; command(rt.alloc(), words)?, Err(UsageError::Usage));
+    }
+    Ok(())
+}
+
+#[test]
+fn refuses_audits(rt: HostRuntime) -> Result<(), Fail> {
+    let others: [&[&str]; 9] = [
         &["desk_cli", "audit"],
         &["desk_cli", "audit", "--skew-ms", "02000"],
         &["desk_cli", "audit", "--skew-ms", "+2000"],
@@ -62,8 +99,20 @@ fn finds_commands(rt: HostRuntime) -> Result<(), Fail> {
             "1e3",
         ],
         &["desk_cli", "audit", "--skew-ms", "2000", "more"],
-        &["desk_cli", "audit", "--help"],
-        &["desk_cli", "judge", "--skew-ms", "2000"],
+    ];
+    for words in others {
+        assert_eq!(rt; command(rt.alloc(), words)?, Err(UsageError::Usage));
+    }
+    Ok(())
+}
+
+#[test]
+fn refuses_batches(rt: HostRuntime) -> Result<(), Fail> {
+    let others: [&[&str]; 4] = [
+        &["desk_cli", "batch", "--skew-ms", "2000"],
+        &["desk_cli", "batch", "--workers", "2"],
+        &["desk_cli", "batch", "--skew-ms", "2000", "--workers", "0"],
+        &["desk_cli", "batch", "--skew-ms", "2000", "--workers", "65"],
     ];
     for words in others {
         assert_eq!(rt; command(rt.alloc(), words)?, Err(UsageError::Usage));

@@ -1,0 +1,47 @@
+-- For bodies only: certificates' texts on their way to verdicts.
+use Rattle.std.specs.Prelude.{◌≡◌, ⊤, ℕ, List, [], ◌∷◌, All, map, Option, Some, None, Result, Ok, Err}
+use Rattle.journal_lines.specs.declared.line.Journal.{Journal}
+use Rattle.claims.specs.declared.certificate.Certificate.{Certificate}
+use Rattle.claims.specs.declared.fault.CertificateFault.{CertificateFault}
+use Rattle.certificate.specs.declared.error.CertificateError.{CertificateError}
+use Rattle.certificate.specs.declared.error.CertificateError.TheVariants.{Fault, Memory}
+use Rattle.certificate.specs.Faults.{certificate_of}
+use Rattle.attribution.specs.declared.verdict.Verdict.{Verdict}
+use Rattle.attribution.specs.declared.verdict.Verdict.TheVariants.{Certificate as FaultOf}
+use Rattle.auditor.specs.Texts.{IsVerdictOfJournals}
+use Rattle.attribution_desk.specs.declared.certificates.Claim.{Claim}
+
+abbrev pub texts_of : List Claim → List (List ℕ)
+texts_of claims = map (λ c. c.text.now) claims
+
+-- what a text was read to, where memory was at hand
+abbrev pub IsReadTo : List ℕ → Option (Result Certificate CertificateError) → Type 0
+IsReadTo text None = ⊥
+IsReadTo text (Some (Ok certificate)) = certificate_of text ≡ Ok certificate
+IsReadTo text (Some (Err (Fault fault))) = certificate_of text ≡ Err fault
+IsReadTo text (Some (Err Memory)) = ⊤
+
+abbrev pub AreRead : List Claim → Type 0
+AreRead claims = All (λ c. IsReadTo c.text.now c.parsed) claims
+
+-- each text is a certificate, the next of these, or has this fault
+abbrev pub AreGathered : List (List ℕ) → List (Option CertificateFault) → List Certificate → Type 0
+AreGathered [] [] [] = ⊤
+AreGathered (text ∷ texts) (None ∷ faults) (c ∷ cs) = (certificate_of text ≡ Ok c) × AreGathered texts faults cs
+AreGathered (text ∷ texts) (Some fault ∷ faults) cs = (certificate_of text ≡ Err fault) × AreGathered texts faults cs
+AreGathered _ _ _ = ⊥
+
+-- on each certificate its verdict, in order
+abbrev pub AreAudited : Journal → Journal → (skew transit : ℕ) → List Certificate → List Verdict → Type 0
+AreAudited a b skew transit [] [] = ⊤
+AreAudited a b skew transit (c ∷ cs) (v ∷ vs) =
+    IsVerdictOfJournals a b skew transit c v × AreAudited a b skew transit cs vs
+AreAudited a b skew transit [] (v ∷ vs) = ⊥
+AreAudited a b skew transit (c ∷ cs) [] = ⊥
+
+-- the verdict on each text: its fault, or else the next of these
+abbrev pub woven : List (Option CertificateFault) → List Verdict → List Verdict
+woven [] vs = []
+woven (Some fault ∷ faults) vs = FaultOf fault ∷ woven faults vs
+woven (None ∷ faults) (v ∷ vs) = v ∷ woven faults vs
+woven (None ∷ faults) [] = []

@@ -1,0 +1,13 @@
+//! Vectors from outside for a server's book: what it answers, and the journal that it leaves.
+#![tactic(auto)]
+
+#[cfg(test)]
+mod alone;
+#[cfg(test)]
+mod books;
+#[cfg(test)]
+mod clients;
+#[cfg(test)]
+mod settings;
+#[cfg(test)]
+mod steps;
