@@ -5,7 +5,7 @@ ghost use Rattle.std.specs.Prelude.{◌≡◌, length};
 use crate::books::{at, opened, request};
 use lead_time::Reading;
 use locked_book::{BookName, Pass, SharedBook};
-use prefix_range::Prefix;
+use prefix_range::{Prefix, read_text};
 use server_book::{Book, Order, Reply};
 use std::alloc::Global;
 use std::marker::Brand;
@@ -40,38 +40,36 @@ fn sees_another<N: BookName, R: Wait>(
     false
 }
 
-/// Serves one client.
+/// Serves one client, and says whether it was given a prefix.
 fn serves<N: BookName, R: Wait>(
     rt: &R,
     shared: &SharedBook<N>,
     pass: &mut Pass<N>,
     now: Reading,
     order: Option<Order>,
-) -> Option<Prefix> {
-    let order = order?;
+) -> bool {
+    let Some(order) = order else {
+        return false;
+    };
     match shared.serve(rt, pass, now, &order) {
-        Ok(receipt) => match receipt.reply {
-            Reply::Granted { prefix, valid: _ } => Some(prefix),
-            _ => None,
-        },
-        Err(_) => None,
+        Ok(receipt) => matches!(&receipt.reply, Reply::Granted { .. }),
+        Err(_) => false,
     }
 }
 
-/// Serves a hundred clients, and says whether all went well.
+/// Serves a hundred clients, looks after the first, and says whether all went well.
 fn serves_all<N: BookName, R: Wait>(
     rt: &R,
     shared: &SharedBook<N>,
     mut pass: Pass<N>,
     now: Reading,
+    prefix: Prefix,
     thread: u8,
 ) -> (Pass<N>, bool) {
-    let Some(prefix) = serves(rt, shared, &mut pass, now, request(thread, 0)) else {
-        return (pass, false);
-    };
-    let mut well = sees_another(rt, shared, &mut pass, prefix);
+    let mut well = serves(rt, shared, &mut pass, now, request(thread, 0));
+    well = well && sees_another(rt, shared, &mut pass, prefix);
     for client in 1..EACH {
-        well = well && serves(rt, shared, &mut pass, now, request(thread, client)).is_some();
+        well = well && serves(rt, shared, &mut pass, now, request(thread, client));
     }
     (pass, well)
 }
@@ -90,6 +88,7 @@ fn by_two<N: BookName + Send + Sync, R: Threads + Wait + Sync>(
     blank: Blank,
     book: Book,
     now: Reading,
+    prefix: Prefix,
 ) -> Option<Served>
     requires name { blank.name ≡ N.name }
     requires passes { (blank.parts ≡ N.parts) × (N.parts ≡ 2) × (N.passes ≡ 2) }
@@ -103,8 +102,8 @@ fn by_two<N: BookName + Send + Sync, R: Threads + Wait + Sync>(
     let lent = &shared;
     let (one, other) = thread::join(
         rt,
-        move || serves_all(rt, lent, first, now, 1),
-        move || serves_all(rt, lent, second, now, 2),
+        move || serves_all(rt, lent, first, now, prefix, 1),
+        move || serves_all(rt, lent, second, now, prefix, 2),
     );
     let (first, well) = one;
     let (second, also) = other;
@@ -127,7 +126,9 @@ fn by_two<N: BookName + Send + Sync, R: Threads + Wait + Sync>(
 #[test]
 fn two_threads_serve(rt: HostRuntime) -> Result<(), Fail> {
     let book = opened(rt.alloc())?;
-    let Some(served) = by_two::<Brand, _>(&rt, rt.alloc(), Blank::new(2), book, at(10000)?) else {
+    let prefix = read_text(b"2001:db8::/56")?;
+    let now = at(10000)?;
+    let Some(served) = by_two::<Brand, _>(&rt, rt.alloc(), Blank::new(2), book, now, prefix) else {
         return Err(Fail::from("not served"));
     };
     let Served { book, count, well } = served;
