@@ -77,6 +77,7 @@ impl<D: Write> Watched<D> {
     pub fn write_out(&mut self, octets: &[u8]) -> Result<(), DeskError>
         ensures bytes { OnOk result
             (Appends (D.contents self.old.device) (D.contents self.new.device) octets.now) }
+        ensures turns { self.new.turns ≡ self.old.turns }
         ensures kept { self.new.failed ≡ (if is_err result then true else self.old.failed) }
         ensures refused { IfErr result (λ e. e ≡ DeskError.Write) }
     {
