@@ -67,6 +67,7 @@ fn seizable(book: &Book, reading: u64) -> Result<Option<Prefix>, Fail> {
 fn finds_what_may_be_seized(rt: HostRuntime) -> Result<(), Fail> {
     let book = after(&rt, rt.alloc(), PRIMARY, &DOWN)?;
     let last = place(Some(255))?;
+    assert!(&rt; book.down() == Some(at(5_000_000)?));
     assert!(&rt; seizable(&book, 8_603_999)?.is_none());
     assert!(&rt; seizable(&book, 8_604_000)? == Some(last));
     Ok(())

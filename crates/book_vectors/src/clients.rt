@@ -1,8 +1,9 @@
 //! What clients get.
 
-use crate::books::{ONE_UNIT, PRIMARY, SHORT_LEAD, WITH_TRANSIT, check_text};
+use crate::books::{ONE_UNIT, PRIMARY, SHORT_LEAD, WITH_TRANSIT, at, check_text};
 use crate::steps::{Deed, Step, Wanted, after, lines_after, place};
 use book_rules::Rule;
+use prefix_range::Prefix;
 use server_book::{Book, BookError};
 use std::test::Fail;
 
@@ -57,6 +58,8 @@ const ENDS: [Step; 3] = [
     (3_614_000, Deed::Expire(0), Wanted::Done),
 ];
 
+const GRANTED: [Step; 1] = [(10_000, Deed::Request(1, None), Wanted::Granted(0, 3600))];
+
 const ENDS_BY_TRANSIT: [Step; 3] = [
     (10_000, Deed::Request(1, None), Wanted::Granted(0, 3600)),
     (3_614_499, Deed::Expire(0), Wanted::Breaks(5, Rule::Expiry)),
@@ -108,6 +111,20 @@ fn gives_no_unit_twice(rt: HostRuntime) -> Result<(), Fail> {
 fn expires_at_its_own_end(rt: HostRuntime) -> Result<(), Fail> {
     let lines = lines_after(&rt, rt.alloc(), PRIMARY, &ENDS)?;
     assert_eq!(&rt; lines, 4);
+    Ok(())
+}
+
+/// The unit that may be expired at a reading.
+fn expirable(book: &Book, reading: u64) -> Result<Option<Prefix>, Fail> {
+    Ok(book.first_to_expire(at(reading)?))
+}
+
+#[test]
+fn finds_what_may_be_expired(rt: HostRuntime) -> Result<(), Fail> {
+    let book = after(&rt, rt.alloc(), PRIMARY, &GRANTED)?;
+    let first = place(Some(0))?;
+    assert!(&rt; expirable(&book, 3_613_999)?.is_none());
+    assert!(&rt; expirable(&book, 3_614_000)? == Some(first));
     Ok(())
 }
 
