@@ -10,7 +10,7 @@ use crate::answer::Answer;
 use crate::error::DeskError;
 use crate::intake::{Intake, ReadInput};
 use crate::judging::verdict_on_parsed;
-use crate::taking::{Taking, take_all};
+use crate::taking::{Taking, halvings_for, take_all};
 use crate::watched::Watched;
 use lead_time::{Skew, Transit};
 use std::alloc::Global;
@@ -55,7 +55,7 @@ pub fn judge<T: Threads + Sync>(
     ensures answer { IfOk result (λ answer. IsAnswer input.now skew transit answer.line.items answer.status) }
     ensures refused { IfErr result (λ e. e ≡ DeskError.Memory) }
 {
-    let intake = Intake::new(alloc).take(input)?;
+    let intake = Intake::new(alloc).take(rt, halvings_for(rt), input)?;
     answer_to(rt, alloc, intake.finish(), skew, transit)
 }
 
@@ -73,7 +73,7 @@ pub(crate) fn audit_input<T: Threads + Sync, R: Read, W: Write>(
     ensures read { IsErrOf result DeskError.Read → (reader.new.failed ≡ true) ⊎ (reader.new.turns ≡ 0) }
     ensures write { IsErrOf result DeskError.Write → writer.new.failed ≡ true }
 {
-    let intake = take_all(alloc, reader, Intake::new(alloc))?;
+    let intake = take_all(rt, alloc, reader, Intake::new(alloc))?;
     let answer = answer_to(rt, alloc, intake.finish(), skew, transit)?;
     writer.write_out(&answer.line)?;
     Ok(answer.status)

@@ -14,6 +14,7 @@ use crate::taking::Taking;
 use binding_rules::Role;
 use journal_text::{Journal, JournalFault, text_gives_what_it_spells, written_is_closed};
 use std::alloc::Global;
+use std::thread::Threads;
 
 /// The input's three texts, journal A, journal B and what follows them, as far as they have come: the lines of the
 /// journals, and the octets of the rest.
@@ -71,11 +72,16 @@ impl Taking for Intake {
     ghost has_taken = { HasTaken };
 
     // A journal's fault is kept, and what follows is still taken.
-    fn take(self, chunk: &[u8]) -> Result<Intake, DeskError> {
+    fn take<H: Threads + Sync>(
+        self,
+        rt: &H,
+        halvings: u32,
+        chunk: &[u8],
+    ) -> Result<Intake, DeskError> {
         let mut intake = self;
-        let primary = intake.primary.feed(chunk)?;
+        let primary = intake.primary.feed(rt, halvings, chunk)?;
         let rest = &chunk[primary..];
-        let secondary = intake.secondary.feed(rest)?;
+        let secondary = intake.secondary.feed(rt, halvings, rest)?;
         intake.certificate.extend_from_slice(&rest[secondary..])?;
         Ok(intake)
     }

@@ -12,6 +12,7 @@ use crate::taking::Taking;
 use binding_rules::Role;
 use journal_text::{Journal, JournalFault, Reader};
 use std::alloc::Global;
+use std::thread::Threads;
 
 /// Journal A and, behind it, journal B, as far as they have come: B's text is all that follows A's.
 #[derive(Drop)]
@@ -55,10 +56,15 @@ impl PairIntake {
 impl Taking for PairIntake {
     ghost has_taken = { HasTakenPair };
 
-    fn take(self, chunk: &[u8]) -> Result<PairIntake, DeskError> {
+    fn take<H: Threads + Sync>(
+        self,
+        rt: &H,
+        halvings: u32,
+        chunk: &[u8],
+    ) -> Result<PairIntake, DeskError> {
         let mut intake = self;
-        let primary = intake.primary.feed(chunk)?;
-        read_on(&mut intake.secondary, &chunk[primary..])?;
+        let primary = intake.primary.feed(rt, halvings, chunk)?;
+        read_on(rt, halvings, &mut intake.secondary, &chunk[primary..])?;
         Ok(intake)
     }
 }

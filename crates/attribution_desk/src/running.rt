@@ -36,6 +36,6 @@ pub fn run<T: Threads + Wait + Sync, R: Read, W: Write>(
             transit,
             workers,
         } => batch_input(rt, alloc, *skew, *transit, *workers, reader, writer),
-        Command::Timeline => timeline_input(alloc, reader, writer),
+        Command::Timeline => timeline_input(rt, alloc, reader, writer),
     }
 }

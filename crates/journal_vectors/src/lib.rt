@@ -6,6 +6,8 @@ mod legal;
 #[cfg(test)]
 mod merges;
 #[cfg(test)]
+mod parted;
+#[cfg(test)]
 mod rules;
 #[cfg(test)]
 mod texts;

@@ -39,7 +39,7 @@ pub fn journal(alloc: Global, head: &[u8], first: &[&[u8]], rest: &[&[u8]]) -> R
     Ok(read(alloc, &text)?)
 }
 
-fn add_line(text: &mut Vec<u8>, number: u64, event: &[u8]) -> Result<(), AllocError> {
+pub fn add_line(text: &mut Vec<u8>, number: u64, event: &[u8]) -> Result<(), AllocError> {
     push_number(text, number)?;
     text.push(b' ')?;
     text.extend_from_slice(event)?;

@@ -4,6 +4,8 @@
 #[cfg(test)]
 mod books;
 #[cfg(test)]
+mod closed;
+#[cfg(test)]
 mod passes;
 #[cfg(test)]
 mod threads;

@@ -4,7 +4,7 @@ ghost use Rattle.std.specs.Prelude.{◌≡◌, length};
 
 use crate::books::{at, opened, request};
 use lead_time::Reading;
-use locked_book::{BookName, Pass, SharedBook};
+use locked_book::{BookName, Pass, Receipt, SharedBook};
 use prefix_range::{Prefix, read_text};
 use server_book::{Book, Order, Reply};
 use std::alloc::Global;
@@ -74,14 +74,32 @@ fn serves_all<N: BookName, R: Wait>(
     (pass, well)
 }
 
-/// The receipts of two threads.
-struct Served {
-    book: Book,
+/// How many of these receipts have this number.
+fn count_of(receipts: &[Receipt], number: u32) -> usize {
+    receipts
+        .iter()
+        .filter(|receipt| receipt.number == number)
+        .count()
+}
+
+/// Whether the lines behind the opening have one receipt each.
+fn each_has_one(first: &[Receipt], second: &[Receipt]) -> bool {
+    (3..=202).all(|number| count_of(first, number).saturating_add(count_of(second, number)) == 1)
+}
+
+/// What two threads leave.
+#[derive(Drop)]
+pub struct Served {
+    pub book: Book,
+    /// How many receipts they had.
     count: usize,
+    /// Whether each line behind the opening has one.
+    each: bool,
+    /// Whether each client was given a prefix, and each thread saw the other's first line.
     well: bool,
 }
 
-/// What two threads leave: the closed book, how many receipts there were, and whether all went well.
+/// What two threads leave that serve a hundred clients each.
 fn by_two<N: BookName + Send + Sync, R: Threads + Wait + Sync>(
     rt: &R,
     alloc: Global,
@@ -111,29 +129,42 @@ fn by_two<N: BookName + Send + Sync, R: Threads + Wait + Sync>(
         .receipts()
         .len()
         .saturating_add(second.receipts().len());
+    let each = each_has_one(first.receipts(), second.receipts());
     passes.push(first).ok()?;
     passes.push(second).ok()?;
     match shared.close(passes) {
         Ok(book) => Some(Served {
             book,
             count,
+            each,
             well: well && also,
         }),
         Err(_) => None,
     }
 }
 
-#[test]
-fn two_threads_serve(rt: HostRuntime) -> Result<(), Fail> {
-    let book = opened(rt.alloc())?;
+/// What two threads leave that serve a hundred clients each at 10000, out of the primary's book.
+pub fn both_served(rt: &(impl Threads + Wait + Sync), alloc: Global) -> Result<Served, Fail> {
+    let book = opened(alloc)?;
     let prefix = read_text(b"2001:db8::/56")?;
     let now = at(10000)?;
-    let Some(served) = by_two::<Brand, _>(&rt, rt.alloc(), Blank::new(2), book, now, prefix) else {
-        return Err(Fail::from("not served"));
-    };
-    let Served { book, count, well } = served;
+    match by_two::<Brand, _>(rt, alloc, Blank::new(2), book, now, prefix) {
+        Some(served) => Ok(served),
+        None => Err(Fail::from("not served")),
+    }
+}
+
+#[test]
+fn two_threads_serve(rt: HostRuntime) -> Result<(), Fail> {
+    let Served {
+        book,
+        count,
+        each,
+        well,
+    } = both_served(&rt, rt.alloc())?;
     assert!(rt; well);
     assert_eq!(rt; count, 200);
+    assert!(rt; each);
     assert_eq!(rt; book.journal().len(), 202);
     Ok(())
 }

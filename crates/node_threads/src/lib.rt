@@ -1,0 +1,22 @@
+//! What the threads of a node do: workers that answer clients' datagrams out of one shared book.
+//!
+//! [`serve_datagrams`] is a worker: it takes a turn, receives a datagram, reads it, takes the time, orders what the
+//! client asks, and sends the answer. It goes over any [`Datagrams`] and any [`Clock`], so a test may hold them;
+//! [`UdpDatagrams`] and [`SystemClock`] are the system's. No lock is held but for one order.
+//!
+//! What is ordered and answered is fixed by the contracts of `dhcp6_pd`, `server_book` and `locked_book`; what an
+//! engine adds is said where it stands. That datagrams arrive and go out is tested alone.
+#![tactic(auto)]
+
+mod answering;
+mod clock;
+mod datagrams;
+mod error;
+mod turns;
+mod workers;
+
+pub use clock::{Clock, SystemClock};
+pub use datagrams::{Datagrams, UdpDatagrams};
+pub use error::{NetFault, NodeError};
+pub use turns::Turns;
+pub use workers::serve_datagrams;
