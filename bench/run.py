@@ -1,8 +1,9 @@
 #!/usr/bin/env python3
 """run.py [LINES [COUNT]]: times the desk, each figure from runs of one process after another on the same machine.
 
-1. On two journals of LINES mixed lines each (1,000,000 if not said), against awk over the same octets. awk does a plain field
-   match: it prints the grants of the prefix asked of. Five times each in turn, and the best of each counts.
+1. On two journals of LINES mixed lines each (1,000,000 if not said), against awk over the same octets, on 1, 2 and 4 processors
+   (taskset), which is how many threads read. awk does a plain field match: it prints the grants of the prefix asked of. Five times
+   each in turn, and the best of each counts.
 2. On a certificate that names COUNT leases of other clients (1,000 if not said), its foreign lines in the order of their grants,
    against the same with the foreign lines in the reverse order.
 """
@@ -41,25 +42,33 @@ def generated(script, *words):
 
 def best(words, path, times=5):
     runs = [run(words, path) for _ in range(times)]
-    if words is AUDIT:
+    if DESK in words:
         assert all(answer == b"accepted\n" for _, _, answer in runs), runs[0]
     return min(runs)
+
+
+def on(processors, words):
+    return ["taskset", "-c", f"0-{processors - 1}", *words]
 
 
 def measure_reading(lines):
     with generated("generate.py", lines) as file:
         size = os.path.getsize(file.name)
-        desk, match = [], []
+        threads = [count for count in [1, 2, 4] if count <= os.cpu_count()]
+        desk, match = {count: [] for count in threads}, []
         for _ in range(5):
-            desk.append(best(AUDIT, file.name, 1))
+            for count in threads:
+                desk[count].append(best(on(count, AUDIT), file.name, 1))
             match.append(best(MATCH, file.name, 1))
-        desk, match = min(desk), min(match)
+        match = min(match)
         print(f"input                    {size / 1e6:.1f} MB, 2 x {lines} mixed lines")
-        print(f"desk                     {size / 1e6 / desk[0]:.0f} MB/s")
         print(f"awk field match          {size / 1e6 / match[0]:.0f} MB/s")
-        print(f"desk : awk               {desk[0] / match[0]:.2f} (time)")
-        print(f"peak memory : input      {desk[1] / size:.2f}")
-        print(f"peak memory : lines      {desk[1] / (2 * int(lines)):.0f} octets")
+        for count in threads:
+            seconds, peak, _ = min(desk[count])
+            print(f"desk by {count} threads        {size / 1e6 / seconds:.0f} MB/s")
+            print(f"desk : awk               {seconds / match[0]:.2f} (time)")
+            print(f"peak memory : input      {peak / size:.2f}")
+            print(f"peak memory : lines      {peak / (2 * int(lines)):.0f} octets")
 
 
 def measure_foreign(count):
