@@ -85,6 +85,15 @@ const OF_WRONG_KIND: [(&str, &str); 17] = [
     ("mclt = 3600", "mclt 3600"),
 ];
 
+/// Why octets are no settings. A refused growth is no answer.
+fn refusal_of(alloc: Global, octets: &[u8]) -> Result<Option<OpenError>, Fail> {
+    match Settings::read(alloc, octets) {
+        Ok(_) => Ok(None),
+        Err(OpenError::Memory) => Err(Fail::from(OpenError::Memory)),
+        Err(error) => Ok(Some(error)),
+    }
+}
+
 /// Why the text with one part changed is no settings.
 fn refusal(
     rt: &impl Abort,
@@ -94,7 +103,7 @@ fn refusal(
 ) -> Result<Option<OpenError>, Fail> {
     let changed = TEXT.replacen(alloc, old, new, 1)?;
     assert_ne!(rt; changed.as_str(), TEXT);
-    Ok(Settings::read(alloc, changed.as_bytes()).err())
+    refusal_of(alloc, changed.as_bytes())
 }
 
 /// That the text isn't settings with any of these parts changed.
@@ -137,13 +146,10 @@ fn refuses_what_is_not(rt: HostRuntime) -> Result<(), Fail> {
         Some(OpenError::Overlap)
     );
     assert_eq!(&rt;
-        Settings::read(rt.alloc(), b"role = \xff").err(),
+        refusal_of(rt.alloc(), b"role = \xff")?,
         Some(OpenError::Settings)
     );
-    assert_eq!(&rt;
-        Settings::read(rt.alloc(), b"").err(),
-        Some(OpenError::Settings)
-    );
-    assert_eq!(&rt; Settings::read(rt.alloc(), PRIMARY).err(), None);
+    assert_eq!(&rt; refusal_of(rt.alloc(), b"")?, Some(OpenError::Settings));
+    assert_eq!(&rt; refusal_of(rt.alloc(), PRIMARY)?, None);
     Ok(())
 }
