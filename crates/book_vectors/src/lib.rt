@@ -10,6 +10,8 @@ mod clients;
 #[cfg(test)]
 mod datagrams;
 #[cfg(test)]
+mod heads;
+#[cfg(test)]
 mod pairs;
 #[cfg(test)]
 mod replays;

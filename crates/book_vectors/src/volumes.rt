@@ -63,7 +63,7 @@ pub fn next(book: &Book, reading: u64) -> Result<Book, Fail> {
 }
 
 /// Why no volume follows a closed one at 2000000.
-fn refusal(book: &Book) -> Result<Option<BookError>, Fail> {
+pub fn refusal(book: &Book) -> Result<Option<BookError>, Fail> {
     let now = at(2_000_000)?;
     if !book.can_roll() {
         return Err(Fail::from("it doesn't roll"));
@@ -76,7 +76,7 @@ fn refusal(book: &Book) -> Result<Option<BookError>, Fail> {
 }
 
 /// The second volume of the book of one grant, begun at a reading.
-fn second(rt: &impl Abort, alloc: Global, reading: u64) -> Result<Book, Fail> {
+pub fn second(rt: &impl Abort, alloc: Global, reading: u64) -> Result<Book, Fail> {
     let first = after(rt, alloc, PRIMARY, &GRANTED)?;
     next(&first, reading)
 }
