@@ -67,23 +67,26 @@ fn to_another(event: &Event) -> Result<Event, Fail> {
     }
 }
 
-/// Lines whose grant lasts a second too long.
-fn with_longer_grant(alloc: Global, lines: &[Line]) -> Result<Vec<Line>, Fail> {
-    let mut lines = lines.to_vec(alloc)?;
-    if lines.len() != 4 {
-        return Err(Fail::from("not four lines"));
+/// The grant of the whole hour.
+fn grant_of(book: &Book) -> Result<&Event, Fail> {
+    match book.journal().get(2) {
+        Some(line) => Ok(&line.event),
+        None => Err(Fail::from("no third line")),
     }
-    lines[2].event = longer(&lines[2].event)?;
-    Ok(lines)
 }
 
-/// Lines whose grant is followed by one of the same unit to another client.
-fn with_second_grant(alloc: Global, lines: &[Line]) -> Result<Vec<Line>, Fail> {
+/// Lines with another event at a place.
+fn with_event(
+    alloc: Global,
+    lines: &[Line],
+    place: usize,
+    event: &Event,
+) -> Result<Vec<Line>, Fail> {
     let mut lines = lines.to_vec(alloc)?;
-    if lines.len() != 4 {
-        return Err(Fail::from("not four lines"));
+    if place >= lines.len() {
+        return Err(Fail::from("no such place"));
     }
-    lines[3].event = to_another(&lines[2].event)?;
+    lines[place].event = *event;
     Ok(lines)
 }
 
@@ -110,7 +113,8 @@ fn replays_the_whole_hour(rt: HostRuntime) -> Result<(), Fail> {
 #[test]
 fn names_the_first_broken_rule(rt: HostRuntime) -> Result<(), Fail> {
     let book = after(&rt, rt.alloc(), PRIMARY, &CLOSED)?;
-    let lines = with_longer_grant(rt.alloc(), book.journal())?;
+    let grant = grant_of(&book)?;
+    let lines = with_event(rt.alloc(), book.journal(), 2, &longer(grant)?)?;
     assert_eq!(&rt;
         refusal(rt.alloc(), &lines)?,
         Some(BookError::Rule {
@@ -118,7 +122,7 @@ fn names_the_first_broken_rule(rt: HostRuntime) -> Result<(), Fail> {
             rule: Rule::Lifetime
         })
     );
-    let lines = with_second_grant(rt.alloc(), book.journal())?;
+    let lines = with_event(rt.alloc(), book.journal(), 3, &to_another(grant)?)?;
     assert_eq!(&rt;
         refusal(rt.alloc(), &lines)?,
         Some(BookError::Rule {
