@@ -8,6 +8,18 @@ mod books;
 #[cfg(test)]
 mod clients;
 #[cfg(test)]
+mod datagrams;
+#[cfg(test)]
+mod heads;
+#[cfg(test)]
+mod pairs;
+#[cfg(test)]
+mod replays;
+#[cfg(test)]
 mod settings;
 #[cfg(test)]
 mod steps;
+#[cfg(test)]
+mod turns;
+#[cfg(test)]
+mod volumes;

@@ -10,7 +10,7 @@ const TEXT: &str =
     "role = \"primary\"\nduid = \"00030001020000000009\"\nskew_ms = 2000\nmclt = 3600\nlife = 3600\nlisten = \"127.0.0.1:5470\"\nworkers = 2\n[[pool]]\nprefix = \"2001:db8::/48\"\nunit = 56\n";
 
 /// Parts of the text, and what is put in their place so that it is settings still.
-const READ: [(&str, &str); 17] = [
+const READ: [(&str, &str); 18] = [
     ("skew_ms = 2000", "skew_ms = 0"),
     ("skew_ms = 2000", "skew_ms = 86_400_000"),
     ("skew_ms = 2000", "skew_ms = 0x7d0 # two seconds"),
@@ -19,6 +19,7 @@ const READ: [(&str, &str); 17] = [
     ("life = 3600", "life = 3600\nlog.level = 3"),
     ("life = 3600", "\"life\" = 1"),
     ("role = \"primary\"", "# of the pair\r\nrole = 'secondary'"),
+    ("00030001020000000009", "000300"),
     ("mclt = 3600", "mclt = 1"),
     ("mclt = 3600", "mclt = 31536000"),
     ("life = 3600", "life = 31536000"),
@@ -37,7 +38,7 @@ const READ: [(&str, &str); 17] = [
 ];
 
 /// The same so that it is none.
-const REFUSED: [(&str, &str); 18] = [
+const REFUSED: [(&str, &str); 19] = [
     ("role = \"primary\"\n", ""),
     ("duid = \"00030001020000000009\"\n", ""),
     ("skew_ms = 2000\n", ""),
@@ -55,6 +56,11 @@ const REFUSED: [(&str, &str); 18] = [
     ("life = 3600", "life = 3600\ntransit_ms = 3600001"),
     ("unit = 56", "unit = 40"),
     ("unit = 56", "unit = 65"),
+    // One unit too many, in a pool that overlaps the first: the limit comes before.
+    (
+        "unit = 56",
+        "unit = 64\n[[pool]]\nprefix = \"2001:db8::/48\"\nunit = 48",
+    ),
     ("2001:db8::/48", "2001:db8::1/48"),
 ];
 
@@ -85,6 +91,15 @@ const OF_WRONG_KIND: [(&str, &str); 17] = [
     ("mclt = 3600", "mclt 3600"),
 ];
 
+/// Why octets are no settings. A refused growth is no answer.
+fn refusal_of(alloc: Global, octets: &[u8]) -> Result<Option<OpenError>, Fail> {
+    match Settings::read(alloc, octets) {
+        Ok(_) => Ok(None),
+        Err(OpenError::Memory) => Err(Fail::from(OpenError::Memory)),
+        Err(error) => Ok(Some(error)),
+    }
+}
+
 /// Why the text with one part changed is no settings.
 fn refusal(
     rt: &impl Abort,
@@ -94,7 +109,7 @@ fn refusal(
 ) -> Result<Option<OpenError>, Fail> {
     let changed = TEXT.replacen(alloc, old, new, 1)?;
     assert_ne!(rt; changed.as_str(), TEXT);
-    Ok(Settings::read(alloc, changed.as_bytes()).err())
+    refusal_of(alloc, changed.as_bytes())
 }
 
 /// That the text isn't settings with any of these parts changed.
@@ -102,6 +117,28 @@ fn check_refused(rt: &impl Abort, alloc: Global, parts: &[(&str, &str)]) -> Resu
     for (old, new) in parts {
         assert_eq!(rt; refusal(rt, alloc, old, new)?, Some(OpenError::Settings));
     }
+    Ok(())
+}
+
+/// Settings of so many pools.
+fn with_pools(alloc: Global, count: u8) -> Result<String, Fail> {
+    let mut text = String::from_str(alloc, TEXT)?;
+    for index in 1..count {
+        write!(
+            text,
+            "[[pool]]\nprefix = \"2001:db8:{index}::/48\"\nunit = 56\n"
+        )?;
+    }
+    Ok(text)
+}
+
+#[test]
+fn has_sixteen_pools_at_most(rt: HostRuntime) -> Result<(), Fail> {
+    let sixteen = with_pools(rt.alloc(), 16)?;
+    assert_eq!(&rt; refusal_of(rt.alloc(), sixteen.as_bytes())?, None);
+    let seventeen = with_pools(rt.alloc(), 17)?;
+    let refused = refusal_of(rt.alloc(), seventeen.as_bytes())?;
+    assert_eq!(&rt; refused, Some(OpenError::Settings));
     Ok(())
 }
 
@@ -137,13 +174,10 @@ fn refuses_what_is_not(rt: HostRuntime) -> Result<(), Fail> {
         Some(OpenError::Overlap)
     );
     assert_eq!(&rt;
-        Settings::read(rt.alloc(), b"role = \xff").err(),
+        refusal_of(rt.alloc(), b"role = \xff")?,
         Some(OpenError::Settings)
     );
-    assert_eq!(&rt;
-        Settings::read(rt.alloc(), b"").err(),
-        Some(OpenError::Settings)
-    );
-    assert_eq!(&rt; Settings::read(rt.alloc(), PRIMARY).err(), None);
+    assert_eq!(&rt; refusal_of(rt.alloc(), b"")?, Some(OpenError::Settings));
+    assert_eq!(&rt; refusal_of(rt.alloc(), PRIMARY)?, None);
     Ok(())
 }

@@ -133,10 +133,11 @@ fn is_refusal(error: &BookError, wanted: &Wanted) -> bool {
     }
 }
 
-/// Whether what an order gets is what is wanted.
+/// Whether what an order gets is what is wanted. A refused growth is no answer.
 fn is_wanted(reply: &Result<Reply, BookError>, wanted: &Wanted) -> Result<bool, Fail> {
     match reply {
         Ok(reply) => is_reply(reply, wanted),
+        Err(BookError::Memory) => Err(Fail::from(BookError::Memory)),
         Err(error) => Ok(is_refusal(error, wanted)),
     }
 }
