@@ -12,11 +12,13 @@ mod answering;
 mod clock;
 mod datagrams;
 mod error;
+mod settings;
 mod turns;
 mod workers;
 
 pub use clock::{Clock, SystemClock};
 pub use datagrams::{Datagrams, UdpDatagrams};
 pub use error::{NetFault, NodeError};
+pub use settings::{NodeSettings, Ways};
 pub use turns::Turns;
 pub use workers::serve_datagrams;

@@ -1,0 +1,93 @@
+//! A node as a program: its words are the command, standard input has the settings, standard output gets what they are
+//! worth or the journal, and the status says whether the node ran (0), its settings were refused (1) or a fault kept it
+//! from that (2).
+#![tactic(auto)]
+
+mod fault;
+mod running;
+mod words;
+
+use fault::Fault;
+use node_threads::NodeSettings;
+use running::run_node;
+use server_book::OpenError;
+use std::alloc::Global;
+use std::io::{Read, Write};
+use std::net::Net;
+use std::process::ExitCode;
+use std::sync::Wait;
+use std::thread::Threads;
+use std::time::Clock;
+use std::{env, io};
+use words::{Command, command_of};
+
+/// How many units a server of these settings has.
+fn units_of(settings: &NodeSettings) -> usize {
+    let mut units = 0usize;
+    for pool in settings.server.pools() {
+        let bits = pool.unit_length.saturating_sub(pool.prefix.len());
+        units = units.saturating_add(1usize.checked_shl(u32::from(bits)).unwrap_or(0));
+    }
+    units
+}
+
+/// What a command writes, and the status.
+fn answer<R: Threads + Wait + Sync + Net + Clock>(
+    rt: &R,
+    alloc: Global,
+    command: Command,
+    text: &[u8],
+) -> Result<(Vec<u8>, u8), Fault> {
+    match (command, NodeSettings::read(alloc, text)) {
+        (_, Err(OpenError::Memory)) => Err(Fault::Memory),
+        (_, Err(refusal)) => Ok((format!(in alloc; "{refusal}\n")?.into_bytes(), 1)),
+        (Command::Check, Ok(settings)) => {
+            let units = units_of(&settings);
+            Ok((format!(in alloc; "ok {units}\n")?.into_bytes(), 0))
+        }
+        (Command::Run { count }, Ok(settings)) => {
+            Ok((run_node(rt, alloc, &settings, count)?, 0))
+        }
+    }
+}
+
+/// The words of the command line; `Usage` where one isn't text.
+fn words_given(rt: &HostRuntime) -> Result<Vec<String>, Fault> {
+    let words = env::args(rt).map_err(usage_fault)?;
+    words.collect(rt.alloc()).map_err(|_| Fault::Memory)
+}
+
+fn usage_fault(error: io::Error) -> Fault {
+    if error.kind() == io::ErrorKind::OutOfMemory {
+        Fault::Memory
+    } else {
+        Fault::Usage
+    }
+}
+
+fn answered(
+    rt: &HostRuntime,
+    handles: &(impl Threads + Wait + Sync + Net + Clock),
+) -> Result<u8, Fault> {
+    let words = words_given(rt)?;
+    let command = command_of(rt.alloc(), &words)?;
+    let mut text = Vec::new(rt.alloc());
+    if rt.stdin().read_to_end(&mut text).is_err() {
+        return Err(Fault::Read);
+    }
+    let (octets, status) = answer(handles, rt.alloc(), command, &text)?;
+    match rt.stdout().write_all(&octets) {
+        Ok(()) => Ok(status),
+        Err(_) => Err(Fault::Write),
+    }
+}
+
+fn main(rt: HostRuntime) -> ExitCode {
+    match answered(&rt, &rt) {
+        Ok(status) => ExitCode::from(status),
+        Err(fault) => {
+            let _ = eprintln!(rt; "{fault}");
+            ExitCode::from(2)
+        }
+    }
+}

@@ -1,0 +1,13 @@
+//! Vectors from outside for what a node's threads do.
+#![tactic(auto)]
+
+#[cfg(test)]
+mod answers;
+#[cfg(test)]
+mod books;
+#[cfg(test)]
+mod clocks;
+#[cfg(test)]
+mod meetings;
+#[cfg(test)]
+mod post;
