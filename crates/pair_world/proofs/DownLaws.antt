@@ -21,8 +21,7 @@ use Rattle.pair_world.specs.UnitWorld.{IsAlone}
 use Rattle.pair_world.specs.PairWorld.{PairWorld, book, is_stopped}
 use Rattle.pair_world.specs.UnitSafe.{Runs}
 use Rattle.pair_world.proofs.Worlds.{Good, book_is, good}
-use Rattle.pair_world.proofs.KeptA.{ack_told_a, in_time_a}
-use Rattle.pair_world.proofs.KeptB.{ack_told_b, in_time_b}
+use Rattle.pair_world.proofs.KeptSteps.{ack_told, in_time}
 use Rattle.pair_world.proofs.Traces.{book_in}
 use Rattle.pair_world.proofs.Kept.{by_bool}
 use Rattle.pair_world.proofs.Phases.{by_word}
@@ -107,12 +106,12 @@ partner_stands_back s t w c side uncalm = stands s w (good s t w c) side c.opens
 module _ (s : ServerSettings) (w : PairWorld) (is : Good s w) where
   told_a : (p : Prefix) → IsTheirs w Primary p → status_of ((book_in Secondary w.run).units p).status ≡ ActiveDue → ((book_in Secondary w.run).units p).acked ≤ ((book_in Primary w.run).units p).told
   told_a p theirs active =
-      ack_told_a (setting_of s) w.moment (log_of p w.run []) _ _ (is.known p (unit_at s w is Primary p theirs.unit)).kept active
+      ack_told Primary (setting_of s) w.moment (log_of p w.run []) _ _ (is.known p (unit_at s w is Primary p theirs.unit)).kept active
       (subst (λ (b : Book). (b.units p).marked ≡ false) (book_at s w is Primary) theirs.unmarked) (subst (λ (b : Book). is_own Primary (b.units p).status ≡ false) (book_at s w is Primary) theirs.outside)
 
   told_b : (p : Prefix) → IsTheirs w Secondary p → status_of ((book_in Primary w.run).units p).status ≡ ActiveDue → ((book_in Primary w.run).units p).acked ≤ ((book_in Secondary w.run).units p).told
   told_b p theirs active =
-      ack_told_b (setting_of s) w.moment (log_of p w.run []) _ _ (is.known p (unit_at s w is Secondary p theirs.unit)).kept active
+      ack_told Secondary (setting_of s) w.moment (log_of p w.run []) _ _ (is.known p (unit_at s w is Secondary p theirs.unit)).kept active
       (subst (λ (b : Book). (b.units p).marked ≡ false) (book_at s w is Secondary) theirs.unmarked) (subst (λ (b : Book). is_own Secondary (b.units p).status ≡ false) (book_at s w is Secondary) theirs.outside)
 
   -- what the two books say of a unit
@@ -142,7 +141,7 @@ pub ends_in_time : EndsInTime
 ends_in_time s t w c Primary p d theirs down starts are i g v of_side same =
     let is = good s t w c in
     let x = book_at s w is Primary in
-    let end = in_time_a (setting_of s) w.moment (log_of p w.run []) _ _ (is.known p (unit_at s w is Primary p theirs.unit)).kept d (ap (λ (b : Book). b.down) (sym x) ∙ down)
+    let end = in_time Primary (setting_of s) w.moment (log_of p w.run []) _ _ (is.known p (unit_at s w is Primary p theirs.unit)).kept d (ap (λ (b : Book). b.down) (sym x) ∙ down)
     (subst (λ (b : Book). (b.units p).marked ≡ false) x theirs.unmarked) (subst (λ (b : Book). is_own Primary (b.units p).status ≡ false) x theirs.outside) (holder_of g.client g.iaid)
     (v.step.moment + 1000 * g.valid + s.transit) (running s w is Secondary p starts i g v of_side same) (lasts_on s w is starts are i g v) in
     let begins = are i v.step g v.here v.grants in
@@ -150,7 +149,7 @@ ends_in_time s t w c Primary p d theirs down starts are i g v of_side same =
 ends_in_time s t w c Secondary p d theirs down starts are i g v of_side same =
     let is = good s t w c in
     let x = book_at s w is Secondary in
-    let end = in_time_b (setting_of s) w.moment (log_of p w.run []) _ _ (is.known p (unit_at s w is Secondary p theirs.unit)).kept d (ap (λ (b : Book). b.down) (sym x) ∙ down)
+    let end = in_time Secondary (setting_of s) w.moment (log_of p w.run []) _ _ (is.known p (unit_at s w is Secondary p theirs.unit)).kept d (ap (λ (b : Book). b.down) (sym x) ∙ down)
     (subst (λ (b : Book). (b.units p).marked ≡ false) x theirs.unmarked) (subst (λ (b : Book). is_own Secondary (b.units p).status ≡ false) x theirs.outside) (holder_of g.client g.iaid)
     (v.step.moment + 1000 * g.valid + s.transit) (running s w is Primary p starts i g v of_side same) (lasts_on s w is starts are i g v) in
     let begins = are i v.step g v.here v.grants in

@@ -58,13 +58,13 @@ left_low : (side : Role) → left_as side ≤ 1
 left_low Primary = omega arith
 left_low Secondary = omega arith
 
-weaker : (side : Role) (s d : ℕ) → DueOf side s d → Due s d
+pub weaker : (side : Role) (s d : ℕ) → DueOf side s d → Due s d
 weaker Primary s d due = due
 weaker Secondary s d (inl x) = inl x
 weaker Secondary s d (inr (inl x)) = inr (inl (x.0, inl x.1))
 weaker Secondary s d (inr (inr x)) = inr (inr x)
 
-free_is : (s d : ℕ) → Due s d → s ≡ 0 → d ≡ 9
+pub free_is : (s d : ℕ) → Due s d → s ≡ 0 → d ≡ 9
 free_is s d due is = omega arith
 
 active_is_due : (s d : ℕ) → Due s d → d ≡ 2 → (2 ≤ s) × (s ≤ 3)

@@ -17,59 +17,10 @@ use Rattle.book_rules.specs.Rules.{IsStep}
 use Rattle.book_rules.specs.declared.pool.Pool.{Pool}
 use Rattle.book_rules.specs.Effects.{after, effect, learned, taken_body}
 use Rattle.book_rules.specs.NextHead.{is_head}
-use Rattle.pair_world.specs.UnitWorld.{Entry, Server, Setting}
+use Rattle.pair_world.specs.UnitWorld.{Entry, Setting}
 use Rattle.pair_world.proofs.BookSteps.{Agrees, IsDownFor, IsFed, MayWrite, step, stopped_after}
-use Rattle.pair_world.proofs.Safety.{Invariant, alone_gives, alone_gives_back, passes}
-use Rattle.pair_world.proofs.Books.{Moves}
+use Rattle.pair_world.proofs.Safety.{Invariant, moves, passes}
 use Rattle.pair_world.proofs.Effects.{by_test}
-use Rattle.pair_world.proofs.KeptA.{kept_expires_a, kept_goes_down_a, kept_goes_up_a, kept_grants_a, kept_moves_a, kept_reclaims_a, kept_releases_a, kept_restarts_a, kept_says_a, kept_seizes_a, kept_sends_reply_a, kept_sends_update_a, kept_stops_a, kept_takes_a, kept_takes_contact_a, kept_takes_higher_a, kept_takes_reply_a}
-use Rattle.pair_world.proofs.KeptB.{kept_expires_b, kept_goes_down_b, kept_goes_up_b, kept_grants_b, kept_releases_b, kept_restarts_b, kept_says_b, kept_seizes_b, kept_sends_reply_b, kept_sends_update_b, kept_stops_b, kept_takes_b, kept_takes_contact_b, kept_takes_higher_b, kept_takes_reply_b}
-
-moves_a : (s : Setting) (b : Server) → Moves s Primary (λ now log x. Invariant s now log x b) b.updates b.replies b.contacts b.stopped
-moves_a s b = record {
-  grants = λ now log x k reading valid out_end holder near near' guard within waits runs.
-      let kept = kept_grants_a s now log x b k.kept reading valid out_end holder near near' guard within waits runs in
-      record { kept = kept; alone = alone_gives s now log Primary holder valid _ _ k.alone kept };
-  releases = λ now log x k holder guard. record { kept = kept_releases_a s now log x b k.kept holder guard; alone = alone_gives_back s now log holder k.alone };
-  expires = λ now log x k reading near guard over. record { kept = kept_expires_a s now log x b k.kept reading near guard over; alone = k.alone };
-  takes = λ now log x k reading v near sent. record { kept = kept_takes_a s now log x b k.kept reading v near sent; alone = k.alone };
-  takes_reply = λ now log x k r sent. record { kept = kept_takes_reply_a s now log x b k.kept r sent; alone = k.alone };
-  sends_update = λ now log x k u telling. record { kept = kept_sends_update_a s now log x b k.kept u telling; alone = k.alone };
-  sends_reply = λ now log x k r is. record { kept = kept_sends_reply_a s now log x b k.kept r is; alone = k.alone };
-  says = λ now log x k c may. record { kept = kept_says_a s now log x b k.kept c may; alone = k.alone };
-  takes_contact = λ now log x k c sent. record { kept = kept_takes_contact_a s now log x b k.kept c sent; alone = k.alone };
-  learns = λ now log x k c sent. record { kept = kept_takes_higher_a s now log x b k.kept c sent; alone = k.alone };
-  goes_down = λ now log x k reading near waits runs stopped. record { kept = kept_goes_down_a s now log x b k.kept reading near waits runs stopped; alone = k.alone };
-  goes_up = λ now log x k. record { kept = kept_goes_up_a s now log x b k.kept; alone = k.alone };
-  seizes = λ now log x k reading d near is outside over take. record { kept = kept_seizes_a s now log x b k.kept reading d near is outside over take; alone = k.alone };
-  stops = λ now log x k. record { kept = kept_stops_a s now log x b k.kept; alone = k.alone };
-  restarts = λ now log x k. record { kept = kept_restarts_a s now log x b k.kept; alone = k.alone };
-  moves = λ now log x k side guard. record { kept = kept_moves_a s now log x b k.kept guard; alone = k.alone };
-  reclaims = λ now log x k side guard. record { kept = kept_reclaims_a s now log x b k.kept guard; alone = k.alone };
-}
-
-moves_b : (s : Setting) (a : Server) → Moves s Secondary (λ now log x. Invariant s now log a x) a.updates a.replies a.contacts a.stopped
-moves_b s a = record {
-  grants = λ now log x k reading valid out_end holder near near' guard within waits runs.
-      let kept = kept_grants_b s now log a x k.kept reading valid out_end holder near near' guard within waits runs in
-      record { kept = kept; alone = alone_gives s now log Secondary holder valid _ _ k.alone kept };
-  releases = λ now log x k holder guard. record { kept = kept_releases_b s now log a x k.kept holder guard; alone = alone_gives_back s now log holder k.alone };
-  expires = λ now log x k reading near guard over. record { kept = kept_expires_b s now log a x k.kept reading near guard over; alone = k.alone };
-  takes = λ now log x k reading v near sent. record { kept = kept_takes_b s now log a x k.kept reading v near sent; alone = k.alone };
-  takes_reply = λ now log x k r sent. record { kept = kept_takes_reply_b s now log a x k.kept r sent; alone = k.alone };
-  sends_update = λ now log x k u telling. record { kept = kept_sends_update_b s now log a x k.kept u telling; alone = k.alone };
-  sends_reply = λ now log x k r is. record { kept = kept_sends_reply_b s now log a x k.kept r is; alone = k.alone };
-  says = λ now log x k c may. record { kept = kept_says_b s now log a x k.kept c may; alone = k.alone };
-  takes_contact = λ now log x k c sent. record { kept = kept_takes_contact_b s now log a x k.kept c sent; alone = k.alone };
-  learns = λ now log x k c sent. record { kept = kept_takes_higher_b s now log a x k.kept c sent; alone = k.alone };
-  goes_down = λ now log x k reading near waits runs stopped. record { kept = kept_goes_down_b s now log a x k.kept reading near waits runs stopped; alone = k.alone };
-  goes_up = λ now log x k. record { kept = kept_goes_up_b s now log a x k.kept; alone = k.alone };
-  seizes = λ now log x k reading d near is outside over take. record { kept = kept_seizes_b s now log a x k.kept reading d near is outside over take; alone = k.alone };
-  stops = λ now log x k. record { kept = kept_stops_b s now log a x k.kept; alone = k.alone };
-  restarts = λ now log x k. record { kept = kept_restarts_b s now log a x k.kept; alone = k.alone };
-  moves = λ now log x k side guard. absurd (cc);
-  reclaims = λ now log x k side guard. absurd (cc);
-}
 
 -- a line that is no head line changes none of the settings
 pub record Settled (s : Setting) (side : Role) (pools : List Pool) (b : Book) : Type 0 where
@@ -158,20 +109,20 @@ module _ (s : Setting) (pools : List Pool) (place : Prefix) (unit : is_unit pool
   pub line_a : (l : Line) → IsStep p.a l → is_head l.event ≡ false → l.reading ≤ now + s.skew → now ≤ l.reading + s.skew → MayWrite p.stopped_a l.event → IsDownFor p.stopped_b l.event → IsFed l.event p.sent_b
       → Known s place (line_of_a p l) now (entry_of place Primary now l.event log)
   line_a l rules body near near' writes down fed =
-      step s place Primary (λ now log x. Invariant s now log x (server_of place p.b p.sent_b p.stopped_b)) p.sent_b p.stopped_b (moves_a s (server_of place p.b p.sent_b p.stopped_b))
+      step s place Primary (λ now log x. Invariant s now log x (server_of place p.b p.sent_b p.stopped_b)) p.sent_b p.stopped_b (moves Primary s (server_of place p.b p.sent_b p.stopped_b))
       p.a p.sent_a p.stopped_a ok.of_a.agrees (subst (λ z. is_unit z place ≡ true) (sym ok.of_a.pools_are) unit) log now known l l.event refl rules body near near' writes down fed
 
   pub line_b : (l : Line) → IsStep p.b l → is_head l.event ≡ false → l.reading ≤ now + s.skew → now ≤ l.reading + s.skew → MayWrite p.stopped_b l.event → IsDownFor p.stopped_a l.event → IsFed l.event p.sent_a
       → Known s place (line_of_b p l) now (entry_of place Secondary now l.event log)
   line_b l rules body near near' writes down fed =
-      step s place Secondary (λ now log x. Invariant s now log (server_of place p.a p.sent_a p.stopped_a) x) p.sent_a p.stopped_a (moves_b s (server_of place p.a p.sent_a p.stopped_a))
+      step s place Secondary (λ now log x. Invariant s now log (server_of place p.a p.sent_a p.stopped_a) x) p.sent_a p.stopped_a (moves Secondary s (server_of place p.a p.sent_a p.stopped_a))
       p.b p.sent_b p.stopped_b ok.of_b.agrees (subst (λ z. is_unit z place ≡ true) (sym ok.of_b.pools_are) unit) log now known l l.event refl rules body near near' writes down fed
 
   pub stop_a : Known s place (record p { stopped_a = true }) now log
-  stop_a = (moves_a s (server_of place p.b p.sent_b p.stopped_b)).stops now log (server_of place p.a p.sent_a p.stopped_a) known
+  stop_a = (moves Primary s (server_of place p.b p.sent_b p.stopped_b)).stops now log (server_of place p.a p.sent_a p.stopped_a) known
 
   pub stop_b : Known s place (record p { stopped_b = true }) now log
-  stop_b = (moves_b s (server_of place p.a p.sent_a p.stopped_a)).stops now log (server_of place p.b p.sent_b p.stopped_b) known
+  stop_b = (moves Secondary s (server_of place p.a p.sent_a p.stopped_a)).stops now log (server_of place p.b p.sent_b p.stopped_b) known
 
   pub pass : (n : ℕ) → Known s place p (now + n) log
   pass n = record { kept = passes s now log _ _ n known.kept; alone = known.alone }
