@@ -3,7 +3,9 @@
 use crate::rows::{A, Act, Answer, B, Row, tell};
 use crate::worlds::{FIRST, K1, PRIMARY, SECONDARY, alone, at, opened};
 use binding_rules::{Body, Counter, PartnerMessage};
-use pair_world::{Event, WorldError};
+use journal_lines::Event as LineEvent;
+use lead_time::Reading;
+use pair_world::{Event, World, WorldError};
 use server_book::{BookError, Order};
 use std::test::Fail;
 
@@ -100,5 +102,47 @@ fn only_what_was_sent_is_taken(rt: HostRuntime) -> Result<(), Fail> {
         }),
     };
     assert_eq!(&rt; world.step(&event), Err(WorldError::NoMessage));
+    Ok(())
+}
+
+/// A message is sent and comes, one comes that was never sent, and its server would stop.
+fn broken_off(clock: Reading) -> [Event; 4] {
+    [
+        Event::Serve {
+            side: A,
+            clock,
+            order: Order::SendContact,
+        },
+        Event::Deliver {
+            side: B,
+            sent: 1,
+            clock,
+        },
+        Event::Deliver {
+            side: B,
+            sent: 2,
+            clock,
+        },
+        Event::Stop(B),
+    ]
+}
+
+/// Whether the last that the secondary wrote is a message that it took.
+fn has_taken(world: &World) -> bool {
+    let (_, secondary) = world.books();
+    match secondary.journal().last() {
+        Some(line) => matches!(&line.event, LineEvent::Take(_)),
+        None => false,
+    }
+}
+
+#[test]
+fn a_run_ends_at_the_first_refusal(rt: HostRuntime) -> Result<(), Fail> {
+    let mut world = opened(rt.alloc(), PRIMARY, SECONDARY)?;
+    let events = broken_off(at(10_000)?);
+    assert_eq!(&rt; world.run(&events), Err(WorldError::NoMessage));
+    // the secondary took the one message, and runs on
+    assert!(&rt; has_taken(&world));
+    assert_eq!(&rt; world.run(&[Event::Stop(B)]), Ok(()));
     Ok(())
 }
