@@ -10,7 +10,7 @@ module _ (sa ma na da ka ta ea sb mb nb db kb tb eb : ℕ) (UA UB : ℕ → ℕ 
     (inv : Phases sa ma na da sb mb nb db UA UB RA RB) (acks : Acks sa ma na da ka ta ea sb mb nb db kb tb eb UA UB EA EB RA RB) where
   -- no reply is to a change that is only now made
   fresh_b : {G : Type 0} (p o : ℕ) → RB p o → o ≡ ma + 1 → G
-  fresh_b p o w is = let h = inv.sent_rb p o w in let k = inv.count_b in absurd (omega arith)
+  fresh_b p o w is = let h = inv.b.sent_r p o w in let k = inv.count_b in absurd (omega arith)
 
   pub grant_a_ends : (s' ea' : ℕ) (UA' : ℕ → ℕ → ℕ → Type 0) (EA' RA' : ℕ → ℕ → Type 0) → 2 ≤ s' → s' ≤ 3 → (sa ≡ 0) ⊎ (sa ≡ s')
       → ((c m n : ℕ) → UA' c m n → Old UA c m n s' (ma + 1) na) → ((m e : ℕ) → EA' m e → OldReply EA m e (ma + 1) ea') → ((p o : ℕ) → RA' p o → RA p o)
@@ -23,7 +23,7 @@ module _ (sa ma na da ka ta ea sb mb nb db kb tb eb : ℕ) (UA UB : ℕ → ℕ 
     new_active = λ l is l' h. by_word guard (λ z. (acks.no_ends_a (omega arith)).0) (λ e. acks.new_active l is (omega arith) (omega arith));
     no_ends_a = λ le. absurd (omega arith);
     no_ends_b = acks.no_ends_b;
-    last_active_a = λ c m n w is two. by_word (up c m n w) (λ old. let h = inv.sent_ua c m n old in absurd (omega arith)) (λ f. (omega arith, omega arith));
+    last_active_a = λ c m n w is two. by_word (up c m n w) (λ old. let h = inv.a.sent_u c m n old in absurd (omega arith)) (λ f. (omega arith, omega arith));
     last_active_b = acks.last_active_b;
     last_end_a = λ m e w is two. by_word (en m e w) (λ old. let h = acks.sent_ea m e old in absurd (omega arith)) (λ f. f.1);
     last_end_b = acks.last_end_b;
@@ -64,10 +64,10 @@ module _ (sa ma na da ka ta ea sb mb nb db kb tb eb : ℕ) (UA UB : ℕ → ℕ 
         (λ old. let x = acks.acknowledged_a p o old is two in omega arith)
         (λ f. let x = acks.last_end_b mv ev en_v (omega arith) two in omega arith);
     acknowledged_b = λ p o w is. fresh_b p o w is;
-    new_active = λ l is l' h. by_word guard (λ z. (acks.no_ends_a (omega arith)).0) (λ e. let x = inv.last_word_b (inl l) cv mv nv v is in let y = inv.due_b in absurd (omega arith));
+    new_active = λ l is l' h. by_word guard (λ z. (acks.no_ends_a (omega arith)).0) (λ e. let x = inv.b.last_word (inl l) cv mv nv v is in let y = inv.b.due in absurd (omega arith));
     no_ends_a = λ le. absurd (omega arith);
     no_ends_b = acks.no_ends_b;
-    last_active_a = λ c m n w is two. by_word (up c m n w) (λ old. let h = inv.sent_ua c m n old in absurd (omega arith)) (λ f. (omega arith, omega arith));
+    last_active_a = λ c m n w is two. by_word (up c m n w) (λ old. let h = inv.a.sent_u c m n old in absurd (omega arith)) (λ f. (omega arith, omega arith));
     last_active_b = acks.last_active_b;
     last_end_a = λ m e w is two. by_word (en m e w) (λ old. let h = acks.sent_ea m e old in absurd (omega arith)) (λ f. f.1);
     last_end_b = acks.last_end_b;
@@ -79,7 +79,7 @@ module _ (sa ma na da ka ta ea sb mb nb db kb tb eb : ℕ) (UA UB : ℕ → ℕ 
       → ((m e : ℕ) → EA' m e → EA m e)
       → Acks 0 (ma + 1) mv 9 0 0 0 sb mb nb db kb tb eb UA' UB EA' EB RA' RB
   take_over_a_ends cv mv nv UA' EA' RA' v newer lo en =
-      let not_due : db ≡ 2 → ⊥ = λ two. let y = inv.due_b in
+      let not_due : db ≡ 2 → ⊥ = λ two. let y = inv.b.due in
       over_cases _ _ _ _ _ _ _ _ _ _ _ _ inv cv mv nv v newer lo (λ x z. absurd (omega arith)) (λ x z t u. absurd (omega arith)) in record {
         told_a = λ l h l'. absurd (omega arith);
         told_b = λ l h out. absurd (omega arith);
@@ -105,7 +105,7 @@ module _ (sa ma na da ka ta ea sb mb nb db kb tb eb : ℕ) (UA UB : ℕ → ℕ 
     told_b = λ l h out. by_word shape (λ x. let y = acks.acknowledged_b vp vo v of x.1 in let z = acks.told_b l h out in let e = x.0 in omega arith) (λ x. absurd (omega arith));
     acknowledged_a = λ p o w. acks.acknowledged_a p o (re p o w);
     acknowledged_b = λ p o w is two. absurd (omega arith);
-    new_active = λ l is l' h. let x = inv.replies_before_b (inl l) vp vo v in absurd (omega arith);
+    new_active = λ l is l' h. let x = inv.b.replies_before (inl l) vp vo v in absurd (omega arith);
     no_ends_a = λ le. by_word shape (λ x. absurd (omega arith)) (λ x. let y = acks.no_ends_a le in (omega arith, omega arith));
     no_ends_b = acks.no_ends_b;
     last_active_a = λ c m n w is two. absurd (omega arith);
@@ -120,8 +120,8 @@ module _ (sa ma na da ka ta ea sb mb nb db kb tb eb : ℕ) (UA UB : ℕ → ℕ 
       → ((m e : ℕ) → EA' m e → EA m e)
       → Acks 0 ma vp 9 0 0 0 sb mb nb db kb tb eb UA' UB EA' EB RA' RB
   reply_free_a_ends vp vo UA' EA' RA' v newer of shape en =
-      let free : sb ≡ 0 = inv.heard (by_word shape (λ l. inl l) (λ z. inr z.1)) (let h = inv.sent_rb vp vo v in let k = inv.count_b in omega arith) in
-      let due = inv.due_b in record {
+      let free : sb ≡ 0 = inv.heard (by_word shape (λ l. inl l) (λ z. inr z.1)) (let h = inv.b.sent_r vp vo v in let k = inv.count_b in omega arith) in
+      let due = inv.b.due in record {
         told_a = λ l h l'. absurd (omega arith);
         told_b = λ l h out. absurd (omega arith);
         acknowledged_a = λ p o w is two. absurd (omega arith);

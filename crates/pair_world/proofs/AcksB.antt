@@ -13,11 +13,11 @@ module _ (sa ma na da ka ta ea sb mb nb db kb tb eb : ℕ) (UA UB : ℕ → ℕ 
     (inv : Phases sa ma na da sb mb nb db UA UB RA RB) (acks : Acks sa ma na da ka ta ea sb mb nb db kb tb eb UA UB EA EB RA RB) where
   -- no reply is to a change that is only now made
   fresh_a : {G : Type 0} (p o : ℕ) → RA p o → o ≡ mb + 1 → G
-  fresh_a p o w is = let h = inv.sent_ra p o w in let k = inv.count_a in absurd (omega arith)
+  fresh_a p o w is = let h = inv.a.sent_r p o w in let k = inv.count_a in absurd (omega arith)
 
   -- a reply to the primary's last change, made only now
   old_b : {G : Type 0} (c m n p o : ℕ) → UA c m n → nb < m → RB p o → o ≡ ma → G
-  old_b c m n p o v newer w is = let h = inv.sent_rb p o w in let k = inv.sent_ua c m n v in absurd (omega arith)
+  old_b c m n p o v newer w is = let h = inv.b.sent_r p o w in let k = inv.a.sent_u c m n v in absurd (omega arith)
 
   pub grant_b_ends : (s' eb' : ℕ) (UB' : ℕ → ℕ → ℕ → Type 0) (EB' RB' : ℕ → ℕ → Type 0) → 2 ≤ s' → s' ≤ 3 → (sb ≡ 1) ⊎ (sb ≡ s')
       → ((c m n : ℕ) → UB' c m n → Old UB c m n s' (mb + 1) nb) → ((m e : ℕ) → EB' m e → OldReply EB m e (mb + 1) eb') → ((p o : ℕ) → RB' p o → RB p o)
@@ -31,7 +31,7 @@ module _ (sa ma na da ka ta ea sb mb nb db kb tb eb : ℕ) (UA UB : ℕ → ℕ 
     no_ends_a = acks.no_ends_a;
     no_ends_b = λ le. absurd (omega arith);
     last_active_a = acks.last_active_a;
-    last_active_b = λ c m n w is two. by_word (up c m n w) (λ old. let h = inv.sent_ub c m n old in absurd (omega arith)) (λ f. (omega arith, omega arith));
+    last_active_b = λ c m n w is two. by_word (up c m n w) (λ old. let h = inv.b.sent_u c m n old in absurd (omega arith)) (λ f. (omega arith, omega arith));
     last_end_a = acks.last_end_a;
     last_end_b = λ m e w is two. by_word (en m e w) (λ old. let h = acks.sent_eb m e old in absurd (omega arith)) (λ f. f.1);
     sent_ea = acks.sent_ea;
@@ -72,7 +72,7 @@ module _ (sa ma na da ka ta ea sb mb nb db kb tb eb : ℕ) (UA UB : ℕ → ℕ 
     no_ends_a = acks.no_ends_a;
     no_ends_b = λ le. absurd (omega arith);
     last_active_a = acks.last_active_a;
-    last_active_b = λ c m n w is two. by_word (up c m n w) (λ old. let h = inv.sent_ub c m n old in absurd (omega arith)) (λ f. (omega arith, omega arith));
+    last_active_b = λ c m n w is two. by_word (up c m n w) (λ old. let h = inv.b.sent_u c m n old in absurd (omega arith)) (λ f. (omega arith, omega arith));
     last_end_a = acks.last_end_a;
     last_end_b = λ m e w is two. by_word (en m e w) (λ old. let h = acks.sent_eb m e old in absurd (omega arith)) (λ f. f.1);
     sent_ea = acks.sent_ea;
@@ -158,12 +158,12 @@ module _ (sa ma na da ka ta ea sb mb nb db kb tb eb : ℕ) (UA UB : ℕ → ℕ 
       → ((m e : ℕ) → EB' m e → EB m e) → ((p o : ℕ) → RB' p o → RB p o)
       → Acks sa ma na da ka ta ea 0 mb vp 9 0 0 0 UA UB' EA EB' RA RB'
   reply_free_b_ends vp vo UB' EB' RB' v newer of lo en re =
-      let h = inv.sent_ra vp vo v in
+      let h = inv.a.sent_r vp vo v in
       let k = inv.count_a in record {
         told_a = λ l h' l'. absurd (omega arith);
         told_b = λ l h' out. let x = acks.new_active lo (omega arith) l h' in omega arith;
         acknowledged_a = λ p o w is two. absurd (omega arith);
-        acknowledged_b = λ p o w is two. let x = inv.sent_rb p o (re p o w) in absurd (omega arith);
+        acknowledged_b = λ p o w is two. let x = inv.b.sent_r p o (re p o w) in absurd (omega arith);
         new_active = λ l is l' h'. absurd (omega arith);
         no_ends_a = acks.no_ends_a;
         no_ends_b = λ le. (refl, refl);

@@ -57,12 +57,12 @@ module _ (side : Role) (s : Setting) (now : ℕ) (log : List Entry) (x y : Serve
   seen_x : (v : Update) → Says y v → v.seen ≤ x.unit.mine
   seen_x v said = by_modes x y
       (λ p q. calm_seen side x y v (inv.calm p q (binding_of v)) said)
-      (λ p. let c = inv.marked_x p (binding_of v) in let sent = c.sent_uy _ _ _ (v, said, refl, refl, refl) in let count = c.count_y in omega arith)
-      (λ q. let c = inv.marked_y q (binding_of v) in let sent = c.sent_ux _ _ _ (v, said, refl, refl, refl) in let count = c.count_x in omega arith)
+      (λ p. let c = inv.marked_x p (binding_of v) in let sent = c.y.sent_u _ _ _ (v, said, refl, refl, refl) in let count = c.count_y in omega arith)
+      (λ q. let c = inv.marked_y q (binding_of v) in let sent = c.x.sent_u _ _ _ (v, said, refl, refl, refl) in let count = c.count_x in omega arith)
 
   due_of : (k : Binding) → DueOf side (code k x.unit.status) (due_code x.unit.due)
-  due_of k = by_modes x y (λ p q. calm_due side k x y (inv.calm p q k)) (λ p. (inv.marked_x p k).due_x)
-      (λ q. subst (λ z. DueOf z (code k x.unit.status) (due_code x.unit.due)) (twice side) (inv.marked_y q k).due_y)
+  due_of k = by_modes x y (λ p q. calm_due side k x y (inv.calm p q k)) (λ p. (inv.marked_x p k).x.due)
+      (λ q. subst (λ z. DueOf z (code k x.unit.status) (due_code x.unit.due)) (twice side) (inv.marked_y q k).y.due)
 
   -- a change of the unit that leaves its mark
   put : (log' : List Entry) (u : UnitValue) → u.marked ≡ x.unit.marked

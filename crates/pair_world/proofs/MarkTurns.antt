@@ -105,7 +105,7 @@ module _ (s : Setting) (k : Binding) (a b : Server) where
   unmarks_a inv r sent good of newer =
       let u = unmarked a.unit r in
       let h = unmark_a _ _ _ _ _ _ _ _ _ _ _ _ _ _ _ _ _ _ _ _ _ _ inv r.mine r.of (count_unmarked a.unit a.unit.due) (told_code (code k a.unit.status) a.unit.due) _ _ _ _ (r, (good, inl sent), refl, refl) newer of
-      (is_raised a.unit a.unit.due) (tells (code k a.unit.status) a.unit.due) (due_word k a u Primary inv.due_x) (due_end k a u Primary inv.due_x) (λ p o w. w) (same_marks a u refl) in
+      (is_raised a.unit a.unit.due) (tells (code k a.unit.status) a.unit.due) (due_word k a u Primary inv.x.due) (due_end k a u Primary inv.x.due) (λ p o w. w) (same_marks a u refl) in
       record { phases = h.0; acks = h.1; stale = h.2 }
 
   pub unmarks_b : InMark Secondary k b a → (r : BindReply) → IsIn a.replies r → is_accept r.acknowledgement ≡ true → r.of ≡ b.unit.mine → b.unit.seen < r.mine
@@ -113,5 +113,5 @@ module _ (s : Setting) (k : Binding) (a b : Server) where
   unmarks_b inv r sent good of newer =
       let u = unmarked b.unit r in
       let h = unmark_b _ _ _ _ _ _ _ _ _ _ _ _ _ _ _ _ _ _ _ _ _ _ inv r.mine r.of (count_unmarked b.unit b.unit.due) (told_code (code k b.unit.status) b.unit.due) _ _ _ _ (r, (good, inl sent), refl, refl) newer of
-      (is_raised b.unit b.unit.due) (tells (code k b.unit.status) b.unit.due) (due_word k b u Secondary inv.due_x) (due_end k b u Secondary inv.due_x) (λ p o w. w) (same_marks b u refl) in
+      (is_raised b.unit b.unit.due) (tells (code k b.unit.status) b.unit.due) (due_word k b u Secondary inv.x.due) (due_end k b u Secondary inv.x.due) (λ p o w. w) (same_marks b u refl) in
       record { phases = h.0; acks = h.1; stale = h.2 }

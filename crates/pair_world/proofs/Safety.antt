@@ -2,6 +2,7 @@
 use Rattle.std.specs.Prelude.{◌≡◌, ℕ, ◌+◌, ◌<◌, ◌≤◌, List, [], ◌∷◌}
 use Rattle.std.proofs.Common.{arith, inl, inr, refl, sym, ap}
 use Rattle.std.proofs.lemmas.Bool.{cases_lt}
+use Rattle.pair_world.specs.Phases.{Due, DueAtB, Own}
 use Rattle.pair_world.specs.Kept.{Ends, IsActiveOf, Kept, Waits}
 use Rattle.pair_world.specs.Said.{Answer, InCalm, Says, SaysEnd, SaysMark, Word, active_code, code}
 use Rattle.binding_rules.specs.declared.unit.Binding.{Binding}
@@ -80,21 +81,21 @@ no_answer_yet : (p o : ℕ) → Answer first p o → ⊥
 no_answer_yet p o (r, (good, inl sent), ep, eo) = sent
 no_answer_yet p o (r, (good, inr due), ep, eo) = absurd (cc)
 
+own_at_start : (s : Setting) (k : Binding) (D : ℕ → ℕ → Type 0) → D 0 9 → Own D 0 0 0 9 (Word k first) (Answer first)
+own_at_start s k D due = record {
+  due = due;
+  sent_u = λ c m n w. absurd (no_word_yet s k c m n w);
+  sent_r = λ p o w. absurd (no_answer_yet p o w);
+  replies_before = λ e p o w. absurd (no_answer_yet p o w);
+  last_word = λ e c m n w. absurd (no_word_yet s k c m n w);
+  reply_then_update = λ c m n p o w. absurd (no_word_yet s k c m n w);
+}
+
 calm_at_start : (s : Setting) (k : Binding) → InCalm k first first
 calm_at_start s k = record {
   phases = record {
-    due_a = inl (refl, refl);
-    due_b = inl (refl, refl);
-    sent_ua = λ c m n w. absurd (no_word_yet s k c m n w);
-    sent_ra = λ p o w. absurd (no_answer_yet p o w);
-    sent_ub = λ c m n w. absurd (no_word_yet s k c m n w);
-    sent_rb = λ p o w. absurd (no_answer_yet p o w);
-    replies_before_a = λ e p o w. absurd (no_answer_yet p o w);
-    last_word_a = λ e c m n w. absurd (no_word_yet s k c m n w);
-    reply_then_update_a = λ c m n p o w. absurd (no_word_yet s k c m n w);
-    replies_before_b = λ e p o w. absurd (no_answer_yet p o w);
-    last_word_b = λ e c m n w. absurd (no_word_yet s k c m n w);
-    reply_then_update_b = λ c m n p o w. absurd (no_word_yet s k c m n w);
+    a = own_at_start s k (λ s d. Due s d) (inl (refl, refl));
+    b = own_at_start s k (λ s d. DueAtB s d) (inl (refl, refl));
     count_a = omega arith;
     count_b = omega arith;
     heard = λ e is. refl;

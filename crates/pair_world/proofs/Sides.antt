@@ -109,12 +109,12 @@ twice Primary = refl
 twice Secondary = refl
 
 pub calm_due : (side : Role) (k : Binding) (x y : Server) → CalmOf side k x y → DueOf side (code k x.unit.status) (due_code x.unit.due)
-calm_due Primary k x y c = c.phases.due_a
-calm_due Secondary k x y c = c.phases.due_b
+calm_due Primary k x y c = c.phases.a.due
+calm_due Secondary k x y c = c.phases.b.due
 
 pub calm_seen : (side : Role) (x y : Server) (v : Update) → CalmOf side (binding_of v) x y → Says y v → v.seen ≤ x.unit.mine
-calm_seen Primary x y v c said = let sent = c.phases.sent_ub _ _ _ (v, said, refl, refl, refl) in let count = c.phases.count_b in omega arith
-calm_seen Secondary x y v c said = let sent = c.phases.sent_ua _ _ _ (v, said, refl, refl, refl) in let count = c.phases.count_a in omega arith
+calm_seen Primary x y v c said = let sent = c.phases.b.sent_u _ _ _ (v, said, refl, refl, refl) in let count = c.phases.count_b in omega arith
+calm_seen Secondary x y v c said = let sent = c.phases.a.sent_u _ _ _ (v, said, refl, refl, refl) in let count = c.phases.count_a in omega arith
 
 pub calm_mark : (side : Role) (k : Binding) (x y : Server) → CalmOf side k x y → (m : ℕ) → SaysMark y m → m ≤ x.unit.seen
 calm_mark Primary k x y c m said = c.stale.stale_b m said
