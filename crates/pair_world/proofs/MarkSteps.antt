@@ -177,7 +177,7 @@ module _ (side : Role) (s : Setting) (k : Binding) (x y : Server) (inv : InMark 
       let nine = free_is _ _ (weaker (partner_of side) _ _ inv.y.due) free in
       let none = due_none y.unit.due nine in
       take_y _ _ _ _ _ _ _ _ _ _ _ _ _ _ _ _ _ _ _ _ _ _ _ _ inv (word_code_by v.status k (binding_of v)) v.mine v.seen 1 (due_code y.unit.due) 0 _ _ y.unit.out_end _ _ _ _ (v, said, refl, refl, refl) newer (subst (λ z. DueOf (partner_of side) 1 z) (sym nine) (due_backup (partner_of side))) (omega arith)
-      (λ z. absurd (omega arith)) (λ z. absurd (omega arith)) (λ le. inv.no_ends_y (omega arith))
+      (λ z. absurd (omega arith)) (λ z. absurd (omega arith)) (λ le. inv.ends_y.no_ends (omega arith))
       (λ c m n w. inl (no_word k y u (inl none) c m n w)) (λ m e' w. inl (no_end_silent y u (inl none) m e' w)) (new_answer y u _ refl) (same_marks y u open_y)
   accepts_y open_y waiting reading v sent newer SeizedDue e ok =
       let u = accepted_as SeizedDue (partner_of side) y.unit v in
@@ -202,7 +202,7 @@ module _ (side : Role) (s : Setting) (k : Binding) (x y : Server) (inv : InMark 
   settles_y open_y r sent good newer BackupDue is =
       let u = replied BackupDue y.unit r in
       let one = moved_is_due _ _ (weaker (partner_of side) _ _ inv.y.due) (ap due_code is) in
-      settle_y _ _ _ _ _ _ _ _ _ _ _ _ _ _ _ _ _ _ _ _ _ _ _ _ inv r.mine r.of _ _ _ _ _ _ _ _ (r, (good, inl sent), refl, refl) newer (subst (λ z. DueOf (partner_of side) z 9) (sym one) (due_backup (partner_of side))) (omega arith) inv.no_ends_y
+      settle_y _ _ _ _ _ _ _ _ _ _ _ _ _ _ _ _ _ _ _ _ _ _ _ _ inv r.mine r.of _ _ _ _ _ _ _ _ (r, (good, inl sent), refl, refl) newer (subst (λ z. DueOf (partner_of side) z 9) (sym one) (due_backup (partner_of side))) (omega arith) inv.ends_y.no_ends
       (no_word k y u (inl refl)) (no_end_silent y u (inl refl)) (λ p o w. w) (same_marks y u open_y)
   settles_y open_y r sent good newer ExpiredDue is = freed_y open_y r sent good newer
   settles_y open_y r sent good newer ReleasedDue is = freed_y open_y r sent good newer

@@ -16,7 +16,7 @@ use Rattle.binding_rules.specs.declared.update.Update.{Update}
 use Rattle.binding_rules.specs.Reply.{count_unmarked, is_accept, unmarked}
 use Rattle.book_rules.specs.MessageRules.{due_update}
 use Rattle.book_rules.specs.Effects.{seized}
-use Rattle.pair_world.proofs.Marks.{seize_a, seize_b}
+use Rattle.pair_world.proofs.Marks.{seize}
 use Rattle.pair_world.proofs.Unmarks.{Raised, Tells, OrDue, OrDueEnd, unmark_a, unmark_b}
 use Rattle.pair_world.proofs.Words.{no_word, no_end_silent, new_mark, same_marks}
 use Rattle.pair_world.proofs.Effects.{no_mark_due}
@@ -93,12 +93,14 @@ module _ (s : Setting) (k : Binding) (a b : Server) where
   pub seizes_a : InCalm k a b → InMark Primary k (record a { unit = seized Primary a.unit }) b
   seizes_a inv =
       let u = seized Primary a.unit in
-      seize_a _ _ _ _ _ _ _ _ _ _ _ _ _ _ _ _ _ _ _ _ _ _ inv.phases inv.acks inv.stale _ _ _ _ (no_word k a u (inr refl)) (no_end_silent a u (inr refl)) (λ p o w. w) (new_mark a u)
+      seize _ _ _ _ _ _ _ _ _ _ _ _ _ _ _ _ _ _ _ _ _ _ _ _ inv.phases.a inv.phases.b inv.acks.a inv.acks.b inv.phases.count_a inv.phases.count_b inv.stale.stale_a inv.stale.stale_b
+      0 0 _ _ _ _ (inl (refl, refl)) (no_word k a u (inr refl)) (no_end_silent a u (inr refl)) (λ p o w. w) (new_mark a u)
 
   pub seizes_b : InCalm k a b → InMark Secondary k (record b { unit = seized Secondary b.unit }) a
   seizes_b inv =
       let u = seized Secondary b.unit in
-      seize_b _ _ _ _ _ _ _ _ _ _ _ _ _ _ _ _ _ _ _ _ _ _ inv.phases inv.acks inv.stale _ _ _ _ (no_word k b u (inr refl)) (no_end_silent b u (inr refl)) (λ p o w. w) (new_mark b u)
+      seize _ _ _ _ _ _ _ _ _ _ _ _ _ _ _ _ _ _ _ _ _ _ _ _ inv.phases.b inv.phases.a inv.acks.b inv.acks.a inv.phases.count_b inv.phases.count_a inv.stale.stale_b inv.stale.stale_a
+      1 1 _ _ _ _ (inr (inl (refl, refl))) (no_word k b u (inr refl)) (no_end_silent b u (inr refl)) (λ p o w. w) (new_mark b u)
 
   pub unmarks_a : InMark Primary k a b → (r : BindReply) → IsIn b.replies r → is_accept r.acknowledgement ≡ true → r.of ≡ a.unit.mine → a.unit.seen < r.mine
       → InCalm k (record a { unit = unmarked a.unit r }) b

@@ -2,6 +2,7 @@
 use Rattle.std.specs.Prelude.{◌≡◌, ℕ, ◌+◌, ◌<◌, ◌≤◌, List, [], ◌∷◌}
 use Rattle.std.proofs.Common.{arith, inl, inr, refl, sym, ap}
 use Rattle.std.proofs.lemmas.Bool.{cases_lt}
+use Rattle.pair_world.specs.Acks.{OwnEnds}
 use Rattle.pair_world.specs.Phases.{Due, DueAtB, Own}
 use Rattle.pair_world.specs.Kept.{Ends, IsActiveOf, Kept, Waits}
 use Rattle.pair_world.specs.Said.{Answer, InCalm, Says, SaysEnd, SaysMark, Word, active_code, code}
@@ -91,6 +92,14 @@ own_at_start s k D due = record {
   reply_then_update = λ c m n p o w. absurd (no_word_yet s k c m n w);
 }
 
+own_ends_at_start : (s : Setting) (k : Binding) → OwnEnds 0 0 9 0 0 0 (Word k first) (SaysEnd first)
+own_ends_at_start s k = record {
+  no_ends = λ le. (refl, refl);
+  last_active = λ c m n w. absurd (no_word_yet s k c m n w);
+  last_end = λ m e w. absurd (no_end_yet s m e w);
+  sent_e = λ m e w. absurd (no_end_yet s m e w);
+}
+
 calm_at_start : (s : Setting) (k : Binding) → InCalm k first first
 calm_at_start s k = record {
   phases = record {
@@ -111,19 +120,13 @@ calm_at_start s k = record {
     a_says_backup = λ c m n w. absurd (no_word_yet s k c m n w);
   };
   acks = record {
+    a = own_ends_at_start s k;
+    b = own_ends_at_start s k;
     told_a = λ l h l'. absurd (omega arith);
     told_b = λ l h out. absurd (omega arith);
     acknowledged_a = λ p o w. absurd (no_answer_yet p o w);
     acknowledged_b = λ p o w. absurd (no_answer_yet p o w);
     new_active = λ l is l' h. refl;
-    no_ends_a = λ le. (refl, refl);
-    no_ends_b = λ le. (refl, refl);
-    last_active_a = λ c m n w. absurd (no_word_yet s k c m n w);
-    last_active_b = λ c m n w. absurd (no_word_yet s k c m n w);
-    last_end_a = λ m e w. absurd (no_end_yet s m e w);
-    last_end_b = λ m e w. absurd (no_end_yet s m e w);
-    sent_ea = λ m e w. absurd (no_end_yet s m e w);
-    sent_eb = λ m e w. absurd (no_end_yet s m e w);
   };
   stale = record { stale_a = λ m w. absurd (no_mark_yet m w); stale_b = λ m w. absurd (no_mark_yet m w) };
 }

@@ -1,7 +1,7 @@
 -- The mark goes by the other server's reply. Where a change is due, the count rises by one, and the word of that change is the only new one.
-use Rattle.std.specs.Prelude.{◌≡◌, ◌≢◌, ℕ, ◌+◌, ◌<◌, ◌⊎◌}
+use Rattle.std.specs.Prelude.{◌≡◌, ◌≢◌, ℕ, ◌+◌, ◌<◌, ◌≤◌, ◌⊎◌}
 use Rattle.std.proofs.Common.{arith, inl, inr, refl}
-use Rattle.pair_world.specs.Acks.{Acks, Stale}
+use Rattle.pair_world.specs.Acks.{Acks, OwnEnds, Stale}
 use Rattle.pair_world.specs.Marked.{Marked}
 use Rattle.pair_world.specs.Phases.{Due, DueAtB, Phases}
 use Rattle.pair_world.proofs.Phases.{by_word, own_unmark}
@@ -19,6 +19,18 @@ OrDue U d c0 m' vp c m n = U c m n ⊎ ((d ≢ 9) × (c ≡ c0) × (m ≡ m') ×
 
 abbrev pub OrDueEnd : (ℕ → ℕ → Type 0) → (d m' e' m e : ℕ) → Type 0
 OrDueEnd E d m' e' m e = E m e ⊎ ((d ≢ 9) × (m ≡ m') × (e ≡ e'))
+
+-- the ends of X's unit as its mark goes
+ends_unmark : (s m d k t e : ℕ) (U : ℕ → ℕ → ℕ → Type 0) (E : ℕ → ℕ → Type 0) (vp m' c0 : ℕ) (U' : ℕ → ℕ → ℕ → Type 0) (E' : ℕ → ℕ → Type 0) → m ≤ m'
+    → ((c n l : ℕ) → U c n l → n < m) → ((n f : ℕ) → E n f → n < m) → (k ≡ 0) × (t ≡ 0) → (d ≡ 2 → (2 ≤ c0) × (c0 ≤ 3))
+    → ((c n l : ℕ) → U' c n l → U c n l ⊎ ((c ≡ c0) × (n ≡ m') × (l ≡ vp))) → ((n f : ℕ) → E' n f → E n f ⊎ ((n ≡ m') × (f ≡ e)))
+    → OwnEnds s m' d k t e U' E'
+ends_unmark s m d k t e U E vp m' c0 U' E' more before before_end zeros active up en = record {
+  no_ends = λ le. zeros;
+  last_active = λ c n l w is two. by_word (up c n l w) (λ old. let h = before c n l old in absurd (omega arith)) (λ x. let a = active two in (omega arith, omega arith));
+  last_end = λ n f w is two. by_word (en n f w) (λ old. let h = before_end n f old in absurd (omega arith)) (λ x. x.1);
+  sent_e = λ n f w. by_word (en n f w) (λ old. let h = before_end n f old in omega arith) (λ x. omega arith);
+}
 
 module _ (sa ma na da ka ta ea sb mb nb db kb tb eb : ℕ) (UA UB : ℕ → ℕ → ℕ → Type 0) (EA EB RA RB : ℕ → ℕ → Type 0) (SA SB : ℕ → Type 0)
     (inv : Marked 0 Due DueAtB sa ma na da ka ta sb mb nb db kb tb eb UA UB EA EB RA RB SA SB)
@@ -62,19 +74,13 @@ module _ (sa ma na da ka ta ea sb mb nb db kb tb eb : ℕ) (UA UB : ℕ → ℕ 
       let due_b = inv.y.due in
       let ends = inv.no_ends_x in
       let count = inv.count_y in record {
+        a = ends_unmark sa ma da ka ta ea UA EA vp m' c0 UA' EA' (omega arith) inv.before_x inv.before_ex inv.no_ends_x (λ two. (omega arith, omega arith)) (λ c m n w. by_word (up c m n w) inl (λ f. inr (f.1, f.2, f.3))) (λ m e w. by_word (en m e w) inl (λ f. inr (f.1, f.2)));
+        b = inv.ends_y;
         told_a = λ l h l'. absurd (omega arith);
         told_b = λ l h out. omega arith;
         acknowledged_a = λ p o w is two. absurd (omega arith);
         acknowledged_b = λ p o w is two. let h = inv.y.sent_r p o w in absurd (omega arith);
         new_active = λ l is l' h. ends.0;
-        no_ends_a = λ le. ends;
-        no_ends_b = inv.no_ends_y;
-        last_active_a = λ c m n w is two. by_word (up c m n w) (λ old. let h = inv.before_x c m n old in absurd (omega arith)) (λ x. (omega arith, omega arith));
-        last_active_b = inv.last_active_y;
-        last_end_a = λ m e w is two. by_word (en m e w) (λ old. let h = inv.before_ex m e old in absurd (omega arith)) (λ x. x.2);
-        last_end_b = inv.last_end_y;
-        sent_ea = λ m e w. by_word (en m e w) (λ old. let h = inv.before_ex m e old in omega arith) (λ x. omega arith);
-        sent_eb = inv.sent_ey;
       }
 
   pub unmark_a : Phases sa m' vp da sb mb nb db UA' UB RA' RB × Acks sa m' vp da ka ta ea sb mb nb db kb tb eb UA' UB EA' EB RA' RB × Stale vp nb SA' SB
@@ -126,19 +132,13 @@ module _ (sa ma na da ka ta ea sb mb nb db kb tb eb : ℕ) (UA UB : ℕ → ℕ 
       let due_a = inv.y.due in
       let ends = inv.no_ends_x in
       let count = inv.count_x in record {
+        a = inv.ends_y;
+        b = ends_unmark sb mb db kb tb eb UB EB vp m' c0 UB' EB' (omega arith) inv.before_x inv.before_ex inv.no_ends_x (λ two. (omega arith, omega arith)) (λ c m n w. by_word (up c m n w) inl (λ f. inr (f.1, f.2, f.3))) (λ m e w. by_word (en m e w) inl (λ f. inr (f.1, f.2)));
         told_a = λ l h l'. omega arith;
         told_b = λ l h out. absurd (omega arith);
         acknowledged_a = λ p o w is two. let h = inv.y.sent_r p o w in absurd (omega arith);
         acknowledged_b = λ p o w is two. absurd (omega arith);
         new_active = λ l is l' h. absurd (omega arith);
-        no_ends_a = inv.no_ends_y;
-        no_ends_b = λ le. ends;
-        last_active_a = inv.last_active_y;
-        last_active_b = λ c m n w is two. by_word (up c m n w) (λ old. let h = inv.before_x c m n old in absurd (omega arith)) (λ x. (omega arith, omega arith));
-        last_end_a = inv.last_end_y;
-        last_end_b = λ m e w is two. by_word (en m e w) (λ old. let h = inv.before_ex m e old in absurd (omega arith)) (λ x. x.2);
-        sent_ea = inv.sent_ey;
-        sent_eb = λ m e w. by_word (en m e w) (λ old. let h = inv.before_ex m e old in omega arith) (λ x. omega arith);
       }
 
   pub unmark_b : Phases sa ma na da sb m' vp db UA UB' RA RB' × Acks sa ma na da ka ta ea sb m' vp db kb tb eb UA UB' EA EB' RA RB' × Stale na vp SA SB'

@@ -1,5 +1,6 @@
 -- What is kept while the unit is marked at a server X, in the plain numbers of Phases and Acks; Y is the other.
 use Rattle.std.specs.Prelude.{◌≡◌, ℕ, ◌<◌, ◌≤◌}
+use Rattle.pair_world.specs.Acks.{OwnEnds}
 use Rattle.pair_world.specs.Phases.{Own}
 
 -- S m: an update says that the unit was seized, with count m. f is what Y's unit is once it took that: 0 free, 1 free
@@ -11,19 +12,15 @@ pub record Marked (f : ℕ) (DX DY : ℕ → ℕ → Type 0) (sx mx nx dx kx tx 
   -- what X said of the unit but the mark is from before its last change
   pub before_x : (c m n : ℕ) → UX c m n → m < mx
   pub before_ex : (m e : ℕ) → EX m e → m < mx
-  -- its marks and Y's ends have counts no greater than the units'; a mark that Y said was seen by X
+  -- the marks that X said have counts no greater than its unit's, and those that Y said were seen by X
   pub sent_sx : (m : ℕ) → SX m → m ≤ mx
-  pub sent_ey : (m e : ℕ) → EY m e → m ≤ my
   pub sent_sy : (m : ℕ) → SY m → m ≤ nx
-  -- where a change to active is due at Y, what it says with its last count is active, with its end
-  pub last_active_y : (c m n : ℕ) → UY c m n → m ≡ my → dy ≡ 2 → (2 ≤ c) × (c ≤ 3)
-  pub last_end_y : (m e : ℕ) → EY m e → m ≡ my → dy ≡ 2 → e ≡ ey
   -- neither saw more than the other counted
   pub count_x : nx ≤ my
   pub count_y : ny ≤ mx
-  -- X was told nothing and has nothing acknowledged; nor has Y of a unit of a pool
+  -- X was told nothing and has nothing acknowledged
   pub no_ends_x : (kx ≡ 0) × (tx ≡ 0)
-  pub no_ends_y : sy ≤ 1 → (ky ≡ 0) × (ty ≡ 0)
+  pub ends_y : OwnEnds sy my dy ky ty ey UY EY
   -- once Y accepted the mark, its unit is as the mark wants it, and what it says later is that it is free
   pub answered : (p o : ℕ) → RY p o → o ≡ mx → (sy ≡ f) × (f ≡ 0 → p ≡ my)
   pub free_after : (p o : ℕ) → RY p o → o ≡ mx → (c m n : ℕ) → UY c m n → p < m → c ≡ 0
