@@ -1,7 +1,7 @@
 -- The primary's steps keep the phases.
 use Rattle.std.specs.Prelude.{◌≡◌, ℕ, ◌+◌, ◌<◌, ◌≤◌, ◌⊎◌}
 use Rattle.std.proofs.Common.{arith, inl, inr, refl}
-use Rattle.pair_world.specs.Phases.{Ending, Heard, Phases}
+use Rattle.pair_world.specs.Phases.{Due, Ending, Heard, Phases}
 use Rattle.pair_world.proofs.Phases.{Old, OldReply, by_word, or_eq, or_le, own_change, own_take, own_settle}
 
 module _ (sa ma na da sb mb nb db : ℕ) (UA UB : ℕ → ℕ → ℕ → Type 0) (RA RB : ℕ → ℕ → Type 0) (inv : Phases sa ma na da sb mb nb db UA UB RA RB) where
@@ -57,44 +57,18 @@ module _ (sa ma na da sb mb nb db : ℕ) (UA UB : ℕ → ℕ → ℕ → Type 0
     a_says_backup = λ c m n w is e. by_word (up c m n w) (λ old. let x = inv.a_says_backup c m n old is e in absurd (omega arith)) (λ f. absurd (omega arith));
   }
 
-  pub to_backup_a : (UA' : ℕ → ℕ → ℕ → Type 0) (RA' : ℕ → ℕ → Type 0) → sa ≡ 0
-      → ((c m n : ℕ) → UA' c m n → Old UA c m n 1 (ma + 1) na) → ((p o : ℕ) → RA' p o → RA p o)
-      → Phases 1 (ma + 1) na 1 sb mb nb db UA' UB RA' RB
-  to_backup_a UA' RA' guard up re = record {
-    a = own_change _ _ _ _ _ _ _ inv.a _ _ _ _ _ (inr (inl (refl, inr (inl refl)))) (λ e. refl) up re;
-    b = inv.b;
-    count_a = inv.count_a;
-    count_b = let h = inv.count_b in omega arith;
-    heard = λ e is. absurd (omega arith);
-    b_backup = λ is. refl;
-    b_active = λ l h. inl refl;
-    b_says_active = λ c m n w new l h. let x = inv.b_says_active c m n w new l h in or_eq sb c (λ ne. or_le 4 sb (λ lt. absurd (omega arith)));
-    b_says_over = λ c m n w new l. let x = inv.b_says_over c m n w new l in inl (omega arith, omega arith);
-    b_silent = inv.b_silent;
-    b_reply_last = λ p o w is l. absurd (omega arith);
-    a_says_active = λ c m n w new l h. by_word (up c m n w)
-        (λ old. let x = inv.a_says_active c m n old new l h in inr (inr (omega arith, omega arith, omega arith)))
-        (λ f. absurd (omega arith));
-    a_says_over = λ c m n w new l. by_word (up c m n w)
-        (λ old. let x = inv.a_says_over c m n old new l in inr (omega arith, omega arith, omega arith))
-        (λ f. absurd (omega arith));
-    a_after_over = λ c m n w new l c' m' n' w' lt. by_word (up c m n w)
-        (λ old. by_word (up c' m' n' w') (λ old'. inv.a_after_over c m n old new l c' m' n' old' lt) (λ f. let x = inv.a_says_over c m n old new l in omega arith))
-        (λ f. absurd (omega arith));
-    a_says_backup = λ c m n w is e. refl;
-  }
-
-  pub reclaim_a : (UA' : ℕ → ℕ → ℕ → Type 0) (RA' : ℕ → ℕ → Type 0) → sa ≡ 1
-      → ((c m n : ℕ) → UA' c m n → Old UA c m n 0 (ma + 1) na) → ((p o : ℕ) → RA' p o → RA p o)
-      → Phases sa (ma + 1) na 0 sb mb nb db UA' UB RA' RB
-  reclaim_a UA' RA' guard up re = record {
-    a = own_change _ _ _ _ _ _ _ inv.a _ _ _ _ _ (inr (inl (guard, inr (inr refl)))) (λ e. refl) up re;
+  -- the unit is given to the secondary, or asked back
+  pub move_a : (s' d' : ℕ) (UA' : ℕ → ℕ → ℕ → Type 0) (RA' : ℕ → ℕ → Type 0) → s' ≡ 1 → sa ≤ 1 → d' ≤ 1 → Due s' d'
+      → ((c m n : ℕ) → UA' c m n → Old UA c m n d' (ma + 1) na) → ((p o : ℕ) → RA' p o → RA p o)
+      → Phases s' (ma + 1) na d' sb mb nb db UA' UB RA' RB
+  move_a s' d' UA' RA' one low told due up re = record {
+    a = own_change _ _ _ _ _ _ _ inv.a _ _ _ _ _ due (λ e. refl) up re;
     b = inv.b;
     count_a = inv.count_a;
     count_b = let h = inv.count_b in omega arith;
     heard = λ e is. let h = inv.count_b in absurd (omega arith);
-    b_backup = λ is. guard;
-    b_active = λ l h. inl guard;
+    b_backup = λ is. one;
+    b_active = λ l h. inl one;
     b_says_active = λ c m n w new l h. let x = inv.b_says_active c m n w new l h in or_eq sb c (λ ne. or_le 4 sb (λ lt. absurd (omega arith)));
     b_says_over = λ c m n w new l. let x = inv.b_says_over c m n w new l in inl (omega arith, omega arith);
     b_silent = inv.b_silent;
@@ -108,7 +82,7 @@ module _ (sa ma na da sb mb nb db : ℕ) (UA UB : ℕ → ℕ → ℕ → Type 0
     a_after_over = λ c m n w new l c' m' n' w' lt. by_word (up c m n w)
         (λ old. by_word (up c' m' n' w') (λ old'. inv.a_after_over c m n old new l c' m' n' old' lt) (λ f. let x = inv.a_says_over c m n old new l in omega arith))
         (λ f. absurd (omega arith));
-    a_says_backup = λ c m n w is e. guard;
+    a_says_backup = λ c m n w is e. one;
   }
 
   pub take_active_a : (cv mv nv d' : ℕ) (UA' : ℕ → ℕ → ℕ → Type 0) (RA' : ℕ → ℕ → Type 0) → UB cv mv nv → na < mv → 2 ≤ cv → cv ≤ 3

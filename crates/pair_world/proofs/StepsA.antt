@@ -21,7 +21,7 @@ use Rattle.binding_rules.specs.Table.{answered}
 use Rattle.book_rules.specs.Effects.{changed, expired}
 use Rattle.binding_rules.specs.Reply.{is_accept}
 use Rattle.binding_rules.specs.Unit.{status_of}
-use Rattle.pair_world.proofs.PhasesA.{grant_a, end_a, to_backup_a, reclaim_a, take_active_a, take_over_a, reply_keep_a, reply_free_a}
+use Rattle.pair_world.proofs.PhasesA.{grant_a, end_a, move_a, take_active_a, take_over_a, reply_keep_a, reply_free_a}
 use Rattle.pair_world.proofs.Acks.{fewer_ends}
 use Rattle.pair_world.proofs.AcksA.{grant_a_ends, change_a_ends, take_active_a_ends, take_over_a_ends, reply_keep_a_ends, reply_free_a_ends}
 use Rattle.pair_world.proofs.Words.{code_low, code_high, new_word, new_word_at, new_end, no_word, no_end, no_end_silent, new_answer, same_marks, word_sent, end_sent, mark_sent, answer_sent, answer_reject}
@@ -80,7 +80,7 @@ module _ (s : Setting) (k : Binding) (a b : Server) (open_a : a.unit.marked ≡ 
       let zero' : code k a.unit.status ≡ 0 = ap (code k) guard in
       let made = new_word_at k a (changed FreeBackup BackupDue a.unit) 1 BackupDue refl refl in
       record {
-        phases = to_backup_a _ _ _ _ _ _ _ _ _ _ _ _ inv.phases _ _ zero' made (λ p o w. w);
+        phases = move_a _ _ _ _ _ _ _ _ _ _ _ _ inv.phases 1 1 _ _ refl (omega arith) (omega arith) (inr (inl (refl, inr (inl refl)))) made (λ p o w. w);
         acks = change_a_ends _ _ _ _ _ _ _ _ _ _ _ _ _ _ _ _ _ _ _ _ inv.phases inv.acks 1 1 _ _ _ (inl (omega arith)) (omega arith, inl refl) (λ l. absurd (omega arith)) (λ one. omega arith)
             (no_end a (changed FreeBackup BackupDue a.unit) (λ open' is. absurd (cc))) (λ p o w. w);
         stale = stale_on (changed FreeBackup BackupDue a.unit) open_a (omega arith);
@@ -91,7 +91,7 @@ module _ (s : Setting) (k : Binding) (a b : Server) (open_a : a.unit.marked ≡ 
       let one : code k a.unit.status ≡ 1 = ap (code k) guard in
       let made = new_word_at k a (changed a.unit.status FreeDue a.unit) 0 FreeDue refl refl in
       record {
-        phases = reclaim_a _ _ _ _ _ _ _ _ _ _ _ _ inv.phases _ _ one made (λ p o w. w);
+        phases = move_a _ _ _ _ _ _ _ _ _ _ _ _ inv.phases _ 0 _ _ one (omega arith) (omega arith) (inr (inl (one, inr (inr refl)))) made (λ p o w. w);
         acks = change_a_ends _ _ _ _ _ _ _ _ _ _ _ _ _ _ _ _ _ _ _ _ inv.phases inv.acks _ 0 _ _ _ (inl (omega arith)) (omega arith, inl one) (λ l. omega arith) (λ is. omega arith)
             (no_end a (changed a.unit.status FreeDue a.unit) (λ open' is. absurd (cc))) (λ p o w. w);
         stale = stale_on (changed a.unit.status FreeDue a.unit) open_a (omega arith);
