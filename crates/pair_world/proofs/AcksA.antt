@@ -1,5 +1,5 @@
 -- The primary's steps keep the ends.
-use Rattle.std.specs.Prelude.{◌≡◌, ℕ, ◌+◌, ◌<◌, ◌≤◌, ◌⊎◌, max}
+use Rattle.std.specs.Prelude.{◌≡◌, ◌≢◌, ℕ, ◌+◌, ◌<◌, ◌≤◌, ◌⊎◌, max}
 use Rattle.std.proofs.Common.{arith, inl, inr, refl}
 use Rattle.pair_world.specs.Acks.{Acks}
 use Rattle.pair_world.specs.Phases.{Phases}
@@ -58,20 +58,24 @@ module _ (sa ma na da ka ta ea sb mb nb db kb tb eb : ℕ) (UA UB : ℕ → ℕ 
     new_active = λ l is l' h. by_word guard (λ z. (acks.a.no_ends (omega arith)).0) (λ e. let x = inv.b.last_word (inl l) cv mv nv v is in let y = inv.b.due in absurd (omega arith));
   }
 
+  -- the unit is free then
+  freed_a_ends : (m' n' : ℕ) (UA' : ℕ → ℕ → ℕ → Type 0) (EA' RA' : ℕ → ℕ → Type 0) → ma ≤ m' → db ≢ 2 → ((m e : ℕ) → EA' m e → EA m e)
+      → Acks 0 m' n' 9 0 0 0 sb mb nb db kb tb eb UA' UB EA' EB RA' RB
+  freed_a_ends m' n' UA' EA' RA' more not_due en = record {
+    a = ends_change _ _ _ _ _ _ _ _ acks.a _ _ _ _ _ _ _ _ more (λ two. omega arith) (λ le. (refl, refl)) en;
+    b = acks.b;
+    told_a = λ l h l'. absurd (omega arith);
+    told_b = λ l h out. absurd (omega arith);
+    acknowledged_a = λ p o w is two. absurd (not_due two);
+    acknowledged_b = λ p o w is two. absurd (omega arith);
+    new_active = λ l is l' h. absurd (omega arith);
+  }
+
   pub take_over_a_ends : (cv mv nv : ℕ) (UA' : ℕ → ℕ → ℕ → Type 0) (EA' RA' : ℕ → ℕ → Type 0) → UB cv mv nv → na < mv → 4 ≤ cv
       → ((m e : ℕ) → EA' m e → EA m e)
       → Acks 0 (ma + 1) mv 9 0 0 0 sb mb nb db kb tb eb UA' UB EA' EB RA' RB
-  take_over_a_ends cv mv nv UA' EA' RA' v newer lo en =
-      let not_due : db ≡ 2 → ⊥ = λ two. let y = inv.b.due in
-      over_cases _ _ _ _ _ _ _ _ _ _ _ _ inv cv mv nv v newer lo (λ x z. absurd (omega arith)) (λ x z t u. absurd (omega arith)) in record {
-        a = ends_change _ _ _ _ _ _ _ _ acks.a _ _ _ _ _ _ _ _ (omega arith) (λ two. omega arith) (λ le. (refl, refl)) en;
-        b = acks.b;
-        told_a = λ l h l'. absurd (omega arith);
-        told_b = λ l h out. absurd (omega arith);
-        acknowledged_a = λ p o w is two. absurd (not_due two);
-        acknowledged_b = λ p o w is two. absurd (omega arith);
-        new_active = λ l is l' h. absurd (omega arith);
-      }
+  take_over_a_ends cv mv nv UA' EA' RA' v newer lo en = freed_a_ends (ma + 1) mv UA' EA' RA' (omega arith)
+      (λ two. let y = inv.b.due in over_cases _ _ _ _ _ _ _ _ _ _ _ _ inv cv mv nv v newer lo (λ x z. absurd (omega arith)) (λ x z t u. absurd (omega arith))) en
 
   pub reply_keep_a_ends : (vp vo ka' : ℕ) (UA' : ℕ → ℕ → ℕ → Type 0) (EA' RA' : ℕ → ℕ → Type 0) → RB vp vo → na < vp → vo ≡ ma
       → ((ka' ≡ max ka ea) × (da ≡ 2) × (2 ≤ sa)) ⊎ ((ka' ≡ ka) × (sa ≡ 1))
@@ -92,12 +96,5 @@ module _ (sa ma na da ka ta ea sb mb nb db kb tb eb : ℕ) (UA UB : ℕ → ℕ 
       → Acks 0 ma vp 9 0 0 0 sb mb nb db kb tb eb UA' UB EA' EB RA' RB
   reply_free_a_ends vp vo UA' EA' RA' v newer of shape en =
       let free : sb ≡ 0 = inv.heard (by_word shape (λ l. inl l) (λ z. inr z.1)) (let h = inv.b.sent_r vp vo v in let k = inv.count_b in omega arith) in
-      let due = inv.b.due in record {
-        a = ends_change _ _ _ _ _ _ _ _ acks.a _ _ _ _ _ _ _ _ (omega arith) (λ two. omega arith) (λ le. (refl, refl)) en;
-        b = acks.b;
-        told_a = λ l h l'. absurd (omega arith);
-        told_b = λ l h out. absurd (omega arith);
-        acknowledged_a = λ p o w is two. absurd (omega arith);
-        acknowledged_b = λ p o w is two. absurd (omega arith);
-        new_active = λ l is l' h. absurd (omega arith);
-      }
+      let due = inv.b.due in
+      freed_a_ends ma vp UA' EA' RA' (omega arith) (λ two. omega arith) en
