@@ -17,12 +17,14 @@ use Rattle.book_rules.specs.declared.pool.Pool.{Pool}
 use Rattle.server_book.specs.Settings.{ServerSettings}
 use Rattle.attribution.specs.Run.{IsValidAt, StartInTime}
 use Rattle.pair_world.specs.PairSafe.{BooksKeep, AckWasTold, EndsInTime, IsTheirs, PartnerStandsBack, StandsBack}
-use Rattle.pair_world.specs.UnitWorld.{IsAlone}
-use Rattle.pair_world.specs.PairWorld.{PairWorld, book, is_stopped}
+use Rattle.pair_world.specs.UnitWorld.{IsIn}
+use Rattle.pair_world.specs.PairWorld.{PairWorld, WasSent, book, is_stopped, journal}
 use Rattle.pair_world.specs.UnitSafe.{Runs}
-use Rattle.pair_world.proofs.Worlds.{Good, book_is, good}
-use Rattle.pair_world.proofs.KeptA.{ack_told_a, in_time_a}
-use Rattle.pair_world.proofs.KeptB.{ack_told_b, in_time_b}
+use Rattle.pair_world.proofs.Worlds.{Good, book_is, good, journal_in, of_two, stopped_in}
+use Rattle.pair_world.proofs.Pairs.{known_of, server_in}
+use Rattle.pair_world.proofs.Sides.{KeptFrom, seen_from}
+use Rattle.binding_rules.specs.declared.message.PartnerMessage.{PartnerMessage}
+use Rattle.pair_world.proofs.KeptSteps.{ack_told, in_time}
 use Rattle.pair_world.proofs.Traces.{book_in}
 use Rattle.pair_world.proofs.Kept.{by_bool}
 use Rattle.pair_world.proofs.Phases.{by_word}
@@ -33,12 +35,10 @@ use Rattle.pair_world.specs.Kept.{Kept}
 
 -- each of the pair's two books, as the run leads to it
 book_at : (s : ServerSettings) (w : PairWorld) → Good s w → (side : Role) → book side w ≡ book_in side w.run
-book_at s w g Primary = book_is Primary w.run w.a g.journal_a
-book_at s w g Secondary = book_is Secondary w.run w.b g.journal_b
+book_at s w g side = book_is side w.run (journal side w) (journal_in side s w g)
 
 pools_at : (s : ServerSettings) (w : PairWorld) → Good s w → (side : Role) → (book side w).pools ≡ s.pools
-pools_at s w g Primary = ap (λ (b : Book). b.pools) (book_at s w g Primary) ∙ g.settled.of_a.pools_are
-pools_at s w g Secondary = ap (λ (b : Book). b.pools) (book_at s w g Secondary) ∙ g.settled.of_b.pools_are
+pools_at s w g side = ap (λ (b : Book). b.pools) (book_at s w g side) ∙ (g.run.settled side).pools_are
 
 pub unit_at : (s : ServerSettings) (w : PairWorld) → Good s w → (side : Role) (p : Prefix) → is_unit (book side w).pools p ≡ true → is_unit s.pools p ≡ true
 unit_at s w g side p h = subst (λ ps. is_unit ps p ≡ true) (pools_at s w g side) h
@@ -53,35 +53,29 @@ first_unit (q ∷ qs) le =
     (p, rw there refl)
 
 module _ (s : ServerSettings) (w : PairWorld) (is : Good s w) where
-  law_a : (p : Prefix) → is_unit s.pools p ≡ true → IsAlone (server_of p (book_in Primary w.run) (messages Primary w.run []) w.stopped_a) → StandsBack w Secondary
-  law_a p unit off =
-      let same = book_at s w is Secondary in
-      by_word ((is.known p unit).kept.servers.there.law off) (λ st. inl st)
-      (λ waits. inr (
-        ap (λ (b : Book). b.waiting) same ∙ waits.0,
-        λ m ask answer sent body.
-            subst (λ (b : Book). answer ≢ b.restart) (sym same)
-            (waits.1 (record { ask = ask; answer = answer }) (sent_contact (messages Primary w.run []) m ask answer (numbered_in Primary w.run w.a.lines sent.0 m is.journal_a.lines sent.1) body)),
-      ))
-
-  law_b : (p : Prefix) → is_unit s.pools p ≡ true → IsAlone (server_of p (book_in Secondary w.run) (messages Secondary w.run []) w.stopped_b) → StandsBack w Primary
-  law_b p unit off =
-      let same = book_at s w is Primary in
-      by_word ((is.known p unit).kept.servers.back.law off) (λ st. inl st)
-      (λ waits. inr (
-        ap (λ (b : Book). b.waiting) same ∙ waits.0,
-        λ m ask answer sent body.
-            subst (λ (b : Book). answer ≢ b.restart) (sym same)
-            (waits.1 (record { ask = ask; answer = answer }) (sent_contact (messages Secondary w.run []) m ask answer (numbered_in Secondary w.run w.b.lines sent.0 m is.journal_b.lines sent.1) body)),
-      ))
-
   -- at a unit a server is alone by its book
   abbrev IsAloneAt : Role → Prefix → Type 0
   IsAloneAt side p = ((d : ℕ) × ((book side w).down ≡ Some d)) ⊎ (((book side w).units p).marked ≡ true)
 
+  -- what is known at a unit, from one side
+  known_from : (side : Role) (p : Prefix) → is_unit s.pools p ≡ true
+      → KeptFrom side (setting_of s) w.moment (log_of p w.run []) (server_in p w.run side (of_two w.stopped_a w.stopped_b side)) (server_in p w.run (partner_of side) (of_two w.stopped_a w.stopped_b (partner_of side)))
+  known_from side p unit = known_of side (setting_of s) p w.moment w.run (of_two w.stopped_a w.stopped_b) (is.run.known p unit)
+
   law : (side : Role) (p : Prefix) → is_unit s.pools p ≡ true → IsAloneAt side p → StandsBack w (partner_of side)
-  law Primary p unit off = law_a p unit (subst (λ (b : Book). ((d : ℕ) × (b.down ≡ Some d)) ⊎ ((b.units p).marked ≡ true)) (book_at s w is Primary) off)
-  law Secondary p unit off = law_b p unit (subst (λ (b : Book). ((d : ℕ) × (b.down ≡ Some d)) ⊎ ((b.units p).marked ≡ true)) (book_at s w is Secondary) off)
+  law side p unit off =
+      let same = book_at s w is (partner_of side) in
+      let alone = subst (λ (b : Book). ((d : ℕ) × (b.down ≡ Some d)) ⊎ ((b.units p).marked ≡ true)) (book_at s w is side) off in
+      by_word ((seen_from side (setting_of s) w.moment (log_of p w.run []) _ _ (known_from side p unit)).servers.there.law alone) (λ st. inl (sym (stopped_in (partner_of side) w) ∙ st))
+      (λ waits. inr (
+        ap (λ (b : Book). b.waiting) same ∙ waits.0,
+        λ m ask answer sent body.
+            subst (λ (b : Book). answer ≢ b.restart) (sym same)
+            (waits.1 (record { ask = ask; answer = answer }) (sent_contact (messages side w.run []) m ask answer (numbered_in' side m sent) body)),
+      )) where
+        numbered_in' : (side : Role) (m : PartnerMessage) → WasSent (journal (partner_of (partner_of side)) w).lines m → IsIn (messages side w.run []) m
+        numbered_in' Primary m sent = numbered_in Primary w.run w.a.lines sent.0 m (journal_in Primary s w is).lines sent.1
+        numbered_in' Secondary m sent = numbered_in Secondary w.run w.b.lines sent.0 m (journal_in Secondary s w is).lines sent.1
 
   -- a server whose partner doesn't stand back is calm
   calm : (side : Role) (somewhere : Prefix) → is_unit s.pools somewhere ≡ true → (StandsBack w (partner_of side) → ⊥) → IsCalm (book side w)
@@ -105,15 +99,11 @@ partner_stands_back s t w c side uncalm = stands s w (good s t w c) side c.opens
 
 -- what is known of a unit that is theirs, as the run leads to it
 module _ (s : ServerSettings) (w : PairWorld) (is : Good s w) where
-  told_a : (p : Prefix) → IsTheirs w Primary p → status_of ((book_in Secondary w.run).units p).status ≡ ActiveDue → ((book_in Secondary w.run).units p).acked ≤ ((book_in Primary w.run).units p).told
-  told_a p theirs active =
-      ack_told_a (setting_of s) w.moment (log_of p w.run []) _ _ (is.known p (unit_at s w is Primary p theirs.unit)).kept active
-      (subst (λ (b : Book). (b.units p).marked ≡ false) (book_at s w is Primary) theirs.unmarked) (subst (λ (b : Book). is_own Primary (b.units p).status ≡ false) (book_at s w is Primary) theirs.outside)
-
-  told_b : (p : Prefix) → IsTheirs w Secondary p → status_of ((book_in Primary w.run).units p).status ≡ ActiveDue → ((book_in Primary w.run).units p).acked ≤ ((book_in Secondary w.run).units p).told
-  told_b p theirs active =
-      ack_told_b (setting_of s) w.moment (log_of p w.run []) _ _ (is.known p (unit_at s w is Secondary p theirs.unit)).kept active
-      (subst (λ (b : Book). (b.units p).marked ≡ false) (book_at s w is Secondary) theirs.unmarked) (subst (λ (b : Book). is_own Secondary (b.units p).status ≡ false) (book_at s w is Secondary) theirs.outside)
+  told : (side : Role) (p : Prefix) → IsTheirs w side p → status_of ((book_in (partner_of side) w.run).units p).status ≡ ActiveDue
+      → ((book_in (partner_of side) w.run).units p).acked ≤ ((book_in side w.run).units p).told
+  told side p theirs active =
+      ack_told side (setting_of s) w.moment (log_of p w.run []) _ _ (known_from s w is side p (unit_at s w is side p theirs.unit)) active
+      (subst (λ (b : Book). (b.units p).marked ≡ false) (book_at s w is side) theirs.unmarked) (subst (λ (b : Book). is_own side (b.units p).status ≡ false) (book_at s w is side) theirs.outside)
 
   -- what the two books say of a unit
   between : (side : Role) (p : Prefix) (P : Book → Book → Type 0) → P (book_in side w.run) (book_in (partner_of side) w.run) → P (book side w) (book (partner_of side) w)
@@ -124,41 +114,32 @@ module _ (s : ServerSettings) (w : PairWorld) (is : Good s w) where
   running side p starts i g v of_side same =
       subst (λ x. Runs s.transit (log_of p w.run []) x (holder_of g.client g.iaid) (v.step.moment + 1000 * g.valid + s.transit)) of_side
       (valid_runs s.transit p g w.run i v.step v.here v.grants same
-      (λ j t lt at r. v.kept (j, t, lt, at, subst (λ q. t.line.event ≡ Release g.client g.iaid q) (sym same) r, is.trace.late j t at)))
+      (λ j t lt at r. v.kept (j, t, lt, at, subst (λ q. t.line.event ≡ Release g.client g.iaid q) (sym same) r, is.run.trace.late j t at)))
 
   lasts_on : (starts : ℕ → ℕ) → StartInTime s.transit w.run starts → (i : ℕ) (g : Lease) (v : IsValidAt w.run starts i g w.moment) → w.moment < v.step.moment + 1000 * g.valid + s.transit
   lasts_on starts are i g v =
       let begins = are i v.step g v.here v.grants in
-      let short = (is.gifts i v.step g v.here v.grants).0 in
+      let short = (is.run.gifts i v.step g v.here v.grants).0 in
       by_word v.lasts (λ endless. absurd (omega arith)) (λ lt. omega arith)
 
 pub ack_was_told : AckWasTold
-ack_was_told s t w c Primary p theirs active = let is = good s t w c in
-    between s w is Primary p (λ x y. (y.units p).acked ≤ (x.units p).told) (told_a s w is p theirs (subst (λ (b : Book). status_of (b.units p).status ≡ ActiveDue) (book_at s w is Secondary) active))
-ack_was_told s t w c Secondary p theirs active = let is = good s t w c in
-    between s w is Secondary p (λ x y. (y.units p).acked ≤ (x.units p).told) (told_b s w is p theirs (subst (λ (b : Book). status_of (b.units p).status ≡ ActiveDue) (book_at s w is Primary) active))
+ack_was_told s t w c side p theirs active = let is = good s t w c in
+    between s w is side p (λ x y. (y.units p).acked ≤ (x.units p).told)
+    (told s w is side p theirs (subst (λ (b : Book). status_of (b.units p).status ≡ ActiveDue) (book_at s w is (partner_of side)) active))
 
 pub ends_in_time : EndsInTime
-ends_in_time s t w c Primary p d theirs down starts are i g v of_side same =
+ends_in_time s t w c side p d theirs down starts are i g v of_side same =
     let is = good s t w c in
-    let x = book_at s w is Primary in
-    let end = in_time_a (setting_of s) w.moment (log_of p w.run []) _ _ (is.known p (unit_at s w is Primary p theirs.unit)).kept d (ap (λ (b : Book). b.down) (sym x) ∙ down)
-    (subst (λ (b : Book). (b.units p).marked ≡ false) x theirs.unmarked) (subst (λ (b : Book). is_own Primary (b.units p).status ≡ false) x theirs.outside) (holder_of g.client g.iaid)
-    (v.step.moment + 1000 * g.valid + s.transit) (running s w is Secondary p starts i g v of_side same) (lasts_on s w is starts are i g v) in
-    let begins = are i v.step g v.here v.grants in
-    subst (λ (b : Book). starts i + 1000 * g.valid ≤ max (b.units p).told d + 1000 * s.mclt + s.skew + s.transit) (sym x) (omega arith)
-ends_in_time s t w c Secondary p d theirs down starts are i g v of_side same =
-    let is = good s t w c in
-    let x = book_at s w is Secondary in
-    let end = in_time_b (setting_of s) w.moment (log_of p w.run []) _ _ (is.known p (unit_at s w is Secondary p theirs.unit)).kept d (ap (λ (b : Book). b.down) (sym x) ∙ down)
-    (subst (λ (b : Book). (b.units p).marked ≡ false) x theirs.unmarked) (subst (λ (b : Book). is_own Secondary (b.units p).status ≡ false) x theirs.outside) (holder_of g.client g.iaid)
-    (v.step.moment + 1000 * g.valid + s.transit) (running s w is Primary p starts i g v of_side same) (lasts_on s w is starts are i g v) in
+    let x = book_at s w is side in
+    let end = in_time side (setting_of s) w.moment (log_of p w.run []) _ _ (known_from s w is side p (unit_at s w is side p theirs.unit)) d (ap (λ (b : Book). b.down) (sym x) ∙ down)
+    (subst (λ (b : Book). (b.units p).marked ≡ false) x theirs.unmarked) (subst (λ (b : Book). is_own side (b.units p).status ≡ false) x theirs.outside) (holder_of g.client g.iaid)
+    (v.step.moment + 1000 * g.valid + s.transit) (running s w is (partner_of side) p starts i g v of_side same) (lasts_on s w is starts are i g v) in
     let begins = are i v.step g v.here v.grants in
     subst (λ (b : Book). starts i + 1000 * g.valid ≤ max (b.units p).told d + 1000 * s.mclt + s.skew + s.transit) (sym x) (omega arith)
 
 pub books_keep : BooksKeep
 books_keep s t w c p unit =
     let is = good s t w c in
-    let kept = (is.known p (unit_at s w is Primary p unit)).kept in
+    let kept = (is.run.known p (unit_at s w is Primary p unit)).kept in
     subst (λ x. Kept (setting_of s) w.moment (log_of p w.run []) x (server_of p (book Secondary w) (messages Secondary w.run []) w.stopped_b)) (ap (λ b. server_of p b (messages Primary w.run []) w.stopped_a) (sym (book_at s w is Primary)))
     (subst (λ x. Kept (setting_of s) w.moment (log_of p w.run []) (server_of p (book_in Primary w.run) (messages Primary w.run []) w.stopped_a) x) (ap (λ b. server_of p b (messages Secondary w.run []) w.stopped_b) (sym (book_at s w is Secondary))) kept)

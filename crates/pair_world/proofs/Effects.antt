@@ -19,7 +19,7 @@ use Rattle.binding_rules.specs.declared.update.Update.{Update}
 use Rattle.binding_rules.specs.Table.{accepted, accepts, after_update, answered, kept_due, taken_by, said, accepts_by, counted, is_accepted, at_secondary, of_client, of_nobody, accepts_said, said_by, becomes_said, partners_pool, becomes}
 use Rattle.binding_rules.specs.Reply.{after_reply, is_accept, settled, unmarked, counts, after_reply_to}
 use Rattle.binding_rules.specs.Unit.{same_binding, status_of, freed}
-use Rattle.pair_world.proofs.Phases.{or_eq, or_le}
+use Rattle.pair_world.proofs.Phases.{or_eq, or_le, own_fewer}
 use Rattle.pair_world.proofs.Words.{code_low, code_high, same_is}
 use Rattle.book_rules.specs.Effects.{or_as_was, changed, expired}
 use Rattle.binding_rules.specs.Giving.{is_own}
@@ -273,18 +273,8 @@ pub fewer : (sa ma na da sb mb nb db : ℕ) (UA UB UA' UB' : ℕ → ℕ → ℕ
     → ((c m n : ℕ) → UA' c m n → UA c m n) → ((c m n : ℕ) → UB' c m n → UB c m n) → ((p o : ℕ) → RA' p o → RA p o) → ((p o : ℕ) → RB' p o → RB p o)
     → Phases sa ma na da sb mb nb db UA' UB' RA' RB'
 fewer sa ma na da sb mb nb db UA UB UA' UB' RA RB RA' RB' inv ua ub ra rb = record {
-  due_a = inv.due_a;
-  due_b = inv.due_b;
-  sent_ua = λ c m n w. inv.sent_ua c m n (ua c m n w);
-  sent_ra = λ p o w. inv.sent_ra p o (ra p o w);
-  sent_ub = λ c m n w. inv.sent_ub c m n (ub c m n w);
-  sent_rb = λ p o w. inv.sent_rb p o (rb p o w);
-  replies_before_a = λ e p o w. inv.replies_before_a e p o (ra p o w);
-  last_word_a = λ e c m n w. inv.last_word_a e c m n (ua c m n w);
-  reply_then_update_a = λ c m n p o w r. inv.reply_then_update_a c m n p o (ua c m n w) (ra p o r);
-  replies_before_b = λ e p o w. inv.replies_before_b e p o (rb p o w);
-  last_word_b = λ e c m n w. inv.last_word_b e c m n (ub c m n w);
-  reply_then_update_b = λ c m n p o w r. inv.reply_then_update_b c m n p o (ub c m n w) (rb p o r);
+  a = own_fewer _ _ _ _ _ _ _ inv.a _ _ ua ra;
+  b = own_fewer _ _ _ _ _ _ _ inv.b _ _ ub rb;
   count_a = inv.count_a;
   count_b = inv.count_b;
   heard = inv.heard;

@@ -3,7 +3,7 @@ use Rattle.std.specs.Prelude.{◌==◌, ◌≡◌, ℕ, ◌+◌, ◌<◌, ◌≤
 use Rattle.std.proofs.Common.{arith, inl, inr, sym, ◌∙◌, ap, subst, nat_le}
 use Rattle.std.proofs.lemmas.Bool.{and_parts}
 use Rattle.pair_world.specs.Kept.{Ends, IsActiveOf, lead_of}
-use Rattle.pair_world.specs.Phases.{Due, DueAtB}
+use Rattle.pair_world.specs.Phases.{Due}
 use Rattle.pair_world.specs.Said.{Says, binding_of}
 use Rattle.binding_rules.specs.declared.unit.UnitStatus.TheVariants.{Active, Expired, Free, FreeBackup, Released}
 use Rattle.binding_rules.specs.declared.unit.Binding.{Binding}
@@ -185,9 +185,6 @@ module _ (side : Role) (u : UnitValue) (now : ℕ) (m : Update) (status : UnitSt
 
 pub not_ended : (s d : ℕ) → Due s d → s ≡ 2 → (d ≡ 0) ⊎ ((4 ≤ d) × (d ≤ 5)) → ⊥
 not_ended s d due is over = omega arith
-
-pub not_ended_b : (s d : ℕ) → DueAtB s d → s ≡ 2 → (d ≡ 0) ⊎ ((4 ≤ d) × (d ≤ 5)) → ⊥
-not_ended_b s d due is over = omega arith
 
 -- the reading has come past the end
 pub past_end : (now skew reading end own_end : ℕ) → now < end → end + skew ≤ own_end → own_end ≤ reading → reading ≤ now + skew → ⊥

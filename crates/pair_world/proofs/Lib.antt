@@ -17,8 +17,8 @@ pub mod Servers
 pub mod Ends
 pub mod EndsSteps
 pub mod Kept
-pub mod KeptA
-pub mod KeptB
+pub mod Sides
+pub mod KeptSteps
 pub mod Safety
 pub mod Books
 pub mod BookSteps

@@ -58,13 +58,13 @@ left_low : (side : Role) → left_as side ≤ 1
 left_low Primary = omega arith
 left_low Secondary = omega arith
 
-weaker : (side : Role) (s d : ℕ) → DueOf side s d → Due s d
+pub weaker : (side : Role) (s d : ℕ) → DueOf side s d → Due s d
 weaker Primary s d due = due
 weaker Secondary s d (inl x) = inl x
 weaker Secondary s d (inr (inl x)) = inr (inl (x.0, inl x.1))
 weaker Secondary s d (inr (inr x)) = inr (inr x)
 
-free_is : (s d : ℕ) → Due s d → s ≡ 0 → d ≡ 9
+pub free_is : (s d : ℕ) → Due s d → s ≡ 0 → d ≡ 9
 free_is s d due is = omega arith
 
 active_is_due : (s d : ℕ) → Due s d → d ≡ 2 → (2 ≤ s) × (s ≤ 3)
@@ -116,7 +116,7 @@ module _ (side : Role) (s : Setting) (k : Binding) (x y : Server) (inv : InMark 
 
   pub sends_update_x : (u : Update) → IsTold x.unit u → InMark side k (record x { updates = u ∷ x.updates }) y
   sends_update_x u telling = fewer_marked _ _ _ _ _ _ _ _ _ _ _ _ _ _ _ _ _ _ _ _ _ _ _ _ inv _ _ _ _ _ _ _ _ (word_sent k x u telling) (λ c m n w. w) (end_sent x u telling) (λ m e w. w) (λ p o w. w) (λ p o w. w)
-      (mark_sent x u telling (no_mark_due _ side x.unit.due inv.due_x)) (λ m w. w)
+      (mark_sent x u telling (no_mark_due _ side x.unit.due inv.x.due)) (λ m w. w)
 
   pub sends_reply_x : (r : BindReply) → x.unit.pending ≡ Some r → InMark side k (record x { unit = record x.unit { pending = None }; replies = r ∷ x.replies }) y
   sends_reply_x r is = fewer_marked _ _ _ _ _ _ _ _ _ _ _ _ _ _ _ _ _ _ _ _ _ _ _ _ inv _ _ _ _ _ _ _ _ (λ c m n w. w) (λ c m n w. w) (λ m e w. w) (λ m e w. w) (answer_sent x r is) (λ p o w. w) (λ m w. w) (λ m w. w)
@@ -174,10 +174,10 @@ module _ (side : Role) (s : Setting) (k : Binding) (x y : Server) (inv : InMark 
       let u = accepted_as BackupDue (partner_of side) y.unit v in
       let said : Says x v = inl (sent, ap is_mark e) in
       let free = (backup_of y.unit reading v (partner_of side) k y.unit.status ok).0 in
-      let nine = free_is _ _ (weaker (partner_of side) _ _ inv.due_y) free in
+      let nine = free_is _ _ (weaker (partner_of side) _ _ inv.y.due) free in
       let none = due_none y.unit.due nine in
       take_y _ _ _ _ _ _ _ _ _ _ _ _ _ _ _ _ _ _ _ _ _ _ _ _ inv (word_code_by v.status k (binding_of v)) v.mine v.seen 1 (due_code y.unit.due) 0 _ _ y.unit.out_end _ _ _ _ (v, said, refl, refl, refl) newer (subst (λ z. DueOf (partner_of side) 1 z) (sym nine) (due_backup (partner_of side))) (omega arith)
-      (λ z. absurd (omega arith)) (λ z. absurd (omega arith)) (λ le. inv.no_ends_y (omega arith))
+      (λ z. absurd (omega arith)) (λ z. absurd (omega arith)) (λ le. inv.ends_y.no_ends (omega arith))
       (λ c m n w. inl (no_word k y u (inl none) c m n w)) (λ m e' w. inl (no_end_silent y u (inl none) m e' w)) (new_answer y u _ refl) (same_marks y u open_y)
   accepts_y open_y waiting reading v sent newer SeizedDue e ok =
       let u = accepted_as SeizedDue (partner_of side) y.unit v in
@@ -196,22 +196,22 @@ module _ (side : Role) (s : Setting) (k : Binding) (x y : Server) (inv : InMark 
   pub settles_y : y.unit.marked ≡ false → (r : BindReply) → IsIn x.replies r → is_accept r.acknowledgement ≡ true → y.unit.seen < r.mine → (d : Status) → y.unit.due ≡ Some d → WithY (replied d y.unit r)
   settles_y open_y r sent good newer ActiveDue is =
       let u = replied ActiveDue y.unit r in
-      let shape = active_is_due _ _ (weaker (partner_of side) _ _ inv.due_y) (ap due_code is) in
+      let shape = active_is_due _ _ (weaker (partner_of side) _ _ inv.y.due) (ap due_code is) in
       settle_y _ _ _ _ _ _ _ _ _ _ _ _ _ _ _ _ _ _ _ _ _ _ _ _ inv r.mine r.of _ _ _ _ _ _ _ _ (r, (good, inl sent), refl, refl) newer (due_active (partner_of side) _ _ shape.0 shape.1 (inl refl)) shape.1 (λ le. absurd (omega arith))
       (no_word k y u (inl refl)) (no_end_silent y u (inl refl)) (λ p o w. w) (same_marks y u open_y)
   settles_y open_y r sent good newer BackupDue is =
       let u = replied BackupDue y.unit r in
-      let one = moved_is_due _ _ (weaker (partner_of side) _ _ inv.due_y) (ap due_code is) in
-      settle_y _ _ _ _ _ _ _ _ _ _ _ _ _ _ _ _ _ _ _ _ _ _ _ _ inv r.mine r.of _ _ _ _ _ _ _ _ (r, (good, inl sent), refl, refl) newer (subst (λ z. DueOf (partner_of side) z 9) (sym one) (due_backup (partner_of side))) (omega arith) inv.no_ends_y
+      let one = moved_is_due _ _ (weaker (partner_of side) _ _ inv.y.due) (ap due_code is) in
+      settle_y _ _ _ _ _ _ _ _ _ _ _ _ _ _ _ _ _ _ _ _ _ _ _ _ inv r.mine r.of _ _ _ _ _ _ _ _ (r, (good, inl sent), refl, refl) newer (subst (λ z. DueOf (partner_of side) z 9) (sym one) (due_backup (partner_of side))) (omega arith) inv.ends_y.no_ends
       (no_word k y u (inl refl)) (no_end_silent y u (inl refl)) (λ p o w. w) (same_marks y u open_y)
   settles_y open_y r sent good newer ExpiredDue is = freed_y open_y r sent good newer
   settles_y open_y r sent good newer ReleasedDue is = freed_y open_y r sent good newer
   settles_y open_y r sent good newer FreeDue is = freed_y open_y r sent good newer
-  settles_y open_y r sent good newer SeizedDue is = absurd (no_mark_due _ (partner_of side) y.unit.due inv.due_y is)
+  settles_y open_y r sent good newer SeizedDue is = absurd (no_mark_due _ (partner_of side) y.unit.due inv.y.due is)
 
   pub sends_update_y : (u : Update) → IsTold y.unit u → InMark side k x (record y { updates = u ∷ y.updates })
   sends_update_y u telling = fewer_marked _ _ _ _ _ _ _ _ _ _ _ _ _ _ _ _ _ _ _ _ _ _ _ _ inv _ _ _ _ _ _ _ _ (λ c m n w. w) (word_sent k y u telling) (λ m e w. w) (end_sent y u telling) (λ p o w. w) (λ p o w. w)
-      (λ m w. w) (mark_sent y u telling (no_mark_due _ (partner_of side) y.unit.due inv.due_y))
+      (λ m w. w) (mark_sent y u telling (no_mark_due _ (partner_of side) y.unit.due inv.y.due))
 
   pub sends_reply_y : (r : BindReply) → y.unit.pending ≡ Some r → InMark side k x (record y { unit = record y.unit { pending = None }; replies = r ∷ y.replies })
   sends_reply_y r is = fewer_marked _ _ _ _ _ _ _ _ _ _ _ _ _ _ _ _ _ _ _ _ _ _ _ _ inv _ _ _ _ _ _ _ _ (λ c m n w. w) (λ c m n w. w) (λ m e w. w) (λ m e w. w) (λ p o w. w) (answer_sent y r is) (λ m w. w) (λ m w. w)

@@ -16,7 +16,7 @@ use Rattle.binding_rules.specs.declared.update.Update.{Update}
 use Rattle.binding_rules.specs.Reply.{count_unmarked, is_accept, unmarked}
 use Rattle.book_rules.specs.MessageRules.{due_update}
 use Rattle.book_rules.specs.Effects.{seized}
-use Rattle.pair_world.proofs.Marks.{seize_a, seize_b}
+use Rattle.pair_world.proofs.Marks.{seize}
 use Rattle.pair_world.proofs.Unmarks.{Raised, Tells, OrDue, OrDueEnd, unmark_a, unmark_b}
 use Rattle.pair_world.proofs.Words.{no_word, no_end_silent, new_mark, same_marks}
 use Rattle.pair_world.proofs.Effects.{no_mark_due}
@@ -93,19 +93,21 @@ module _ (s : Setting) (k : Binding) (a b : Server) where
   pub seizes_a : InCalm k a b → InMark Primary k (record a { unit = seized Primary a.unit }) b
   seizes_a inv =
       let u = seized Primary a.unit in
-      seize_a _ _ _ _ _ _ _ _ _ _ _ _ _ _ _ _ _ _ _ _ _ _ inv.phases inv.acks inv.stale _ _ _ _ (no_word k a u (inr refl)) (no_end_silent a u (inr refl)) (λ p o w. w) (new_mark a u)
+      seize _ _ _ _ _ _ _ _ _ _ _ _ _ _ _ _ _ _ _ _ _ _ _ _ inv.phases.a inv.phases.b inv.acks.a inv.acks.b inv.phases.count_a inv.phases.count_b inv.stale.stale_a inv.stale.stale_b
+      0 0 _ _ _ _ (inl (refl, refl)) (no_word k a u (inr refl)) (no_end_silent a u (inr refl)) (λ p o w. w) (new_mark a u)
 
   pub seizes_b : InCalm k a b → InMark Secondary k (record b { unit = seized Secondary b.unit }) a
   seizes_b inv =
       let u = seized Secondary b.unit in
-      seize_b _ _ _ _ _ _ _ _ _ _ _ _ _ _ _ _ _ _ _ _ _ _ inv.phases inv.acks inv.stale _ _ _ _ (no_word k b u (inr refl)) (no_end_silent b u (inr refl)) (λ p o w. w) (new_mark b u)
+      seize _ _ _ _ _ _ _ _ _ _ _ _ _ _ _ _ _ _ _ _ _ _ _ _ inv.phases.b inv.phases.a inv.acks.b inv.acks.a inv.phases.count_b inv.phases.count_a inv.stale.stale_b inv.stale.stale_a
+      1 1 _ _ _ _ (inr (inl (refl, refl))) (no_word k b u (inr refl)) (no_end_silent b u (inr refl)) (λ p o w. w) (new_mark b u)
 
   pub unmarks_a : InMark Primary k a b → (r : BindReply) → IsIn b.replies r → is_accept r.acknowledgement ≡ true → r.of ≡ a.unit.mine → a.unit.seen < r.mine
       → InCalm k (record a { unit = unmarked a.unit r }) b
   unmarks_a inv r sent good of newer =
       let u = unmarked a.unit r in
       let h = unmark_a _ _ _ _ _ _ _ _ _ _ _ _ _ _ _ _ _ _ _ _ _ _ inv r.mine r.of (count_unmarked a.unit a.unit.due) (told_code (code k a.unit.status) a.unit.due) _ _ _ _ (r, (good, inl sent), refl, refl) newer of
-      (is_raised a.unit a.unit.due) (tells (code k a.unit.status) a.unit.due) (due_word k a u Primary inv.due_x) (due_end k a u Primary inv.due_x) (λ p o w. w) (same_marks a u refl) in
+      (is_raised a.unit a.unit.due) (tells (code k a.unit.status) a.unit.due) (due_word k a u Primary inv.x.due) (due_end k a u Primary inv.x.due) (λ p o w. w) (same_marks a u refl) in
       record { phases = h.0; acks = h.1; stale = h.2 }
 
   pub unmarks_b : InMark Secondary k b a → (r : BindReply) → IsIn a.replies r → is_accept r.acknowledgement ≡ true → r.of ≡ b.unit.mine → b.unit.seen < r.mine
@@ -113,5 +115,5 @@ module _ (s : Setting) (k : Binding) (a b : Server) where
   unmarks_b inv r sent good of newer =
       let u = unmarked b.unit r in
       let h = unmark_b _ _ _ _ _ _ _ _ _ _ _ _ _ _ _ _ _ _ _ _ _ _ inv r.mine r.of (count_unmarked b.unit b.unit.due) (told_code (code k b.unit.status) b.unit.due) _ _ _ _ (r, (good, inl sent), refl, refl) newer of
-      (is_raised b.unit b.unit.due) (tells (code k b.unit.status) b.unit.due) (due_word k b u Secondary inv.due_x) (due_end k b u Secondary inv.due_x) (λ p o w. w) (same_marks b u refl) in
+      (is_raised b.unit b.unit.due) (tells (code k b.unit.status) b.unit.due) (due_word k b u Secondary inv.x.due) (due_end k b u Secondary inv.x.due) (λ p o w. w) (same_marks b u refl) in
       record { phases = h.0; acks = h.1; stale = h.2 }

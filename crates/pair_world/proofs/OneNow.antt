@@ -41,8 +41,8 @@ in_transit s w is starts h = subst (λ z. StartInTime z w.run starts) is.transit
 same_now : (s t : ServerSettings) (w : PairWorld) → Comes s t w → (p : Prefix) → IsPrefix p → is_unit s.pools p ≡ true → (j k : List ℕ) → HasSome w p j → HasSome w p k → j ≡ k
 same_now s t w c p pre unit j k (starts, are, (a, has_p, (i, g, v, of_j, has))) (others, are', (a', has_p', (i', h, v', of_k, has'))) =
     let is = good s t w c in
-    let x = is.gifts i v.step g v.here v.grants in
-    let y = is.gifts i' v'.step h v'.here v'.grants in
+    let x = is.run.gifts i v.step g v.here v.grants in
+    let y = is.run.gifts i' v'.step h v'.here v'.grants in
     let one = shared c.moment s t c.opens g.prefix p a x.2 unit x.1 pre has has_p in
     let two = shared c.moment s t c.opens h.prefix p a' y.2 unit y.1 pre has' has_p' in
     (sym of_j ∙ ap (λ (b : Binding). b.client) (one_binding s w is starts others (in_transit s w is starts are) (in_transit s w is others are') i i' g h w.moment v v' (two ∙ sym one))) ∙ of_k

@@ -1,7 +1,7 @@
--- What is known of a world of two books at each prefix, and that each event keeps it.
-use Rattle.std.specs.Prelude.{◌≡◌, ◌+◌, ◌≤◌, ◌&&◌, ◌==◌, if◌then◌else◌, Bool, List, false, nat_lt, true, ℕ}
-use Rattle.std.proofs.Common.{◌∙◌, refl, subst, sym}
-use Rattle.pair_world.specs.UnitInRun.{entry_of, sent_with, server_of}
+-- What is known at each prefix of what a run leads to, and that each line of either side keeps it.
+use Rattle.std.specs.Prelude.{◌∷◌, ◌++◌, [], ◌≡◌, ◌+◌, ◌≤◌, ◌&&◌, ◌==◌, if◌then◌else◌, Bool, List, false, nat_lt, true, ℕ}
+use Rattle.std.proofs.Common.{ap, ◌∙◌, refl, subst, sym}
+use Rattle.pair_world.specs.UnitInRun.{entry_of, log_of, messages, sent_with, server_of}
 use Rattle.prefix_range.specs.Prefix.{Prefix}
 use Rattle.binding_rules.specs.declared.message.Body.{Body}
 use Rattle.binding_rules.specs.declared.message.Body.TheVariants.{Contact as ContactBody, Reply as ReplyBody, Update as UpdateBody}
@@ -19,57 +19,13 @@ use Rattle.book_rules.specs.Effects.{after, effect, learned, taken_body}
 use Rattle.book_rules.specs.NextHead.{is_head}
 use Rattle.pair_world.specs.UnitWorld.{Entry, Server, Setting}
 use Rattle.pair_world.proofs.BookSteps.{Agrees, IsDownFor, IsFed, MayWrite, step, stopped_after}
-use Rattle.pair_world.proofs.Safety.{Invariant, alone_gives, alone_gives_back, passes}
-use Rattle.pair_world.proofs.Books.{Moves}
+use Rattle.pair_world.proofs.Safety.{Invariant, KnownFrom, moves, passes}
+use Rattle.pair_world.proofs.Sides.{KeptFrom}
+use Rattle.pair_world.proofs.Traces.{book_in, book_on}
+use Rattle.pair_world.proofs.Lists.{lines_same, lines_other, log_append, messages_append, own_side}
+use Rattle.attribution.specs.Run.{Step, lines_of}
+use Rattle.binding_rules.specs.Role.{is_side, partner_of}
 use Rattle.pair_world.proofs.Effects.{by_test}
-use Rattle.pair_world.proofs.KeptA.{kept_expires_a, kept_goes_down_a, kept_goes_up_a, kept_grants_a, kept_moves_a, kept_reclaims_a, kept_releases_a, kept_restarts_a, kept_says_a, kept_seizes_a, kept_sends_reply_a, kept_sends_update_a, kept_stops_a, kept_takes_a, kept_takes_contact_a, kept_takes_higher_a, kept_takes_reply_a}
-use Rattle.pair_world.proofs.KeptB.{kept_expires_b, kept_goes_down_b, kept_goes_up_b, kept_grants_b, kept_releases_b, kept_restarts_b, kept_says_b, kept_seizes_b, kept_sends_reply_b, kept_sends_update_b, kept_stops_b, kept_takes_b, kept_takes_contact_b, kept_takes_higher_b, kept_takes_reply_b}
-
-moves_a : (s : Setting) (b : Server) → Moves s Primary (λ now log x. Invariant s now log x b) b.updates b.replies b.contacts b.stopped
-moves_a s b = record {
-  grants = λ now log x k reading valid out_end holder near near' guard within waits runs.
-      let kept = kept_grants_a s now log x b k.kept reading valid out_end holder near near' guard within waits runs in
-      record { kept = kept; alone = alone_gives s now log Primary holder valid _ _ k.alone kept };
-  releases = λ now log x k holder guard. record { kept = kept_releases_a s now log x b k.kept holder guard; alone = alone_gives_back s now log holder k.alone };
-  expires = λ now log x k reading near guard over. record { kept = kept_expires_a s now log x b k.kept reading near guard over; alone = k.alone };
-  takes = λ now log x k reading v near sent. record { kept = kept_takes_a s now log x b k.kept reading v near sent; alone = k.alone };
-  takes_reply = λ now log x k r sent. record { kept = kept_takes_reply_a s now log x b k.kept r sent; alone = k.alone };
-  sends_update = λ now log x k u telling. record { kept = kept_sends_update_a s now log x b k.kept u telling; alone = k.alone };
-  sends_reply = λ now log x k r is. record { kept = kept_sends_reply_a s now log x b k.kept r is; alone = k.alone };
-  says = λ now log x k c may. record { kept = kept_says_a s now log x b k.kept c may; alone = k.alone };
-  takes_contact = λ now log x k c sent. record { kept = kept_takes_contact_a s now log x b k.kept c sent; alone = k.alone };
-  learns = λ now log x k c sent. record { kept = kept_takes_higher_a s now log x b k.kept c sent; alone = k.alone };
-  goes_down = λ now log x k reading near waits runs stopped. record { kept = kept_goes_down_a s now log x b k.kept reading near waits runs stopped; alone = k.alone };
-  goes_up = λ now log x k. record { kept = kept_goes_up_a s now log x b k.kept; alone = k.alone };
-  seizes = λ now log x k reading d near is outside over take. record { kept = kept_seizes_a s now log x b k.kept reading d near is outside over take; alone = k.alone };
-  stops = λ now log x k. record { kept = kept_stops_a s now log x b k.kept; alone = k.alone };
-  restarts = λ now log x k. record { kept = kept_restarts_a s now log x b k.kept; alone = k.alone };
-  moves = λ now log x k side guard. record { kept = kept_moves_a s now log x b k.kept guard; alone = k.alone };
-  reclaims = λ now log x k side guard. record { kept = kept_reclaims_a s now log x b k.kept guard; alone = k.alone };
-}
-
-moves_b : (s : Setting) (a : Server) → Moves s Secondary (λ now log x. Invariant s now log a x) a.updates a.replies a.contacts a.stopped
-moves_b s a = record {
-  grants = λ now log x k reading valid out_end holder near near' guard within waits runs.
-      let kept = kept_grants_b s now log a x k.kept reading valid out_end holder near near' guard within waits runs in
-      record { kept = kept; alone = alone_gives s now log Secondary holder valid _ _ k.alone kept };
-  releases = λ now log x k holder guard. record { kept = kept_releases_b s now log a x k.kept holder guard; alone = alone_gives_back s now log holder k.alone };
-  expires = λ now log x k reading near guard over. record { kept = kept_expires_b s now log a x k.kept reading near guard over; alone = k.alone };
-  takes = λ now log x k reading v near sent. record { kept = kept_takes_b s now log a x k.kept reading v near sent; alone = k.alone };
-  takes_reply = λ now log x k r sent. record { kept = kept_takes_reply_b s now log a x k.kept r sent; alone = k.alone };
-  sends_update = λ now log x k u telling. record { kept = kept_sends_update_b s now log a x k.kept u telling; alone = k.alone };
-  sends_reply = λ now log x k r is. record { kept = kept_sends_reply_b s now log a x k.kept r is; alone = k.alone };
-  says = λ now log x k c may. record { kept = kept_says_b s now log a x k.kept c may; alone = k.alone };
-  takes_contact = λ now log x k c sent. record { kept = kept_takes_contact_b s now log a x k.kept c sent; alone = k.alone };
-  learns = λ now log x k c sent. record { kept = kept_takes_higher_b s now log a x k.kept c sent; alone = k.alone };
-  goes_down = λ now log x k reading near waits runs stopped. record { kept = kept_goes_down_b s now log a x k.kept reading near waits runs stopped; alone = k.alone };
-  goes_up = λ now log x k. record { kept = kept_goes_up_b s now log a x k.kept; alone = k.alone };
-  seizes = λ now log x k reading d near is outside over take. record { kept = kept_seizes_b s now log a x k.kept reading d near is outside over take; alone = k.alone };
-  stops = λ now log x k. record { kept = kept_stops_b s now log a x k.kept; alone = k.alone };
-  restarts = λ now log x k. record { kept = kept_restarts_b s now log a x k.kept; alone = k.alone };
-  moves = λ now log x k side guard. absurd (cc);
-  reclaims = λ now log x k side guard. absurd (cc);
-}
 
 -- a line that is no head line changes none of the settings
 pub record Settled (s : Setting) (side : Role) (pools : List Pool) (b : Book) : Type 0 where
@@ -131,47 +87,88 @@ settled_after s side pools b l ok body =
       short = let e = x.5 in let le = ok.short in subst (λ z. z ≤ 31536000) (sym e) le;
     }
 
--- two books with what they sent, the newest first
-pub record Pair : Type 0 where
-  pub a : Book
-  pub b : Book
-  pub sent_a : List PartnerMessage
-  pub sent_b : List PartnerMessage
-  pub stopped_a : Bool
-  pub stopped_b : Bool
-
-pub record AreSettled (s : Setting) (pools : List Pool) (p : Pair) : Type 0 where
-  pub of_a : Settled s Primary pools p.a
-  pub of_b : Settled s Secondary pools p.b
+-- what a run leads to at a unit of a server
+abbrev pub server_in : Prefix → List Step → Role → (stopped : Bool) → Server
+server_in p run side stopped = server_of p (book_in side run) (messages side run []) stopped
 
 -- what is known at a unit
-abbrev pub Known : Setting → Prefix → Pair → (now : ℕ) → List Entry → Type 0
-Known s place p now log = Invariant s now log (server_of place p.a p.sent_a p.stopped_a) (server_of place p.b p.sent_b p.stopped_b)
+abbrev pub Known : Setting → Prefix → (now : ℕ) → List Step → (stopped : Role → Bool) → Type 0
+Known s p now run stopped = Invariant s now (log_of p run []) (server_in p run Primary (stopped Primary)) (server_in p run Secondary (stopped Secondary))
 
-abbrev pub line_of_a : Pair → Line → Pair
-line_of_a p l = record p { a = after p.a l; sent_a = sent_with l.event p.sent_a; stopped_a = stopped_after p.stopped_a l.event }
+-- the same seen from one side
+turned_to : (side : Role) (s : Setting) (now : ℕ) (log : List Entry) (servers : Role → Server) → Invariant s now log (servers Primary) (servers Secondary)
+    → KnownFrom side s now log (servers side) (servers (partner_of side))
+turned_to Primary s now log servers k = k
+turned_to Secondary s now log servers k = k
 
-abbrev pub line_of_b : Pair → Line → Pair
-line_of_b p l = record p { b = after p.b l; sent_b = sent_with l.event p.sent_b; stopped_b = stopped_after p.stopped_b l.event }
+turned_back : (side : Role) (s : Setting) (now : ℕ) (log : List Entry) (servers : Role → Server) → KnownFrom side s now log (servers side) (servers (partner_of side))
+    → Invariant s now log (servers Primary) (servers Secondary)
+turned_back Primary s now log servers k = k
+turned_back Secondary s now log servers k = k
 
-module _ (s : Setting) (pools : List Pool) (place : Prefix) (unit : is_unit pools place ≡ true) (p : Pair) (ok : AreSettled s pools p) (now : ℕ) (log : List Entry) (known : Known s place p now log) where
-  pub line_a : (l : Line) → IsStep p.a l → is_head l.event ≡ false → l.reading ≤ now + s.skew → now ≤ l.reading + s.skew → MayWrite p.stopped_a l.event → IsDownFor p.stopped_b l.event → IsFed l.event p.sent_b
-      → Known s place (line_of_a p l) now (entry_of place Primary now l.event log)
-  line_a l rules body near near' writes down fed =
-      step s place Primary (λ now log x. Invariant s now log x (server_of place p.b p.sent_b p.stopped_b)) p.sent_b p.stopped_b (moves_a s (server_of place p.b p.sent_b p.stopped_b))
-      p.a p.sent_a p.stopped_a ok.of_a.agrees (subst (λ z. is_unit z place ≡ true) (sym ok.of_a.pools_are) unit) log now known l l.event refl rules body near near' writes down fed
+pub known_of : (side : Role) (s : Setting) (p : Prefix) (now : ℕ) (run : List Step) (stopped : Role → Bool) → Known s p now run stopped
+    → KeptFrom side s now (log_of p run []) (server_in p run side (stopped side)) (server_in p run (partner_of side) (stopped (partner_of side)))
+known_of Primary s p now run stopped k = k.kept
+known_of Secondary s p now run stopped k = k.kept
 
-  pub line_b : (l : Line) → IsStep p.b l → is_head l.event ≡ false → l.reading ≤ now + s.skew → now ≤ l.reading + s.skew → MayWrite p.stopped_b l.event → IsDownFor p.stopped_a l.event → IsFed l.event p.sent_a
-      → Known s place (line_of_b p l) now (entry_of place Secondary now l.event log)
-  line_b l rules body near near' writes down fed =
-      step s place Secondary (λ now log x. Invariant s now log (server_of place p.a p.sent_a p.stopped_a) x) p.sent_a p.stopped_a (moves_b s (server_of place p.a p.sent_a p.stopped_a))
-      p.b p.sent_b p.stopped_b ok.of_b.agrees (subst (λ z. is_unit z place ≡ true) (sym ok.of_b.pools_are) unit) log now known l l.event refl rules body near near' writes down fed
+other_side : (side : Role) → is_side (partner_of side) side ≡ false
+other_side Primary = refl
+other_side Secondary = refl
 
-  pub stop_a : Known s place (record p { stopped_a = true }) now log
-  stop_a = (moves_a s (server_of place p.b p.sent_b p.stopped_b)).stops now log (server_of place p.a p.sent_a p.stopped_a) known
+-- a further line changes its side's book and messages, and not its partner's
+module _ (run : List Step) (t : Step) where
+  pub book_own : book_in t.side (run ++ t ∷ []) ≡ after (book_in t.side run) t.line
+  book_own = book_on run t t.side ∙ ap (λ is. if is then after (book_in t.side run) t.line else book_in t.side run) (own_side t.side)
 
-  pub stop_b : Known s place (record p { stopped_b = true }) now log
-  stop_b = (moves_b s (server_of place p.a p.sent_a p.stopped_a)).stops now log (server_of place p.b p.sent_b p.stopped_b) known
+  pub book_other : book_in (partner_of t.side) (run ++ t ∷ []) ≡ book_in (partner_of t.side) run
+  book_other = book_on run t (partner_of t.side) ∙ ap (λ is. if is then after (book_in (partner_of t.side) run) t.line else book_in (partner_of t.side) run) (other_side t.side)
 
-  pub pass : (n : ℕ) → Known s place p (now + n) log
-  pass n = record { kept = passes s now log _ _ n known.kept; alone = known.alone }
+  sent_own : messages t.side (run ++ t ∷ []) [] ≡ sent_with t.line.event (messages t.side run [])
+  sent_own = messages_append t.side run t [] ∙ ap (λ is. if is then sent_with t.line.event (messages t.side run []) else messages t.side run []) (own_side t.side)
+
+  sent_other : messages (partner_of t.side) (run ++ t ∷ []) [] ≡ messages (partner_of t.side) run []
+  sent_other = messages_append (partner_of t.side) run t [] ∙ ap (λ is. if is then sent_with t.line.event (messages (partner_of t.side) run []) else messages (partner_of t.side) run []) (other_side t.side)
+
+  pub own_lines : lines_of t.side (run ++ t ∷ []) ≡ lines_of t.side run ++ t.line ∷ []
+  own_lines = lines_same t.side run t (own_side t.side)
+
+  pub other_lines : lines_of (partner_of t.side) (run ++ t ∷ []) ≡ lines_of (partner_of t.side) run
+  other_lines = lines_other (partner_of t.side) run t (other_side t.side)
+
+  pub server_own : (p : Prefix) (stopped : Bool) → server_in p (run ++ t ∷ []) t.side stopped ≡ server_of p (after (book_in t.side run) t.line) (sent_with t.line.event (messages t.side run [])) stopped
+  server_own p stopped = ap (λ b. server_of p b (messages t.side (run ++ t ∷ []) []) stopped) book_own ∙ ap (λ ms. server_of p (after (book_in t.side run) t.line) ms stopped) sent_own
+
+  pub server_other : (p : Prefix) (stopped : Bool) → server_in p (run ++ t ∷ []) (partner_of t.side) stopped ≡ server_in p run (partner_of t.side) stopped
+  server_other p stopped = ap (λ b. server_of p b (messages (partner_of t.side) (run ++ t ∷ []) []) stopped) book_other ∙ ap (λ ms. server_of p (book_in (partner_of t.side) run) ms stopped) sent_other
+
+module _ (s : Setting) (pools : List Pool) (p : Prefix) (unit : is_unit pools p ≡ true) (now : ℕ) (run : List Step) (stopped : Role → Bool) (known : Known s p now run stopped) (side : Role)
+    (stopped' : Role → Bool) (others : stopped' (partner_of side) ≡ stopped (partner_of side)) where
+  abbrev partner : Server
+  partner = server_in p run (partner_of side) (stopped (partner_of side))
+
+  here : KnownFrom side s now (log_of p run []) (server_in p run side (stopped side)) partner
+  here = turned_to side s now (log_of p run []) (λ x. server_in p run x (stopped x)) known
+
+  pub line : Settled s side pools (book_in side run) → (l : Line) → IsStep (book_in side run) l → is_head l.event ≡ false → l.reading ≤ now + s.skew → now ≤ l.reading + s.skew
+      → MayWrite (stopped side) l.event → stopped' side ≡ stopped_after (stopped side) l.event → IsDownFor (stopped (partner_of side)) l.event → IsFed l.event (messages (partner_of side) run [])
+      → Known s p now (run ++ record { side = side; moment = now; line = l } ∷ []) stopped'
+  line ok l rules body near near' writes stop down fed =
+      let t : Step = record { side = side; moment = now; line = l } in
+      let k = step s p side (λ now log x. KnownFrom side s now log x partner) (messages (partner_of side) run []) (stopped (partner_of side)) (moves side s partner)
+      (book_in side run) (messages side run []) (stopped side) ok.agrees (subst (λ z. is_unit z p ≡ true) (sym ok.pools_are) unit) (log_of p run []) now here l l.event refl rules body near near' writes down fed in
+      let after_own = server_own run t p (stopped' side) ∙ ap (server_of p (after (book_in side run) l) (sent_with l.event (messages side run []))) stop in
+      let after_other = server_other run t p (stopped' (partner_of side)) ∙ ap (server_in p run (partner_of side)) others in
+      turned_back side s now (log_of p (run ++ t ∷ []) []) (λ x. server_in p (run ++ t ∷ []) x (stopped' x))
+      (subst (λ es. KnownFrom side s now es (server_in p (run ++ t ∷ []) side (stopped' side)) (server_in p (run ++ t ∷ []) (partner_of side) (stopped' (partner_of side)))) (sym (log_append p run t []))
+      (subst (λ z. KnownFrom side s now (entry_of p side now l.event (log_of p run [])) z (server_in p (run ++ t ∷ []) (partner_of side) (stopped' (partner_of side)))) (sym after_own)
+      (subst (λ z. KnownFrom side s now (entry_of p side now l.event (log_of p run [])) (server_of p (after (book_in side run) l) (sent_with l.event (messages side run [])) (stopped_after (stopped side) l.event)) z) (sym after_other) k)))
+
+  pub stop : stopped' side ≡ true → Known s p now run stopped'
+  stop is =
+      turned_back side s now (log_of p run []) (λ x. server_in p run x (stopped' x))
+      (subst (λ z. KnownFrom side s now (log_of p run []) (server_in p run side z) (server_in p run (partner_of side) (stopped' (partner_of side)))) (sym is)
+      (subst (λ z. KnownFrom side s now (log_of p run []) (server_in p run side true) (server_in p run (partner_of side) z)) (sym others)
+      ((moves side s partner).stops now (log_of p run []) (server_in p run side (stopped side)) here)))
+
+pub pass : (s : Setting) (p : Prefix) (now : ℕ) (run : List Step) (stopped : Role → Bool) → Known s p now run stopped → (n : ℕ) → Known s p (now + n) run stopped
+pass s p now run stopped known n = record { kept = passes s now (log_of p run []) _ _ n known.kept; alone = known.alone }

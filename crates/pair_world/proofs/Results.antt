@@ -5,37 +5,31 @@ use Rattle.std.proofs.lemmas.Bool.{cases_lt}
 use Rattle.pair_world.specs.UnitInRun.{holder_of, log_of}
 use Rattle.prefix_range.specs.Prefix.{HasAddress, IsPrefix, Prefix}
 use Rattle.binding_rules.specs.declared.unit.Binding.{Binding}
-use Rattle.binding_rules.specs.declared.role.Role.TheVariants.{Primary, Secondary}
-use Rattle.binding_rules.specs.declared.role.Role.{Role}
 use Rattle.journal_lines.specs.declared.event.Lease.{Lease}
 use Rattle.book_rules.specs.Book.{is_unit}
 use Rattle.server_book.specs.Settings.{ServerSettings}
-use Rattle.attribution.specs.Run.{IsValidAt, StartInTime, lines_of}
+use Rattle.attribution.specs.Run.{IsValidAt, StartInTime}
 use Rattle.pair_world.specs.PairSafe.{AddressSafe, LeaseSafe, MayOpen, WorldIsRun}
 use Rattle.pair_world.specs.UnitSafe.{HasUnit}
-use Rattle.pair_world.specs.PairWorld.{PairWorld, journal}
-use Rattle.pair_world.proofs.Worlds.{Good, good}
+use Rattle.pair_world.specs.PairWorld.{PairWorld}
+use Rattle.pair_world.proofs.Worlds.{Good, good, journal_in}
 use Rattle.pair_world.proofs.Phases.{by_word}
 use Rattle.pair_world.proofs.Traces.{is_run}
 use Rattle.pair_world.proofs.Units.{one_unit}
 use Rattle.pair_world.proofs.Valid.{valid_holds}
 
-lines_of_journal : (s : ServerSettings) (w : PairWorld) → Good s w → (side : Role) → (journal side w).lines ≡ lines_of side w.run
-lines_of_journal s w g Primary = g.journal_a.lines
-lines_of_journal s w g Secondary = g.journal_b.lines
-
 pub world_is_run : WorldIsRun
 world_is_run s t w c =
     let g = good s t w c in
-    let r = is_run s.skew w.moment w.run g.trace in
-    record { run = r.0; skew = r.1; lines = lines_of_journal s w g }
+    let r = is_run s.skew w.moment w.run g.run.trace in
+    record { run = r.0; skew = r.1; lines = λ side. (journal_in side s w g).lines }
 
 -- a valid delegation is held in the log of its prefix
 holds : (s : ServerSettings) (w : PairWorld) → Good s w → (starts : ℕ → ℕ) → StartInTime s.transit w.run starts → (i : ℕ) (g : Lease) (m : ℕ) → IsValidAt w.run starts i g m
     → HasUnit s.transit (log_of g.prefix w.run []) (holder_of g.client g.iaid) m
 holds s w is starts are i g m v =
     let begins = are i v.step g v.here v.grants in
-    let short = (is.gifts i v.step g v.here v.grants).0 in
+    let short = (is.run.gifts i v.step g v.here v.grants).0 in
     let begun = v.begun in
     let lasts : m < starts i + 1000 * g.valid = by_word v.lasts (λ endless. absurd (omega arith)) (λ lt. lt) in
     valid_holds s.transit m g.prefix g w.run i v.step v.here v.grants refl (omega arith) (omega arith)
@@ -51,14 +45,14 @@ pub one_binding : (s : ServerSettings) (w : PairWorld) → Good s w → (starts 
 one_binding s w is starts others are are' i j g h m v v' same =
     let x = holds s w is starts are i g m v in
     let y = subst (λ z. HasUnit s.transit (log_of z w.run []) (holder_of h.client h.iaid) m) same (holds s w is others are' j h m v') in
-    let unit = (is.gifts i v.step g v.here v.grants).2 in
-    (is.known g.prefix unit).alone m (holder_of g.client g.iaid) (holder_of h.client h.iaid) x y
+    let unit = (is.run.gifts i v.step g v.here v.grants).2 in
+    (is.run.known g.prefix unit).alone m (holder_of g.client g.iaid) (holder_of h.client h.iaid) x y
 
 pub lease_safe : LeaseSafe
 lease_safe s t w c starts others are are' i j g h address m v v' has has' =
     let is = good s t w c in
-    let x = is.gifts i v.step g v.here v.grants in
-    let y = is.gifts j v'.step h v'.here v'.grants in
+    let x = is.run.gifts i v.step g v.here v.grants in
+    let y = is.run.gifts j v'.step h v'.here v'.grants in
     let one = one_binding s w is starts others are are' i j g h m v v' (shared c.moment s t c.opens h.prefix g.prefix address y.2 x.2 y.1 x.1 has' has) in
     (ap (λ (b : Binding). b.client) one, ap (λ (b : Binding). b.iaid) one)
 

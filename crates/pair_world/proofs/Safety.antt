@@ -2,6 +2,8 @@
 use Rattle.std.specs.Prelude.{◌≡◌, ℕ, ◌+◌, ◌<◌, ◌≤◌, List, [], ◌∷◌}
 use Rattle.std.proofs.Common.{arith, inl, inr, refl, sym, ap}
 use Rattle.std.proofs.lemmas.Bool.{cases_lt}
+use Rattle.pair_world.specs.Acks.{OwnEnds}
+use Rattle.pair_world.specs.Phases.{Due, DueAtB, Own}
 use Rattle.pair_world.specs.Kept.{Ends, IsActiveOf, Kept, Waits}
 use Rattle.pair_world.specs.Said.{Answer, InCalm, Says, SaysEnd, SaysMark, Word, active_code, code}
 use Rattle.binding_rules.specs.declared.unit.Binding.{Binding}
@@ -17,8 +19,9 @@ use Rattle.pair_world.proofs.Words.{code_low, code_high, code_is, code_active}
 use Rattle.pair_world.proofs.Ends.{past_on, held_runs, active_once}
 use Rattle.pair_world.proofs.EndsSteps.{later}
 use Rattle.pair_world.proofs.Kept.{by_modes}
-use Rattle.pair_world.proofs.KeptA.{kept_grants_a, kept_releases_a, kept_expires_a, kept_moves_a, kept_reclaims_a, kept_takes_a, kept_takes_reply_a, kept_seizes_a, kept_sends_update_a, kept_sends_reply_a, kept_says_a, kept_takes_contact_a, kept_takes_higher_a, kept_goes_down_a, kept_goes_up_a, kept_stops_a, kept_restarts_a, ack_told_a, in_time_a}
-use Rattle.pair_world.proofs.KeptB.{kept_grants_b, kept_releases_b, kept_expires_b, kept_takes_b, kept_takes_reply_b, kept_seizes_b, kept_sends_update_b, kept_sends_reply_b, kept_says_b, kept_takes_contact_b, kept_takes_higher_b, kept_goes_down_b, kept_goes_up_b, kept_stops_b, kept_restarts_b, ack_told_b, in_time_b}
+use Rattle.pair_world.proofs.Books.{Moves}
+use Rattle.pair_world.proofs.KeptSteps.{kept_grants, kept_releases, kept_expires, kept_moves, kept_reclaims, kept_takes, kept_takes_reply, kept_seizes, kept_sends_update, kept_sends_reply, kept_says, kept_takes_contact, kept_takes_higher, kept_goes_down, kept_goes_up, kept_stops, kept_restarts, ack_told, in_time}
+use Rattle.pair_world.proofs.Sides.{KeptFrom}
 
 -- One holder, from the invariant.
 active_code_of : (status : UnitStatus) (j k : Binding) → IsActiveOf status j → code k status ≡ active_code (same_binding j k)
@@ -79,21 +82,29 @@ no_answer_yet : (p o : ℕ) → Answer first p o → ⊥
 no_answer_yet p o (r, (good, inl sent), ep, eo) = sent
 no_answer_yet p o (r, (good, inr due), ep, eo) = absurd (cc)
 
+own_at_start : (s : Setting) (k : Binding) (D : ℕ → ℕ → Type 0) → D 0 9 → Own D 0 0 0 9 (Word k first) (Answer first)
+own_at_start s k D due = record {
+  due = due;
+  sent_u = λ c m n w. absurd (no_word_yet s k c m n w);
+  sent_r = λ p o w. absurd (no_answer_yet p o w);
+  replies_before = λ e p o w. absurd (no_answer_yet p o w);
+  last_word = λ e c m n w. absurd (no_word_yet s k c m n w);
+  reply_then_update = λ c m n p o w. absurd (no_word_yet s k c m n w);
+}
+
+own_ends_at_start : (s : Setting) (k : Binding) → OwnEnds 0 0 9 0 0 0 (Word k first) (SaysEnd first)
+own_ends_at_start s k = record {
+  no_ends = λ le. (refl, refl);
+  last_active = λ c m n w. absurd (no_word_yet s k c m n w);
+  last_end = λ m e w. absurd (no_end_yet s m e w);
+  sent_e = λ m e w. absurd (no_end_yet s m e w);
+}
+
 calm_at_start : (s : Setting) (k : Binding) → InCalm k first first
 calm_at_start s k = record {
   phases = record {
-    due_a = inl (refl, refl);
-    due_b = inl (refl, refl);
-    sent_ua = λ c m n w. absurd (no_word_yet s k c m n w);
-    sent_ra = λ p o w. absurd (no_answer_yet p o w);
-    sent_ub = λ c m n w. absurd (no_word_yet s k c m n w);
-    sent_rb = λ p o w. absurd (no_answer_yet p o w);
-    replies_before_a = λ e p o w. absurd (no_answer_yet p o w);
-    last_word_a = λ e c m n w. absurd (no_word_yet s k c m n w);
-    reply_then_update_a = λ c m n p o w. absurd (no_word_yet s k c m n w);
-    replies_before_b = λ e p o w. absurd (no_answer_yet p o w);
-    last_word_b = λ e c m n w. absurd (no_word_yet s k c m n w);
-    reply_then_update_b = λ c m n p o w. absurd (no_word_yet s k c m n w);
+    a = own_at_start s k (λ s d. Due s d) (inl (refl, refl));
+    b = own_at_start s k (λ s d. DueAtB s d) (inl (refl, refl));
     count_a = omega arith;
     count_b = omega arith;
     heard = λ e is. refl;
@@ -109,19 +120,13 @@ calm_at_start s k = record {
     a_says_backup = λ c m n w. absurd (no_word_yet s k c m n w);
   };
   acks = record {
+    a = own_ends_at_start s k;
+    b = own_ends_at_start s k;
     told_a = λ l h l'. absurd (omega arith);
     told_b = λ l h out. absurd (omega arith);
     acknowledged_a = λ p o w. absurd (no_answer_yet p o w);
     acknowledged_b = λ p o w. absurd (no_answer_yet p o w);
     new_active = λ l is l' h. refl;
-    no_ends_a = λ le. (refl, refl);
-    no_ends_b = λ le. (refl, refl);
-    last_active_a = λ c m n w. absurd (no_word_yet s k c m n w);
-    last_active_b = λ c m n w. absurd (no_word_yet s k c m n w);
-    last_end_a = λ m e w. absurd (no_end_yet s m e w);
-    last_end_b = λ m e w. absurd (no_end_yet s m e w);
-    sent_ea = λ m e w. absurd (no_end_yet s m e w);
-    sent_eb = λ m e w. absurd (no_end_yet s m e w);
   };
   stale = record { stale_a = λ m w. absurd (no_mark_yet m w); stale_b = λ m w. absurd (no_mark_yet m w) };
 }
@@ -182,49 +187,98 @@ passes s now log a b n kept = record {
   past = past_on log now n kept.past;
 }
 
+-- the same seen from one of the two servers
+abbrev pub KnownFrom : Role → Setting → ℕ → List Entry → Server → Server → Type 0
+KnownFrom Primary s now log x y = Invariant s now log x y
+KnownFrom Secondary s now log x y = Invariant s now log y x
+
+known_from : (side : Role) (s : Setting) (now : ℕ) (log : List Entry) (x y : Server) → KeptFrom side s now log x y → Alone s.transit log → KnownFrom side s now log x y
+known_from Primary s now log x y kept alone = record { kept = kept; alone = alone }
+known_from Secondary s now log x y kept alone = record { kept = kept; alone = alone }
+
+kept_from : (side : Role) (s : Setting) (now : ℕ) (log : List Entry) (x y : Server) → KnownFrom side s now log x y → KeptFrom side s now log x y
+kept_from Primary s now log x y k = k.kept
+kept_from Secondary s now log x y k = k.kept
+
+alone_from : (side : Role) (s : Setting) (now : ℕ) (log : List Entry) (x y : Server) → KnownFrom side s now log x y → Alone s.transit log
+alone_from Primary s now log x y k = k.alone
+alone_from Secondary s now log x y k = k.alone
+
+alone_gives_from : (of : Role) (s : Setting) (now : ℕ) (log : List Entry) (side : Role) (holder : Binding) (valid : ℕ) (x y : Server) → Alone s.transit log
+    → KeptFrom of s now (Gives side holder now valid ∷ log) x y → Alone s.transit (Gives side holder now valid ∷ log)
+alone_gives_from Primary s now log side holder valid x y = alone_gives s now log side holder valid x y
+alone_gives_from Secondary s now log side holder valid x y = alone_gives s now log side holder valid y x
+
+-- what a server does, its partner being y, keeps what is known
+module _ (side : Role) (s : Setting) (y : Server) where
+  -- what is kept as before of an entry that doesn't come
+  same : (now : ℕ) (log : List Entry) (x x' : Server) → KnownFrom side s now log x y → KeptFrom side s now log x' y → KnownFrom side s now log x' y
+  same now log x x' k kept = known_from side s now log x' y kept (alone_from side s now log x y k)
+
+  was : (now : ℕ) (log : List Entry) (x : Server) → KnownFrom side s now log x y → KeptFrom side s now log x y
+  was now log x k = kept_from side s now log x y k
+
+  pub moves : Moves s side (λ now log x. KnownFrom side s now log x y) y.updates y.replies y.contacts y.stopped
+  moves = record {
+    grants = λ now log x k reading valid out_end holder near near' guard within waits runs.
+        let kept = kept_grants side s now log x y (was now log x k) reading valid out_end holder near near' guard within waits runs in
+        known_from side s now _ _ y kept (alone_gives_from side s now log side holder valid _ y (alone_from side s now log x y k) kept);
+    releases = λ now log x k holder guard.
+        known_from side s now _ _ y (kept_releases side s now log x y (was now log x k) holder guard) (alone_gives_back s now log holder (alone_from side s now log x y k));
+    expires = λ now log x k reading near guard over. same now log x _ k (kept_expires side s now log x y (was now log x k) reading near guard over);
+    moves = λ now log x k first guard. same now log x _ k (kept_moves side s now log x y (was now log x k) first guard);
+    reclaims = λ now log x k first guard. same now log x _ k (kept_reclaims side s now log x y (was now log x k) first guard);
+    sends_update = λ now log x k u telling. same now log x _ k (kept_sends_update side s now log x y (was now log x k) u telling);
+    sends_reply = λ now log x k r is. same now log x _ k (kept_sends_reply side s now log x y (was now log x k) r is);
+    says = λ now log x k c may. same now log x _ k (kept_says side s now log x y (was now log x k) c may);
+    takes = λ now log x k reading v near sent. same now log x _ k (kept_takes side s now log x y (was now log x k) reading v near sent);
+    takes_reply = λ now log x k r sent. same now log x _ k (kept_takes_reply side s now log x y (was now log x k) r sent);
+    takes_contact = λ now log x k c sent. same now log x _ k (kept_takes_contact side s now log x y (was now log x k) c sent);
+    learns = λ now log x k c sent. same now log x _ k (kept_takes_higher side s now log x y (was now log x k) c sent);
+    goes_down = λ now log x k reading near waits runs stopped. same now log x _ k (kept_goes_down side s now log x y (was now log x k) reading near waits runs stopped);
+    goes_up = λ now log x k. same now log x _ k (kept_goes_up side s now log x y (was now log x k));
+    seizes = λ now log x k reading d near is outside over take. same now log x _ k (kept_seizes side s now log x y (was now log x k) reading d near is outside over take);
+    stops = λ now log x k. same now log x _ k (kept_stops side s now log x y (was now log x k));
+    restarts = λ now log x k. same now log x _ k (kept_restarts side s now log x y (was now log x k));
+  }
+
 abbrev Inv : Setting → UnitWorld → Type 0
 Inv s w = Invariant s w.now w.log w.a w.b
 
 each_keeps : (s : Setting) (w : UnitWorld) (e : UnitEvent) → Inv s w → IsAllowed s w e → Inv s (next s w e)
-each_keeps s w (Grants Primary reading valid out_end holder) inv ok =
-    let kept = kept_grants_a s w.now w.log w.a w.b inv.kept reading valid out_end holder ok.0.0 ok.0.1 ok.1 ok.2 ok.3 ok.4 in
-    record { kept = kept; alone = alone_gives s w.now w.log Primary holder valid _ _ inv.alone kept }
-each_keeps s w (Grants Secondary reading valid out_end holder) inv ok =
-    let kept = kept_grants_b s w.now w.log w.a w.b inv.kept reading valid out_end holder ok.0.0 ok.0.1 ok.1 ok.2 ok.3 ok.4 in
-    record { kept = kept; alone = alone_gives s w.now w.log Secondary holder valid _ _ inv.alone kept }
-each_keeps s w (Releases Primary holder) inv ok =
-    record { kept = kept_releases_a s w.now w.log w.a w.b inv.kept holder ok; alone = alone_gives_back s w.now w.log holder inv.alone }
-each_keeps s w (Releases Secondary holder) inv ok =
-    record { kept = kept_releases_b s w.now w.log w.a w.b inv.kept holder ok; alone = alone_gives_back s w.now w.log holder inv.alone }
-each_keeps s w (Expires Primary reading) inv ok = record { kept = kept_expires_a s w.now w.log w.a w.b inv.kept reading ok.0.0 ok.1 ok.2; alone = inv.alone }
-each_keeps s w (Expires Secondary reading) inv ok = record { kept = kept_expires_b s w.now w.log w.a w.b inv.kept reading ok.0.0 ok.1 ok.2; alone = inv.alone }
-each_keeps s w MovesToBackup inv ok = record { kept = kept_moves_a s w.now w.log w.a w.b inv.kept ok; alone = inv.alone }
-each_keeps s w Reclaims inv ok = record { kept = kept_reclaims_a s w.now w.log w.a w.b inv.kept ok; alone = inv.alone }
-each_keeps s w (SendsUpdate Primary u) inv ok = record { kept = kept_sends_update_a s w.now w.log w.a w.b inv.kept u ok; alone = inv.alone }
-each_keeps s w (SendsUpdate Secondary u) inv ok = record { kept = kept_sends_update_b s w.now w.log w.a w.b inv.kept u ok; alone = inv.alone }
-each_keeps s w (SendsReply Primary r) inv ok = record { kept = kept_sends_reply_a s w.now w.log w.a w.b inv.kept r ok; alone = inv.alone }
-each_keeps s w (SendsReply Secondary r) inv ok = record { kept = kept_sends_reply_b s w.now w.log w.a w.b inv.kept r ok; alone = inv.alone }
-each_keeps s w (SendsContact Primary c) inv ok = record { kept = kept_says_a s w.now w.log w.a w.b inv.kept c ok; alone = inv.alone }
-each_keeps s w (SendsContact Secondary c) inv ok = record { kept = kept_says_b s w.now w.log w.a w.b inv.kept c ok; alone = inv.alone }
-each_keeps s w (TakesUpdate Primary reading u) inv ok = record { kept = kept_takes_a s w.now w.log w.a w.b inv.kept reading u ok.0.0 ok.1; alone = inv.alone }
-each_keeps s w (TakesUpdate Secondary reading u) inv ok = record { kept = kept_takes_b s w.now w.log w.a w.b inv.kept reading u ok.0.0 ok.1; alone = inv.alone }
-each_keeps s w (TakesReply Primary r) inv ok = record { kept = kept_takes_reply_a s w.now w.log w.a w.b inv.kept r ok; alone = inv.alone }
-each_keeps s w (TakesReply Secondary r) inv ok = record { kept = kept_takes_reply_b s w.now w.log w.a w.b inv.kept r ok; alone = inv.alone }
-each_keeps s w (TakesContact Primary c) inv ok = record { kept = kept_takes_contact_a s w.now w.log w.a w.b inv.kept c ok; alone = inv.alone }
-each_keeps s w (TakesContact Secondary c) inv ok = record { kept = kept_takes_contact_b s w.now w.log w.a w.b inv.kept c ok; alone = inv.alone }
-each_keeps s w (LearnsTerm Primary c) inv ok = record { kept = kept_takes_higher_a s w.now w.log w.a w.b inv.kept c ok; alone = inv.alone }
-each_keeps s w (LearnsTerm Secondary c) inv ok = record { kept = kept_takes_higher_b s w.now w.log w.a w.b inv.kept c ok; alone = inv.alone }
-each_keeps s w (GoesDown Primary reading) inv ok = record { kept = kept_goes_down_a s w.now w.log w.a w.b inv.kept reading ok.0.1 ok.1 ok.2 ok.3; alone = inv.alone }
-each_keeps s w (GoesDown Secondary reading) inv ok = record { kept = kept_goes_down_b s w.now w.log w.a w.b inv.kept reading ok.0.1 ok.1 ok.2 ok.3; alone = inv.alone }
-each_keeps s w (GoesUp Primary) inv ok = record { kept = kept_goes_up_a s w.now w.log w.a w.b inv.kept; alone = inv.alone }
-each_keeps s w (GoesUp Secondary) inv ok = record { kept = kept_goes_up_b s w.now w.log w.a w.b inv.kept; alone = inv.alone }
-each_keeps s w (Seizes Primary reading) inv ok = record { kept = kept_seizes_a s w.now w.log w.a w.b inv.kept reading ok.0 ok.1.0 ok.2.0 ok.2.1 ok.2.2 ok.2.3; alone = inv.alone }
-each_keeps s w (Seizes Secondary reading) inv ok = record { kept = kept_seizes_b s w.now w.log w.a w.b inv.kept reading ok.0 ok.1.0 ok.2.0 ok.2.1 ok.2.2 ok.2.3; alone = inv.alone }
-each_keeps s w (Stops Primary) inv ok = record { kept = kept_stops_a s w.now w.log w.a w.b inv.kept; alone = inv.alone }
-each_keeps s w (Stops Secondary) inv ok = record { kept = kept_stops_b s w.now w.log w.a w.b inv.kept; alone = inv.alone }
-each_keeps s w (Restarts Primary) inv ok = record { kept = kept_restarts_a s w.now w.log w.a w.b inv.kept; alone = inv.alone }
-each_keeps s w (Restarts Secondary) inv ok = record { kept = kept_restarts_b s w.now w.log w.a w.b inv.kept; alone = inv.alone }
-each_keeps s w (Passes n) inv ok = record { kept = passes s w.now w.log w.a w.b n inv.kept; alone = inv.alone }
+each_keeps s w (Grants Primary reading valid out_end holder) k ok = (moves Primary s w.b).grants w.now w.log w.a k reading valid out_end holder ok.0.0 ok.0.1 ok.1 ok.2 ok.3 ok.4
+each_keeps s w (Grants Secondary reading valid out_end holder) k ok = (moves Secondary s w.a).grants w.now w.log w.b k reading valid out_end holder ok.0.0 ok.0.1 ok.1 ok.2 ok.3 ok.4
+each_keeps s w (Releases Primary holder) k ok = (moves Primary s w.b).releases w.now w.log w.a k holder ok
+each_keeps s w (Releases Secondary holder) k ok = (moves Secondary s w.a).releases w.now w.log w.b k holder ok
+each_keeps s w (Expires Primary reading) k ok = (moves Primary s w.b).expires w.now w.log w.a k reading ok.0.0 ok.1 ok.2
+each_keeps s w (Expires Secondary reading) k ok = (moves Secondary s w.a).expires w.now w.log w.b k reading ok.0.0 ok.1 ok.2
+each_keeps s w MovesToBackup k ok = (moves Primary s w.b).moves w.now w.log w.a k refl ok
+each_keeps s w Reclaims k ok = (moves Primary s w.b).reclaims w.now w.log w.a k refl ok
+each_keeps s w (SendsUpdate Primary u) k ok = (moves Primary s w.b).sends_update w.now w.log w.a k u ok
+each_keeps s w (SendsUpdate Secondary u) k ok = (moves Secondary s w.a).sends_update w.now w.log w.b k u ok
+each_keeps s w (SendsReply Primary r) k ok = (moves Primary s w.b).sends_reply w.now w.log w.a k r ok
+each_keeps s w (SendsReply Secondary r) k ok = (moves Secondary s w.a).sends_reply w.now w.log w.b k r ok
+each_keeps s w (SendsContact Primary c) k ok = (moves Primary s w.b).says w.now w.log w.a k c ok
+each_keeps s w (SendsContact Secondary c) k ok = (moves Secondary s w.a).says w.now w.log w.b k c ok
+each_keeps s w (TakesUpdate Primary reading u) k ok = (moves Primary s w.b).takes w.now w.log w.a k reading u ok.0.0 ok.1
+each_keeps s w (TakesUpdate Secondary reading u) k ok = (moves Secondary s w.a).takes w.now w.log w.b k reading u ok.0.0 ok.1
+each_keeps s w (TakesReply Primary r) k ok = (moves Primary s w.b).takes_reply w.now w.log w.a k r ok
+each_keeps s w (TakesReply Secondary r) k ok = (moves Secondary s w.a).takes_reply w.now w.log w.b k r ok
+each_keeps s w (TakesContact Primary c) k ok = (moves Primary s w.b).takes_contact w.now w.log w.a k c ok
+each_keeps s w (TakesContact Secondary c) k ok = (moves Secondary s w.a).takes_contact w.now w.log w.b k c ok
+each_keeps s w (LearnsTerm Primary c) k ok = (moves Primary s w.b).learns w.now w.log w.a k c ok
+each_keeps s w (LearnsTerm Secondary c) k ok = (moves Secondary s w.a).learns w.now w.log w.b k c ok
+each_keeps s w (GoesDown Primary reading) k ok = (moves Primary s w.b).goes_down w.now w.log w.a k reading ok.0.1 ok.1 ok.2 ok.3
+each_keeps s w (GoesDown Secondary reading) k ok = (moves Secondary s w.a).goes_down w.now w.log w.b k reading ok.0.1 ok.1 ok.2 ok.3
+each_keeps s w (GoesUp Primary) k ok = (moves Primary s w.b).goes_up w.now w.log w.a k
+each_keeps s w (GoesUp Secondary) k ok = (moves Secondary s w.a).goes_up w.now w.log w.b k
+each_keeps s w (Seizes Primary reading) k ok = (moves Primary s w.b).seizes w.now w.log w.a k reading ok.0 ok.1.0 ok.2.0 ok.2.1 ok.2.2 ok.2.3
+each_keeps s w (Seizes Secondary reading) k ok = (moves Secondary s w.a).seizes w.now w.log w.b k reading ok.0 ok.1.0 ok.2.0 ok.2.1 ok.2.2 ok.2.3
+each_keeps s w (Stops Primary) k ok = (moves Primary s w.b).stops w.now w.log w.a k
+each_keeps s w (Stops Secondary) k ok = (moves Secondary s w.a).stops w.now w.log w.b k
+each_keeps s w (Restarts Primary) k ok = (moves Primary s w.b).restarts w.now w.log w.a k
+each_keeps s w (Restarts Secondary) k ok = (moves Secondary s w.a).restarts w.now w.log w.b k
+each_keeps s w (Passes n) k ok = record { kept = passes s w.now w.log w.a w.b n k.kept; alone = k.alone }
 
 all_keep : (s : Setting) (es : List UnitEvent) (w : UnitWorld) → Inv s w → MayHappen s w es → Inv s (world_after s w es)
 all_keep s [] w inv run = inv
@@ -235,8 +289,8 @@ one_holder s es run m j k h h' = (all_keep s es start (at_start s) run).alone m 
 
 laws : (s : Setting) (w : UnitWorld) (side : Role) → Kept s w.now w.log w.a w.b
     → PartnerWaits (server side w) (server (partner_of side) w) × IsAckTold side (server side w) (server (partner_of side) w) × EndsInTime s side w
-laws s w Primary kept = (kept.servers.there.law, ack_told_a s w.now w.log w.a w.b kept, in_time_a s w.now w.log w.a w.b kept)
-laws s w Secondary kept = (kept.servers.back.law, ack_told_b s w.now w.log w.a w.b kept, in_time_b s w.now w.log w.a w.b kept)
+laws s w Primary kept = (kept.servers.there.law, ack_told Primary s w.now w.log w.a w.b kept, in_time Primary s w.now w.log w.a w.b kept)
+laws s w Secondary kept = (kept.servers.back.law, ack_told Secondary s w.now w.log w.b w.a kept, in_time Secondary s w.now w.log w.b w.a kept)
 
 pub partner_down_laws : PartnerDownLaws
 partner_down_laws s es run side = laws s (world_after s start es) side (all_keep s es start (at_start s) run).kept

@@ -21,7 +21,7 @@ use Rattle.binding_rules.specs.Table.{answered}
 use Rattle.book_rules.specs.Effects.{changed, expired}
 use Rattle.binding_rules.specs.Reply.{is_accept}
 use Rattle.binding_rules.specs.Unit.{status_of}
-use Rattle.pair_world.proofs.PhasesA.{grant_a, end_a, to_backup_a, reclaim_a, take_active_a, take_over_a, reply_keep_a, reply_free_a}
+use Rattle.pair_world.proofs.PhasesA.{grant_a, end_a, move_a, take_active_a, take_over_a, reply_keep_a, reply_free_a}
 use Rattle.pair_world.proofs.Acks.{fewer_ends}
 use Rattle.pair_world.proofs.AcksA.{grant_a_ends, change_a_ends, take_active_a_ends, take_over_a_ends, reply_keep_a_ends, reply_free_a_ends}
 use Rattle.pair_world.proofs.Words.{code_low, code_high, new_word, new_word_at, new_end, no_word, no_end, no_end_silent, new_answer, same_marks, word_sent, end_sent, mark_sent, answer_sent, answer_reject}
@@ -80,7 +80,7 @@ module _ (s : Setting) (k : Binding) (a b : Server) (open_a : a.unit.marked ≡ 
       let zero' : code k a.unit.status ≡ 0 = ap (code k) guard in
       let made = new_word_at k a (changed FreeBackup BackupDue a.unit) 1 BackupDue refl refl in
       record {
-        phases = to_backup_a _ _ _ _ _ _ _ _ _ _ _ _ inv.phases _ _ zero' made (λ p o w. w);
+        phases = move_a _ _ _ _ _ _ _ _ _ _ _ _ inv.phases 1 1 _ _ refl (omega arith) (omega arith) (inr (inl (refl, inr (inl refl)))) made (λ p o w. w);
         acks = change_a_ends _ _ _ _ _ _ _ _ _ _ _ _ _ _ _ _ _ _ _ _ inv.phases inv.acks 1 1 _ _ _ (inl (omega arith)) (omega arith, inl refl) (λ l. absurd (omega arith)) (λ one. omega arith)
             (no_end a (changed FreeBackup BackupDue a.unit) (λ open' is. absurd (cc))) (λ p o w. w);
         stale = stale_on (changed FreeBackup BackupDue a.unit) open_a (omega arith);
@@ -91,7 +91,7 @@ module _ (s : Setting) (k : Binding) (a b : Server) (open_a : a.unit.marked ≡ 
       let one : code k a.unit.status ≡ 1 = ap (code k) guard in
       let made = new_word_at k a (changed a.unit.status FreeDue a.unit) 0 FreeDue refl refl in
       record {
-        phases = reclaim_a _ _ _ _ _ _ _ _ _ _ _ _ inv.phases _ _ one made (λ p o w. w);
+        phases = move_a _ _ _ _ _ _ _ _ _ _ _ _ inv.phases _ 0 _ _ one (omega arith) (omega arith) (inr (inl (one, inr (inr refl)))) made (λ p o w. w);
         acks = change_a_ends _ _ _ _ _ _ _ _ _ _ _ _ _ _ _ _ _ _ _ _ inv.phases inv.acks _ 0 _ _ _ (inl (omega arith)) (omega arith, inl one) (λ l. omega arith) (λ is. omega arith)
             (no_end a (changed a.unit.status FreeDue a.unit) (λ open' is. absurd (cc))) (λ p o w. w);
         stale = stale_on (changed a.unit.status FreeDue a.unit) open_a (omega arith);
@@ -138,7 +138,7 @@ module _ (s : Setting) (k : Binding) (a b : Server) (open_a : a.unit.marked ≡ 
       → With (replied ExpiredDue a.unit r)
   free_a due r said of newer is over =
       let d : due_code a.unit.due ≡ due_code (Some due) = ap due_code is in
-      let shape = free_shape _ _ inv.phases.due_a (subst (λ z. (z ≡ 0) ⊎ ((4 ≤ z) × (z ≤ 5))) (sym d) over) in
+      let shape = free_shape _ _ inv.phases.a.due (subst (λ z. (z ≡ 0) ⊎ ((4 ≤ z) × (z ≤ 5))) (sym d) over) in
       let u = replied ExpiredDue a.unit r in
       record {
         phases = reply_free_a _ _ _ _ _ _ _ _ _ _ _ _ inv.phases r.mine r.of _ _ said newer of shape (no_word k a u (inl refl)) (λ p o w. w);
@@ -151,28 +151,28 @@ module _ (s : Setting) (k : Binding) (a b : Server) (open_a : a.unit.marked ≡ 
       let u = replied ActiveDue a.unit r in
       let d : due_code a.unit.due ≡ 2 = ap due_code is in
       record {
-        phases = reply_keep_a _ _ _ _ _ _ _ _ _ _ _ _ inv.phases r.mine r.of _ _ (r, (good, inl sent), refl, refl) newer of (keep_shape _ _ inv.phases.due_a (inl d)) (no_word k a u (inl refl)) (λ p o w. w);
-        acks = reply_keep_a_ends _ _ _ _ _ _ _ _ _ _ _ _ _ _ _ _ _ _ _ _ inv.phases inv.acks r.mine r.of _ _ _ _ (r, (good, inl sent), refl, refl) newer of (inl (refl, d, active_due _ _ inv.phases.due_a d)) (no_end_silent a u (inl refl)) (λ p o w. w);
+        phases = reply_keep_a _ _ _ _ _ _ _ _ _ _ _ _ inv.phases r.mine r.of _ _ (r, (good, inl sent), refl, refl) newer of (keep_shape _ _ inv.phases.a.due (inl d)) (no_word k a u (inl refl)) (λ p o w. w);
+        acks = reply_keep_a_ends _ _ _ _ _ _ _ _ _ _ _ _ _ _ _ _ _ _ _ _ inv.phases inv.acks r.mine r.of _ _ _ _ (r, (good, inl sent), refl, refl) newer of (inl (refl, d, active_due _ _ inv.phases.a.due d)) (no_end_silent a u (inl refl)) (λ p o w. w);
         stale = stale_on u open_a (omega arith);
       }
   settles_a r sent good of newer BackupDue is =
       let u = replied BackupDue a.unit r in
       let d : due_code a.unit.due ≡ 1 = ap due_code is in
       record {
-        phases = reply_keep_a _ _ _ _ _ _ _ _ _ _ _ _ inv.phases r.mine r.of _ _ (r, (good, inl sent), refl, refl) newer of (keep_shape _ _ inv.phases.due_a (inr d)) (no_word k a u (inl refl)) (λ p o w. w);
-        acks = reply_keep_a_ends _ _ _ _ _ _ _ _ _ _ _ _ _ _ _ _ _ _ _ _ inv.phases inv.acks r.mine r.of _ _ _ _ (r, (good, inl sent), refl, refl) newer of (inr (refl, moved_due _ _ inv.phases.due_a d)) (no_end_silent a u (inl refl)) (λ p o w. w);
+        phases = reply_keep_a _ _ _ _ _ _ _ _ _ _ _ _ inv.phases r.mine r.of _ _ (r, (good, inl sent), refl, refl) newer of (keep_shape _ _ inv.phases.a.due (inr d)) (no_word k a u (inl refl)) (λ p o w. w);
+        acks = reply_keep_a_ends _ _ _ _ _ _ _ _ _ _ _ _ _ _ _ _ _ _ _ _ inv.phases inv.acks r.mine r.of _ _ _ _ (r, (good, inl sent), refl, refl) newer of (inr (refl, moved_due _ _ inv.phases.a.due d)) (no_end_silent a u (inl refl)) (λ p o w. w);
         stale = stale_on u open_a (omega arith);
       }
   settles_a r sent good of newer ExpiredDue is = free_a ExpiredDue r (r, (good, inl sent), refl, refl) of newer is (inr (omega arith, omega arith))
   settles_a r sent good of newer ReleasedDue is = free_a ReleasedDue r (r, (good, inl sent), refl, refl) of newer is (inr (omega arith, omega arith))
   settles_a r sent good of newer FreeDue is = free_a FreeDue r (r, (good, inl sent), refl, refl) of newer is (inl refl)
-  settles_a r sent good of newer SeizedDue is = absurd (no_mark_due _ Primary a.unit.due inv.phases.due_a is)
+  settles_a r sent good of newer SeizedDue is = absurd (no_mark_due _ Primary a.unit.due inv.phases.a.due is)
 
   pub sends_update_a : (u : Update) → IsTold a.unit u → InCalm k (record a { updates = u ∷ a.updates }) b
   sends_update_a u telling = record {
     phases = fewer _ _ _ _ _ _ _ _ _ _ _ _ _ _ _ _ inv.phases (word_sent k a u telling) (λ c m n w. w) (λ p o w. w) (λ p o w. w);
     acks = fewer_ends _ _ _ _ _ _ _ _ _ _ _ _ _ _ _ _ _ _ _ _ _ _ _ _ _ _ inv.acks (word_sent k a u telling) (λ c m n w. w) (end_sent a u telling) (λ m e w. w) (λ p o w. w) (λ p o w. w);
-    stale = record { stale_a = λ m w. inv.stale.stale_a m (mark_sent a u telling (no_mark_due _ Primary a.unit.due inv.phases.due_a) m w); stale_b = inv.stale.stale_b };
+    stale = record { stale_a = λ m w. inv.stale.stale_a m (mark_sent a u telling (no_mark_due _ Primary a.unit.due inv.phases.a.due) m w); stale_b = inv.stale.stale_b };
   }
 
   pub sends_reply_a : (r : BindReply) → a.unit.pending ≡ Some r → InCalm k (record a { unit = record a.unit { pending = None }; replies = r ∷ a.replies }) b

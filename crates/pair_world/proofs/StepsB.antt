@@ -109,7 +109,7 @@ module _ (s : Setting) (k : Binding) (a b : Server) (open_b : b.unit.marked ≡ 
   accepts_b waiting reading v sent newer BackupDue e ok =
       let p = backup_of b.unit reading v Secondary k b.unit.status ok in
       let free = p.0 in
-      let nine = free_due_b _ _ inv.phases.due_b free in
+      let nine = free_due_b _ _ inv.phases.b.due free in
       let none = due_none b.unit.due nine in
       let u = accepted_as BackupDue Secondary b.unit v in
       let said : Says a v = inl (sent, ap is_mark e) in
@@ -142,7 +142,7 @@ module _ (s : Setting) (k : Binding) (a b : Server) (open_b : b.unit.marked ≡ 
       → With (replied ExpiredDue b.unit r)
   freed_b due r said of newer is over =
       let d : due_code b.unit.due ≡ due_code (Some due) = ap due_code is in
-      let four = ended_b _ _ inv.phases.due_b (omega arith) (omega arith) in
+      let four = ended_b _ _ inv.phases.b.due (omega arith) (omega arith) in
       let u = replied ExpiredDue b.unit r in
       record {
         phases = reply_free_b _ _ _ _ _ _ _ _ _ _ _ _ inv.phases r.mine r.of _ _ said newer of four (no_word k b u (inl refl)) (λ p o w. w);
@@ -154,7 +154,7 @@ module _ (s : Setting) (k : Binding) (a b : Server) (open_b : b.unit.marked ≡ 
   settles_b r sent good of newer ActiveDue is =
       let u = replied ActiveDue b.unit r in
       let d : due_code b.unit.due ≡ 2 = ap due_code is in
-      let shape = keeps_b _ _ inv.phases.due_b d in
+      let shape = keeps_b _ _ inv.phases.b.due d in
       record {
         phases = reply_keep_b _ _ _ _ _ _ _ _ _ _ _ _ inv.phases r.mine r.of _ _ (r, (good, inl sent), refl, refl) newer of shape.0 shape.1 (no_word k b u (inl refl)) (λ p o w. w);
         acks = reply_keep_b_ends _ _ _ _ _ _ _ _ _ _ _ _ _ _ _ _ _ _ _ _ inv.phases inv.acks r.mine r.of _ _ _ (r, (good, inl sent), refl, refl) newer of d shape.0 shape.1 (no_end_silent b u (inl refl)) (λ p o w. w);
@@ -162,15 +162,15 @@ module _ (s : Setting) (k : Binding) (a b : Server) (open_b : b.unit.marked ≡ 
       }
   settles_b r sent good of newer ExpiredDue is = freed_b ExpiredDue r (r, (good, inl sent), refl, refl) of newer is (omega arith, omega arith)
   settles_b r sent good of newer ReleasedDue is = freed_b ReleasedDue r (r, (good, inl sent), refl, refl) of newer is (omega arith, omega arith)
-  settles_b r sent good of newer BackupDue is = let d : due_code b.unit.due ≡ 1 = ap due_code is in absurd (never_b _ _ inv.phases.due_b (omega arith))
-  settles_b r sent good of newer FreeDue is = let d : due_code b.unit.due ≡ 0 = ap due_code is in absurd (never_b _ _ inv.phases.due_b (omega arith))
-  settles_b r sent good of newer SeizedDue is = absurd (no_mark_due _ Secondary b.unit.due inv.phases.due_b is)
+  settles_b r sent good of newer BackupDue is = let d : due_code b.unit.due ≡ 1 = ap due_code is in absurd (never_b _ _ inv.phases.b.due (omega arith))
+  settles_b r sent good of newer FreeDue is = let d : due_code b.unit.due ≡ 0 = ap due_code is in absurd (never_b _ _ inv.phases.b.due (omega arith))
+  settles_b r sent good of newer SeizedDue is = absurd (no_mark_due _ Secondary b.unit.due inv.phases.b.due is)
 
   pub sends_update_b : (u : Update) → IsTold b.unit u → InCalm k a (record b { updates = u ∷ b.updates })
   sends_update_b u telling = record {
     phases = fewer _ _ _ _ _ _ _ _ _ _ _ _ _ _ _ _ inv.phases (λ c m n w. w) (word_sent k b u telling) (λ p o w. w) (λ p o w. w);
     acks = fewer_ends _ _ _ _ _ _ _ _ _ _ _ _ _ _ _ _ _ _ _ _ _ _ _ _ _ _ inv.acks (λ c m n w. w) (word_sent k b u telling) (λ m e w. w) (end_sent b u telling) (λ p o w. w) (λ p o w. w);
-    stale = record { stale_a = inv.stale.stale_a; stale_b = λ m w. inv.stale.stale_b m (mark_sent b u telling (no_mark_due _ Secondary b.unit.due inv.phases.due_b) m w) };
+    stale = record { stale_a = inv.stale.stale_a; stale_b = λ m w. inv.stale.stale_b m (mark_sent b u telling (no_mark_due _ Secondary b.unit.due inv.phases.b.due) m w) };
   }
 
   pub sends_reply_b : (r : BindReply) → b.unit.pending ≡ Some r → InCalm k a (record b { unit = record b.unit { pending = None }; replies = r ∷ b.replies })

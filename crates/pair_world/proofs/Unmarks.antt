@@ -1,10 +1,10 @@
 -- The mark goes by the other server's reply. Where a change is due, the count rises by one, and the word of that change is the only new one.
-use Rattle.std.specs.Prelude.{◌≡◌, ◌≢◌, ℕ, ◌+◌, ◌<◌, ◌⊎◌}
-use Rattle.std.proofs.Common.{arith, inl, refl}
-use Rattle.pair_world.specs.Acks.{Acks, Stale}
+use Rattle.std.specs.Prelude.{◌≡◌, ◌≢◌, ℕ, ◌+◌, ◌<◌, ◌≤◌, ◌⊎◌}
+use Rattle.std.proofs.Common.{arith, inl, inr, refl}
+use Rattle.pair_world.specs.Acks.{Acks, OwnEnds, Stale}
 use Rattle.pair_world.specs.Marked.{Marked}
 use Rattle.pair_world.specs.Phases.{Due, DueAtB, Phases}
-use Rattle.pair_world.proofs.Phases.{by_word}
+use Rattle.pair_world.proofs.Phases.{by_word, own_unmark}
 
 abbrev pub Raised : (d m m' : ℕ) → Type 0
 Raised d m m' = ((d ≡ 9) × (m' ≡ m)) ⊎ ((d ≢ 9) × (m' ≡ m + 1))
@@ -20,6 +20,18 @@ OrDue U d c0 m' vp c m n = U c m n ⊎ ((d ≢ 9) × (c ≡ c0) × (m ≡ m') ×
 abbrev pub OrDueEnd : (ℕ → ℕ → Type 0) → (d m' e' m e : ℕ) → Type 0
 OrDueEnd E d m' e' m e = E m e ⊎ ((d ≢ 9) × (m ≡ m') × (e ≡ e'))
 
+-- the ends of X's unit as its mark goes
+ends_unmark : (s m d k t e : ℕ) (U : ℕ → ℕ → ℕ → Type 0) (E : ℕ → ℕ → Type 0) (vp m' c0 : ℕ) (U' : ℕ → ℕ → ℕ → Type 0) (E' : ℕ → ℕ → Type 0) → m ≤ m'
+    → ((c n l : ℕ) → U c n l → n < m) → ((n f : ℕ) → E n f → n < m) → (k ≡ 0) × (t ≡ 0) → (d ≡ 2 → (2 ≤ c0) × (c0 ≤ 3))
+    → ((c n l : ℕ) → U' c n l → U c n l ⊎ ((c ≡ c0) × (n ≡ m') × (l ≡ vp))) → ((n f : ℕ) → E' n f → E n f ⊎ ((n ≡ m') × (f ≡ e)))
+    → OwnEnds s m' d k t e U' E'
+ends_unmark s m d k t e U E vp m' c0 U' E' more before before_end zeros active up en = record {
+  no_ends = λ le. zeros;
+  last_active = λ c n l w is two. by_word (up c n l w) (λ old. let h = before c n l old in absurd (omega arith)) (λ x. let a = active two in (omega arith, omega arith));
+  last_end = λ n f w is two. by_word (en n f w) (λ old. let h = before_end n f old in absurd (omega arith)) (λ x. x.1);
+  sent_e = λ n f w. by_word (en n f w) (λ old. let h = before_end n f old in omega arith) (λ x. omega arith);
+}
+
 module _ (sa ma na da ka ta ea sb mb nb db kb tb eb : ℕ) (UA UB : ℕ → ℕ → ℕ → Type 0) (EA EB RA RB : ℕ → ℕ → Type 0) (SA SB : ℕ → Type 0)
     (inv : Marked 0 Due DueAtB sa ma na da ka ta sb mb nb db kb tb eb UA UB EA EB RA RB SA SB)
     (vp vo m' c0 : ℕ) (UA' : ℕ → ℕ → ℕ → Type 0) (EA' RA' : ℕ → ℕ → Type 0) (SA' : ℕ → Type 0)
@@ -30,27 +42,15 @@ module _ (sa ma na da ka ta ea sb mb nb db kb tb eb : ℕ) (UA UB : ℕ → ℕ 
   unmark_a_phases =
       let free : sb ≡ 0 = (inv.answered vp vo v of).0 in
       let last : vp ≡ mb = (inv.answered vp vo v of).1 refl in
-      let due_a = inv.due_x in
-      let due_b = inv.due_y in
-      let sv = inv.sent_ry vp vo v in
+      let due_a = inv.x.due in
+      let due_b = inv.y.due in
+      let sv = inv.y.sent_r vp vo v in
       let count = inv.count_y in
-      let old_word : (c m n : ℕ) → UA c m n → nb < m → ⊥ = λ c m n w lt. let h = inv.sent_ux c m n w in absurd (omega arith) in
-      let no_word_b : (c m n : ℕ) → UB c m n → vp < m → ⊥ = λ c m n w lt. let h = inv.sent_uy c m n w in absurd (omega arith) in
+      let old_word : (c m n : ℕ) → UA c m n → nb < m → ⊥ = λ c m n w lt. let h = inv.before_x c m n w in absurd (omega arith) in
+      let no_word_b : (c m n : ℕ) → UB c m n → vp < m → ⊥ = λ c m n w lt. let h = inv.y.sent_u c m n w in absurd (omega arith) in
       record {
-        due_a = inv.due_x;
-        due_b = inv.due_y;
-        sent_ua = λ c m n w. by_word (up c m n w) (λ old. let h = inv.sent_ux c m n old in (omega arith, omega arith)) (λ x. (omega arith, omega arith));
-        sent_ra = λ p o w. let h = inv.sent_rx p o (re p o w) in (omega arith, omega arith);
-        sent_ub = inv.sent_uy;
-        sent_rb = inv.sent_ry;
-        replies_before_a = λ e p o w. let h = inv.sent_rx p o (re p o w) in omega arith;
-        last_word_a = λ e c m n w is. by_word (up c m n w) (λ old. let h = inv.sent_ux c m n old in absurd (omega arith)) (λ x. omega arith);
-        reply_then_update_a = λ c m n p o w r le. by_word (up c m n w)
-            (λ old. inv.reply_then_update_x c m n p o old (re p o r) le)
-            (λ x. let h = inv.sent_rx p o (re p o r) in omega arith);
-        replies_before_b = inv.replies_before_y;
-        last_word_b = inv.last_word_y;
-        reply_then_update_b = inv.reply_then_update_y;
+        a = own_unmark _ _ _ _ _ _ _ inv.x _ _ c0 _ _ newer (omega arith) (λ e. omega arith) inv.before_x (λ c m n w. by_word (up c m n w) inl (λ f. inr (f.1, f.2, f.3))) re;
+        b = inv.y;
         count_a = omega arith;
         count_b = omega arith;
         heard = λ e is. free;
@@ -59,34 +59,28 @@ module _ (sa ma na da ka ta ea sb mb nb db kb tb eb : ℕ) (UA UB : ℕ → ℕ 
         b_says_active = λ c m n w new l h. absurd (no_word_b c m n w new);
         b_says_over = λ c m n w new l. absurd (no_word_b c m n w new);
         b_silent = λ c m n w new z. absurd (no_word_b c m n w new);
-        b_reply_last = λ p o w is l. let h = inv.sent_ry p o w in absurd (omega arith);
+        b_reply_last = λ p o w is l. let h = inv.y.sent_r p o w in absurd (omega arith);
         a_says_active = λ c m n w new l h. by_word (up c m n w) (λ old. absurd (old_word c m n old new)) (λ x. inl (omega arith));
         a_says_over = λ c m n w new l. by_word (up c m n w) (λ old. absurd (old_word c m n old new)) (λ x. inl (omega arith, omega arith));
         a_after_over = λ c m n w new l c' m'' n' w' lt. by_word (up c m n w) (λ old. absurd (old_word c m n old new))
-            (λ x. by_word (up c' m'' n' w') (λ old. let h = inv.sent_ux c' m'' n' old in absurd (omega arith)) (λ y. absurd (omega arith)));
-        a_says_backup = λ c m n w is e. by_word (up c m n w) (λ old. let h = inv.sent_ux c m n old in absurd (omega arith)) (λ x. omega arith);
+            (λ x. by_word (up c' m'' n' w') (λ old. let h = inv.before_x c' m'' n' old in absurd (omega arith)) (λ y. absurd (omega arith)));
+        a_says_backup = λ c m n w is e. by_word (up c m n w) (λ old. let h = inv.x.sent_u c m n old in absurd (omega arith)) (λ x. omega arith);
       }
 
   unmark_a_ends : Acks sa m' vp da ka ta ea sb mb nb db kb tb eb UA' UB EA' EB RA' RB
   unmark_a_ends =
       let free : sb ≡ 0 = (inv.answered vp vo v of).0 in
-      let due_a = inv.due_x in
-      let due_b = inv.due_y in
+      let due_a = inv.x.due in
+      let due_b = inv.y.due in
       let ends = inv.no_ends_x in
       let count = inv.count_y in record {
+        a = ends_unmark sa ma da ka ta ea UA EA vp m' c0 UA' EA' (omega arith) inv.before_x inv.before_ex inv.no_ends_x (λ two. (omega arith, omega arith)) (λ c m n w. by_word (up c m n w) inl (λ f. inr (f.1, f.2, f.3))) (λ m e w. by_word (en m e w) inl (λ f. inr (f.1, f.2)));
+        b = inv.ends_y;
         told_a = λ l h l'. absurd (omega arith);
         told_b = λ l h out. omega arith;
         acknowledged_a = λ p o w is two. absurd (omega arith);
-        acknowledged_b = λ p o w is two. let h = inv.sent_ry p o w in absurd (omega arith);
+        acknowledged_b = λ p o w is two. let h = inv.y.sent_r p o w in absurd (omega arith);
         new_active = λ l is l' h. ends.0;
-        no_ends_a = λ le. ends;
-        no_ends_b = inv.no_ends_y;
-        last_active_a = λ c m n w is two. by_word (up c m n w) (λ old. let h = inv.sent_ux c m n old in absurd (omega arith)) (λ x. (omega arith, omega arith));
-        last_active_b = inv.last_active_y;
-        last_end_a = λ m e w is two. by_word (en m e w) (λ old. let h = inv.sent_ex m e old in absurd (omega arith)) (λ x. x.2);
-        last_end_b = inv.last_end_y;
-        sent_ea = λ m e w. by_word (en m e w) (λ old. let h = inv.sent_ex m e old in omega arith) (λ x. omega arith);
-        sent_eb = inv.sent_ey;
       }
 
   pub unmark_a : Phases sa m' vp da sb mb nb db UA' UB RA' RB × Acks sa m' vp da ka ta ea sb mb nb db kb tb eb UA' UB EA' EB RA' RB × Stale vp nb SA' SB
@@ -94,7 +88,7 @@ module _ (sa ma na da ka ta ea sb mb nb db kb tb eb : ℕ) (UA UB : ℕ → ℕ 
     unmark_a_phases,
     unmark_a_ends,
     record {
-      stale_a = λ m w. let h = inv.sent_sx m (se m w) in let sv = inv.sent_ry vp vo v in omega arith;
+      stale_a = λ m w. let h = inv.sent_sx m (se m w) in let sv = inv.y.sent_r vp vo v in omega arith;
       stale_b = λ m w. let h = inv.sent_sy m w in omega arith;
     },
   )
@@ -108,29 +102,17 @@ module _ (sa ma na da ka ta ea sb mb nb db kb tb eb : ℕ) (UA UB : ℕ → ℕ 
   unmark_b_phases : Phases sa ma na da sb m' vp db UA UB' RA RB'
   unmark_b_phases =
       let one : sa ≡ 1 = (inv.answered vp vo v of).0 in
-      let due_b = inv.due_x in
-      let due_a = inv.due_y in
-      let sv = inv.sent_ry vp vo v in
+      let due_b = inv.x.due in
+      let due_a = inv.y.due in
+      let sv = inv.y.sent_r vp vo v in
       let count = inv.count_y in
-      let old_word : (c m n : ℕ) → UB c m n → na < m → ⊥ = λ c m n w lt. let h = inv.sent_ux c m n w in absurd (omega arith) in
+      let old_word : (c m n : ℕ) → UB c m n → na < m → ⊥ = λ c m n w lt. let h = inv.before_x c m n w in absurd (omega arith) in
       record {
-        due_a = inv.due_y;
-        due_b = inv.due_x;
-        sent_ua = inv.sent_uy;
-        sent_ra = inv.sent_ry;
-        sent_ub = λ c m n w. by_word (up c m n w) (λ old. let h = inv.sent_ux c m n old in (omega arith, omega arith)) (λ x. (omega arith, omega arith));
-        sent_rb = λ p o w. let h = inv.sent_rx p o (re p o w) in (omega arith, omega arith);
-        replies_before_a = inv.replies_before_y;
-        last_word_a = inv.last_word_y;
-        reply_then_update_a = inv.reply_then_update_y;
-        replies_before_b = λ e p o w. let h = inv.sent_rx p o (re p o w) in omega arith;
-        last_word_b = λ e c m n w is. by_word (up c m n w) (λ old. let h = inv.sent_ux c m n old in absurd (omega arith)) (λ x. omega arith);
-        reply_then_update_b = λ c m n p o w r le. by_word (up c m n w)
-            (λ old. inv.reply_then_update_x c m n p o old (re p o r) le)
-            (λ x. let h = inv.sent_rx p o (re p o r) in omega arith);
+        a = inv.y;
+        b = own_unmark _ _ _ _ _ _ _ inv.x _ _ c0 _ _ newer (omega arith) (λ e. omega arith) inv.before_x (λ c m n w. by_word (up c m n w) inl (λ f. inr (f.1, f.2, f.3))) re;
         count_a = omega arith;
         count_b = omega arith;
-        heard = λ e is. let h = inv.replies_before_y e vp vo v in absurd (omega arith);
+        heard = λ e is. let h = inv.y.replies_before e vp vo v in absurd (omega arith);
         b_backup = λ is. one;
         b_active = λ l h. inl one;
         b_says_active = λ c m n w new l h. by_word (up c m n w) (λ old. absurd (old_word c m n old new)) (λ x. inl (omega arith));
@@ -146,23 +128,17 @@ module _ (sa ma na da ka ta ea sb mb nb db kb tb eb : ℕ) (UA UB : ℕ → ℕ 
   unmark_b_ends : Acks sa ma na da ka ta ea sb m' vp db kb tb eb UA UB' EA EB' RA RB'
   unmark_b_ends =
       let one : sa ≡ 1 = (inv.answered vp vo v of).0 in
-      let due_b = inv.due_x in
-      let due_a = inv.due_y in
+      let due_b = inv.x.due in
+      let due_a = inv.y.due in
       let ends = inv.no_ends_x in
       let count = inv.count_x in record {
+        a = inv.ends_y;
+        b = ends_unmark sb mb db kb tb eb UB EB vp m' c0 UB' EB' (omega arith) inv.before_x inv.before_ex inv.no_ends_x (λ two. (omega arith, omega arith)) (λ c m n w. by_word (up c m n w) inl (λ f. inr (f.1, f.2, f.3))) (λ m e w. by_word (en m e w) inl (λ f. inr (f.1, f.2)));
         told_a = λ l h l'. omega arith;
         told_b = λ l h out. absurd (omega arith);
-        acknowledged_a = λ p o w is two. let h = inv.sent_ry p o w in absurd (omega arith);
+        acknowledged_a = λ p o w is two. let h = inv.y.sent_r p o w in absurd (omega arith);
         acknowledged_b = λ p o w is two. absurd (omega arith);
         new_active = λ l is l' h. absurd (omega arith);
-        no_ends_a = inv.no_ends_y;
-        no_ends_b = λ le. ends;
-        last_active_a = inv.last_active_y;
-        last_active_b = λ c m n w is two. by_word (up c m n w) (λ old. let h = inv.sent_ux c m n old in absurd (omega arith)) (λ x. (omega arith, omega arith));
-        last_end_a = inv.last_end_y;
-        last_end_b = λ m e w is two. by_word (en m e w) (λ old. let h = inv.sent_ex m e old in absurd (omega arith)) (λ x. x.2);
-        sent_ea = inv.sent_ey;
-        sent_eb = λ m e w. by_word (en m e w) (λ old. let h = inv.sent_ex m e old in omega arith) (λ x. omega arith);
       }
 
   pub unmark_b : Phases sa ma na da sb m' vp db UA UB' RA RB' × Acks sa ma na da ka ta ea sb m' vp db kb tb eb UA UB' EA EB' RA RB' × Stale na vp SA SB'
@@ -171,6 +147,6 @@ module _ (sa ma na da ka ta ea sb mb nb db kb tb eb : ℕ) (UA UB : ℕ → ℕ 
     unmark_b_ends,
     record {
       stale_a = λ m w. let h = inv.sent_sy m w in omega arith;
-      stale_b = λ m w. let h = inv.sent_sx m (se m w) in let sv = inv.sent_ry vp vo v in omega arith;
+      stale_b = λ m w. let h = inv.sent_sx m (se m w) in let sv = inv.y.sent_r vp vo v in omega arith;
     },
   )

@@ -1,41 +1,26 @@
 -- What is kept while the unit is marked at a server X, in the plain numbers of Phases and Acks; Y is the other.
 use Rattle.std.specs.Prelude.{◌≡◌, ℕ, ◌<◌, ◌≤◌}
-use Rattle.pair_world.specs.Phases.{Ending}
+use Rattle.pair_world.specs.Acks.{OwnEnds}
+use Rattle.pair_world.specs.Phases.{Own}
 
 -- S m: an update says that the unit was seized, with count m. f is what Y's unit is once it took that: 0 free, 1 free
 -- backup. DX and DY say which change may be due.
 pub record Marked (f : ℕ) (DX DY : ℕ → ℕ → Type 0) (sx mx nx dx kx tx sy my ny dy ky ty ey : ℕ)
     (UX UY : ℕ → ℕ → ℕ → Type 0) (EX EY RX RY : ℕ → ℕ → Type 0) (SX SY : ℕ → Type 0) : Type 0 where
-  -- the change that is due is one that the unit's status allows
-  pub due_x : DX sx dx
-  pub due_y : DY sy dy
+  pub x : Own DX sx mx nx dx UX RX
+  pub y : Own DY sy my ny dy UY RY
   -- what X said of the unit but the mark is from before its last change
-  pub sent_ux : (c m n : ℕ) → UX c m n → (m < mx) × (n ≤ nx)
-  pub sent_rx : (p o : ℕ) → RX p o → (p ≤ mx) × (o ≤ nx)
+  pub before_x : (c m n : ℕ) → UX c m n → m < mx
+  pub before_ex : (m e : ℕ) → EX m e → m < mx
+  -- the marks that X said have counts no greater than its unit's, and those that Y said were seen by X
   pub sent_sx : (m : ℕ) → SX m → m ≤ mx
-  pub sent_ex : (m e : ℕ) → EX m e → m < mx
-  -- what Y said has counts no greater than its unit's
-  pub sent_uy : (c m n : ℕ) → UY c m n → (m ≤ my) × (n ≤ ny)
-  pub sent_ry : (p o : ℕ) → RY p o → (p ≤ my) × (o ≤ ny)
-  -- a mark that Y said was seen by X
   pub sent_sy : (m : ℕ) → SY m → m ≤ nx
-  pub sent_ey : (m e : ℕ) → EY m e → m ≤ my
-  -- since a lease ended nothing was accepted
-  pub replies_before_x : Ending sx dx → (p o : ℕ) → RX p o → p < mx
-  pub replies_before_y : Ending sy dy → (p o : ℕ) → RY p o → p < my
-  -- an update that was said after an acceptance has seen what was accepted
-  pub reply_then_update_x : (c m n p o : ℕ) → UX c m n → RX p o → p ≤ m → o ≤ n
-  pub reply_then_update_y : (c m n p o : ℕ) → UY c m n → RY p o → p ≤ m → o ≤ n
-  -- what Y says with its last count is the change that is due, with its end
-  pub last_word_y : Ending sy dy → (c m n : ℕ) → UY c m n → m ≡ my → c ≡ dy
-  pub last_active_y : (c m n : ℕ) → UY c m n → m ≡ my → dy ≡ 2 → (2 ≤ c) × (c ≤ 3)
-  pub last_end_y : (m e : ℕ) → EY m e → m ≡ my → dy ≡ 2 → e ≡ ey
   -- neither saw more than the other counted
   pub count_x : nx ≤ my
   pub count_y : ny ≤ mx
-  -- X was told nothing and has nothing acknowledged; nor has Y of a unit of a pool
+  -- X was told nothing and has nothing acknowledged
   pub no_ends_x : (kx ≡ 0) × (tx ≡ 0)
-  pub no_ends_y : sy ≤ 1 → (ky ≡ 0) × (ty ≡ 0)
+  pub ends_y : OwnEnds sy my dy ky ty ey UY EY
   -- once Y accepted the mark, its unit is as the mark wants it, and what it says later is that it is free
   pub answered : (p o : ℕ) → RY p o → o ≡ mx → (sy ≡ f) × (f ≡ 0 → p ≡ my)
   pub free_after : (p o : ℕ) → RY p o → o ≡ mx → (c m n : ℕ) → UY c m n → p < m → c ≡ 0

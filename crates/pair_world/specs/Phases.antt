@@ -28,28 +28,26 @@ Heard sa ma nb = (4 ≤ sa) × (nb ≡ ma)
 abbrev pub Gone : (na sb mb n : ℕ) → Type 0
 Gone na sb mb n = (4 ≤ sb) × (na ≡ mb) × (n < mb)
 
--- Of the primary's unit (a) and the secondary's (b): s the status, m its count, n what it saw of the other's count, d
--- the change that is due. U c m n: an update says c, with count m and seen count n. R p o: a reply of count p accepts the
+-- Of one server's unit: s the status, m its count, n what it saw of the other's count, d the change that is due, D which
+-- change may be due. U c m n: an update says c, with count m and seen count n. R p o: a reply of count p accepts the
 -- change of count o.
-pub record Phases (sa ma na da sb mb nb db : ℕ) (UA UB : ℕ → ℕ → ℕ → Type 0) (RA RB : ℕ → ℕ → Type 0) : Type 0 where
+pub record Own (D : ℕ → ℕ → Type 0) (s m n d : ℕ) (U : ℕ → ℕ → ℕ → Type 0) (R : ℕ → ℕ → Type 0) : Type 0 where
   -- the change that is due is one that the unit's status allows
-  pub due_a : Due sa da
-  pub due_b : DueAtB sb db
+  pub due : D s d
   -- what was said has counts no greater than the unit's
-  pub sent_ua : (c m n : ℕ) → UA c m n → (m ≤ ma) × (n ≤ na)
-  pub sent_ra : (p o : ℕ) → RA p o → (p ≤ ma) × (o ≤ na)
-  pub sent_ub : (c m n : ℕ) → UB c m n → (m ≤ mb) × (n ≤ nb)
-  pub sent_rb : (p o : ℕ) → RB p o → (p ≤ mb) × (o ≤ nb)
-  -- since a lease ended at the primary nothing was accepted there
-  pub replies_before_a : Ending sa da → (p o : ℕ) → RA p o → p < ma
-  -- and what it says with its last count is that end
-  pub last_word_a : Ending sa da → (c m n : ℕ) → UA c m n → m ≡ ma → c ≡ da
+  pub sent_u : (c k l : ℕ) → U c k l → (k ≤ m) × (l ≤ n)
+  pub sent_r : (p o : ℕ) → R p o → (p ≤ m) × (o ≤ n)
+  -- since a lease ended nothing was accepted
+  pub replies_before : Ending s d → (p o : ℕ) → R p o → p < m
+  -- and what is said with the last count is that end
+  pub last_word : Ending s d → (c k l : ℕ) → U c k l → k ≡ m → c ≡ d
   -- an update that was said after an acceptance has seen what was accepted
-  pub reply_then_update_a : (c m n p o : ℕ) → UA c m n → RA p o → p ≤ m → o ≤ n
-  -- the same three of the secondary
-  pub replies_before_b : Ending sb db → (p o : ℕ) → RB p o → p < mb
-  pub last_word_b : Ending sb db → (c m n : ℕ) → UB c m n → m ≡ mb → c ≡ db
-  pub reply_then_update_b : (c m n p o : ℕ) → UB c m n → RB p o → p ≤ m → o ≤ n
+  pub reply_then_update : (c k l p o : ℕ) → U c k l → R p o → p ≤ k → o ≤ l
+
+-- Of the primary's unit (a) and the secondary's (b), by the letters of Own.
+pub record Phases (sa ma na da sb mb nb db : ℕ) (UA UB : ℕ → ℕ → ℕ → Type 0) (RA RB : ℕ → ℕ → Type 0) : Type 0 where
+  pub a : Own Due sa ma na da UA RA
+  pub b : Own DueAtB sb mb nb db UB RB
   -- neither saw more than the other counted
   pub count_a : na ≤ mb
   pub count_b : nb ≤ ma
