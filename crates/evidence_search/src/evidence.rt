@@ -6,6 +6,9 @@ ghost use Rattle.evidence_search.specs.Search.{IsPutTogether};
 
 use crate::error::FindError;
 use crate::foreign::foreign_entries;
+use crate::linked_foreign::linked_foreign;
+use crate::linked_pieces::linked_pieces;
+use crate::messages::Messages;
 use crate::pieces::pieces;
 use crate::query::Query;
 use auditor::LineSource;
@@ -35,4 +38,47 @@ pub fn evidence<S: LineSource>(
         pieces,
         foreign,
     })
+}
+
+/// The most lines of a certificate's text.
+const MOST_LINES: usize = 65_536;
+
+/// Whether the certificate's text keeps its limit: a line for each piece and entry, four before them and one behind.
+fn is_short(certificate: &Certificate) -> bool {
+    let mut lines = certificate
+        .foreign
+        .as_slice()
+        .len()
+        .saturating_add(certificate.pieces.as_slice().len())
+        .saturating_add(5);
+    for piece in certificate.pieces.as_slice() {
+        lines = lines.saturating_add(piece.clear.as_slice().len());
+    }
+    lines <= MOST_LINES
+}
+
+/// The certificate that chains through both journals make for the query, no longer than a text may be. `NoneFound`
+/// where they make none.
+pub fn linked_evidence<S: LineSource>(
+    alloc: Global,
+    source: &S,
+    query: &Query,
+) -> Result<Certificate, FindError>
+    ensures { IfOk result (Claims query.now) }
+{
+    let messages = Messages::between(alloc, source)?;
+    let foreign = linked_foreign(alloc, source, &messages, query)?;
+    let pieces = linked_pieces(alloc, source, &messages, query)?;
+    let certificate = Certificate {
+        holder: query.holder,
+        prefix: query.prefix,
+        from: query.from,
+        to: query.to,
+        pieces,
+        foreign,
+    };
+    if !is_short(&certificate) {
+        return Err(FindError::NoneFound);
+    }
+    Ok(certificate)
 }

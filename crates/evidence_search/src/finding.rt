@@ -6,7 +6,7 @@ ghost use Rattle.book_rules.specs.NextHead.{IsLegal};
 ghost use Rattle.evidence_search.specs.Claim.{asked, Claims, IsShown, HasNoPlainEvidence};
 
 use crate::error::FindError;
-use crate::evidence::evidence;
+use crate::evidence::{evidence, linked_evidence};
 use crate::query::Query;
 use attribution::Verdict;
 use auditor::{LineSource, audit};
@@ -31,9 +31,13 @@ fn is_shown<S: LineSource>(source: &S, query: &Query, certificate: &Certificate)
     is_accepted(&audit(source, certificate, query.skew, query.transit))
 }
 
-/// The certificate that the lines make for the query, where the auditor accepts it.
+/// The certificate that single lines make for the query, where the auditor accepts it.
 #[tactic(auto, using(crate::proofs::Complete::none_of_empty))]
-fn search<S: LineSource>(alloc: Global, source: &S, query: &Query) -> Result<Certificate, FindError>
+fn plain_search<S: LineSource>(
+    alloc: Global,
+    source: &S,
+    query: &Query,
+) -> Result<Certificate, FindError>
     ensures claims { IfOk result (Claims query.now) }
     ensures shown { IfOk result (IsShown (S.journals source.now) query.now) }
     ensures headline { IfOk result
@@ -50,10 +54,43 @@ fn search<S: LineSource>(alloc: Global, source: &S, query: &Query) -> Result<Cer
     Ok(certificate)
 }
 
+/// The certificate that chains through both journals make for the query, where the auditor accepts it.
+fn linked_search<S: LineSource>(
+    alloc: Global,
+    source: &S,
+    query: &Query,
+) -> Result<Certificate, FindError>
+    ensures claims { IfOk result (Claims query.now) }
+    ensures shown { IfOk result (IsShown (S.journals source.now) query.now) }
+    ensures headline { IfOk result
+        (IsTrueInEveryRun IsLegal (S.journals source.now) query.now.skew query.now.transit) }
+{
+    let certificate = linked_evidence(alloc, source, query)?;
+    if !is_shown(source, query, &certificate) {
+        return Err(FindError::NoneFound);
+    }
+    Ok(certificate)
+}
+
+/// What single lines show of the query, or else what chains do.
+fn search<S: LineSource>(alloc: Global, source: &S, query: &Query) -> Result<Certificate, FindError>
+    ensures claims { IfOk result (Claims query.now) }
+    ensures shown { IfOk result (IsShown (S.journals source.now) query.now) }
+    ensures headline { IfOk result
+        (IsTrueInEveryRun IsLegal (S.journals source.now) query.now.skew query.now.transit) }
+    ensures none { IsErrOf result FindError.NoneFound → HasNoPlainEvidence (S.journals source.now) query.now }
+{
+    match plain_search(alloc, source, query) {
+        Err(FindError::NoneFound) => linked_search(alloc, source, query),
+        plain => plain,
+    }
+}
+
 /// Searches for a certificate that the client held the whole prefix from the one moment up to the other, in
-/// milliseconds of true time, and gives only what `audit` accepts. `NoneFound` where it accepts no plain one: whose
-/// chains are single lines, and which orders two lines by their journal or by their clocks. `Memory` where a growth
-/// was refused.
+/// milliseconds of true time, and gives only what `audit` accepts: one of single lines where there is one, and else
+/// one of chains through both servers' messages, no longer than a certificate's text may be. `NoneFound` where neither
+/// was found, and `audit` accepts no plain one: whose chains are single lines, and which orders two lines by their
+/// journal or by their clocks. `Memory` where a growth was refused.
 pub fn find_certificate<S: LineSource>(
     alloc: Global,
     source: &S,

@@ -19,7 +19,7 @@ use lead_time::Reading;
 use std::alloc::Global;
 
 /// Whether what was told of at this reading has ended by the query's beginning.
-fn has_ended(query: &Query, lasting: Lasting, told: Reading) -> bool
+pub fn has_ended(query: &Query, lasting: Lasting, told: Reading) -> bool
     ensures { IsTrue result ↔ EndsBy query.now.skew query.now.transit told query.now.from lasting }
 {
     let late = query.skew.milliseconds() + query.transit.milliseconds();
@@ -34,7 +34,7 @@ fn has_ended(query: &Query, lasting: Lasting, told: Reading) -> bool
 }
 
 /// Whether what is told of at this reading begins past the query.
-fn begins_late(query: &Query, lasting: Lasting, told: Reading) -> bool
+pub fn begins_late(query: &Query, lasting: Lasting, told: Reading) -> bool
     ensures { IsTrue result ↔ (IsNew lasting × (query.now.to + query.now.skew ≤ told)) }
 {
     match lasting {
@@ -87,7 +87,7 @@ fn is_anothers(delegation: &Delegation, query: &Query) -> bool
 }
 
 /// Another client's delegation of a prefix that overlaps the one asked of, which the line tells of.
-fn others_at<L: Lines>(lines: &L, query: &Query, at: Ref) -> Option<Delegation>
+pub fn others_at<L: Lines>(lines: &L, query: &Query, at: Ref) -> Option<Delegation>
     ensures { MatchOption result
         ((d : DelegationValue) → IsOthersAt (L.journals lines.now) query.now at d → ⊥)
         (IsOthersAt (L.journals lines.now) query.now at) }

@@ -50,7 +50,7 @@ fn is_past_partners<S: LineSource>(source: &S, at: Ref, reading: Reading, skew: 
 }
 
 /// Whether the lease is the holder's, of a prefix round the one asked of.
-fn is_holders(lease: &Lease, query: &Query) -> bool
+pub fn is_holders(lease: &Lease, query: &Query) -> bool
     ensures { IsTrue result ↔ IsHolders lease.now query.now }
 {
     lease.client == query.holder && lease.prefix.contains(&query.prefix)
@@ -78,7 +78,7 @@ fn candidate_at<S: LineSource>(source: &S, query: &Query, at: Ref) -> Option<Can
 }
 
 /// From when on the grant may carry a piece: its answer has reached the client. `None` where that is past the query.
-fn begin_of(query: &Query, candidate: &Candidate) -> Option<Reading>
+pub fn begin_of(query: &Query, candidate: &Candidate) -> Option<Reading>
     ensures { MatchOption result (query.now.to ≤ begin_of query.now candidate.now)
         (λ begin. begin ≡ begin_of query.now candidate.now) }
 {
@@ -92,7 +92,7 @@ fn begin_of(query: &Query, candidate: &Candidate) -> Option<Reading>
 }
 
 /// The reading up to which the lease lasts, but none past the query.
-fn lease_limit(query: &Query, candidate: &Candidate) -> u64
+pub fn lease_limit(query: &Query, candidate: &Candidate) -> u64
     ensures value { result ≡ lease_limit query.now candidate.now }
     ensures within { result ≤ 2 ^ 48 + query.now.skew }
 {
@@ -104,7 +104,7 @@ fn lease_limit(query: &Query, candidate: &Candidate) -> u64
 }
 
 /// The moment that is the skew before this reading, where there is one.
-fn less_skew(reading: u64, skew: Skew) -> Option<Reading>
+pub fn less_skew(reading: u64, skew: Skew) -> Option<Reading>
     ensures { MatchOption result ((reading < skew) ⊎ (2 ^ 48 + skew < reading)) (λ m. m + skew ≡ reading) }
 {
     Reading::new(reading.checked_sub(skew.milliseconds())?).ok()

@@ -1,5 +1,5 @@
 use Rattle.evidence_search.proofs.Complete.{none_refused}
-use Rattle.evidence_search.proofs.finding.search.Goals as goal
+use Rattle.evidence_search.proofs.finding.plain_search.Goals as goal
 
 pub returns-then-not-is_shown-clause-none : goal.returns-then-not-is_shown-clause-none
 returns-then-not-is_shown-clause-none g c _ =
