@@ -32,3 +32,4 @@ mod releases;
 
 pub use error::FindError;
 pub use finding::find_certificate;
+pub use query::Query;

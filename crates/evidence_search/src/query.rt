@@ -5,7 +5,7 @@ use lead_time::{Reading, Skew, Transit};
 use prefix_range::Prefix;
 
 /// Whether a client held a whole prefix from one moment up to another, and the bounds under which it must be shown.
-#[derive(Clone, Copy, Debug)]
+#[derive(Clone, Copy, Debug, PartialEq, Eq)]
 pub struct Query {
     pub holder: Duid,
     pub prefix: Prefix,
