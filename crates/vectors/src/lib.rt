@@ -8,6 +8,8 @@ mod changes;
 #[cfg(test)]
 mod evidence;
 #[cfg(test)]
+mod findings;
+#[cfg(test)]
 mod headline;
 #[cfg(test)]
 mod inputs;

@@ -1,0 +1,9 @@
+use Rattle.std.proofs.Common.{length}
+use Rattle.evidence_search.proofs.Reasons.{AreNamed}
+use Rattle.evidence_search.proofs.foreign.foreign_entries.Given as goal
+
+abbrev pub invariant-loop-grant : goal.invariant-loop-grant
+invariant-loop-grant g l = AreNamed (g.S.Lines.journals l.source) l.query (g.S.LineSource.left l.source l.query.prefix l.walk) l.entries
+
+abbrev pub decreases-loop-grant : goal.decreases-loop-grant
+decreases-loop-grant g l = length (g.S.LineSource.left l.source l.query.prefix l.walk)

@@ -1,0 +1,9 @@
+use Rattle.std.proofs.Common.{length}
+use Rattle.evidence_search.proofs.Carrying.{AreReached}
+use Rattle.evidence_search.proofs.reach.reaches.Given as goal
+
+abbrev pub invariant-loop-at : goal.invariant-loop-at
+invariant-loop-at g l = AreReached (g.S.Lines.journals l.source) l.query (g.S.LineSource.left l.source l.query.prefix l.walk) l.reaches.items
+
+abbrev pub decreases-loop-at : goal.decreases-loop-at
+decreases-loop-at g l = length (g.S.LineSource.left l.source l.query.prefix l.walk)

@@ -1,0 +1,110 @@
+//! What chains show of when a line was written.
+
+use crate::asking::reading_at;
+use crate::messages::{Messages, Passage};
+use causal_order::{Chain, Lines, Ref};
+use lead_time::Reading;
+use std::alloc::{AllocError, Global};
+
+/// The reading at the far end of a chain, and the message that the chain goes over: none where it is the line alone.
+#[derive(Clone, Copy, Debug)]
+pub struct Bound {
+    pub reading: Reading,
+    pub over: Option<Passage>,
+}
+
+/// The lines that send and take a message of the server at `from`.
+pub fn ends_of(from: Ref, passage: Passage) -> (Ref, Ref) {
+    let send = Ref {
+        side: from.side,
+        number: passage.send,
+    };
+    let take = Ref {
+        side: from.side.partner(),
+        number: passage.take,
+    };
+    (send, take)
+}
+
+/// These references in their order, but none twice in a row.
+pub fn chain_of(alloc: Global, refs: &[Ref]) -> Result<Chain, AllocError> {
+    let mut chain: Vec<Ref> = Vec::new(alloc);
+    for at in refs {
+        if chain.last() != Some(at) {
+            chain.push(*at)?;
+        }
+    }
+    Ok(Chain::new(chain))
+}
+
+/// The least reading that a chain from the line can end in.
+pub fn latest<L: Lines>(lines: &L, messages: &Messages, at: Ref) -> Option<Bound> {
+    let reading = reading_at(lines, at)?;
+    let alone = Bound {
+        reading,
+        over: None,
+    };
+    let Some(passage) = messages.sent_behind(at) else {
+        return Some(alone);
+    };
+    let (_, take) = ends_of(at, passage);
+    let taken = reading_at(lines, take)?;
+    if taken >= reading {
+        return Some(alone);
+    }
+    Some(Bound {
+        reading: taken,
+        over: Some(passage),
+    })
+}
+
+/// What the last message shows that was taken at the line or before it.
+pub fn over_message<L: Lines>(lines: &L, messages: &Messages, at: Ref) -> Option<Bound> {
+    let passage = messages.taken_before(at)?;
+    let send = Ref {
+        side: at.side.partner(),
+        number: passage.send,
+    };
+    let reading = reading_at(lines, send)?;
+    Some(Bound {
+        reading,
+        over: Some(passage),
+    })
+}
+
+/// The greatest reading that a chain to the line can begin in.
+pub fn earliest<L: Lines>(lines: &L, messages: &Messages, at: Ref) -> Option<Bound> {
+    let reading = reading_at(lines, at)?;
+    match over_message(lines, messages, at) {
+        Some(bound) if bound.reading > reading => Some(bound),
+        _ => Some(Bound {
+            reading,
+            over: None,
+        }),
+    }
+}
+
+/// The chain from the line that shows the bound.
+pub fn latest_chain(alloc: Global, at: Ref, bound: &Bound) -> Result<Chain, AllocError> {
+    let Some(passage) = bound.over else {
+        return chain_of(alloc, &[at]);
+    };
+    let (send, take) = ends_of(at, passage);
+    chain_of(alloc, &[at, send, take])
+}
+
+/// The chain to the line that shows the bound.
+pub fn earliest_chain(alloc: Global, at: Ref, bound: &Bound) -> Result<Chain, AllocError> {
+    let Some(passage) = bound.over else {
+        return chain_of(alloc, &[at]);
+    };
+    let send = Ref {
+        side: at.side.partner(),
+        number: passage.send,
+    };
+    let take = Ref {
+        side: at.side,
+        number: passage.take,
+    };
+    chain_of(alloc, &[send, take, at])
+}

@@ -1,0 +1,84 @@
+//! What a search puts together.
+
+ghost use Rattle.std.specs.Prelude.{IfOk, IsErrOf, ◌<◌};
+ghost use Rattle.evidence_search.specs.Claim.{Claims, HasNoPlainEvidence};
+ghost use Rattle.evidence_search.specs.Search.{IsPutTogether};
+
+use crate::error::FindError;
+use crate::foreign::foreign_entries;
+use crate::linked_foreign::linked_foreign;
+use crate::linked_pieces::linked_pieces;
+use crate::messages::Messages;
+use crate::pieces::pieces;
+use crate::query::Query;
+use auditor::LineSource;
+use claims::Certificate;
+use std::alloc::Global;
+
+/// The certificate that the lines make for the query. `NoneFound` where a moment is carried by no grant, or another
+/// client's delegation is in the way.
+#[tactic(auto, using(crate::proofs::Complete::none_in_the_way, crate::proofs::Complete::none_over_gap))]
+pub fn evidence<S: LineSource>(
+    alloc: Global,
+    source: &S,
+    query: &Query,
+) -> Result<Certificate, FindError>
+    requires { query.now.from < query.now.to }
+    ensures claims { IfOk result (Claims query.now) }
+    ensures made { IfOk result (IsPutTogether (S.journals source.now) query.now) }
+    ensures none { IsErrOf result FindError.NoneFound → HasNoPlainEvidence (S.journals source.now) query.now }
+{
+    let foreign = foreign_entries(alloc, source, query)?;
+    let pieces = pieces(alloc, source, query)?;
+    Ok(Certificate {
+        holder: query.holder,
+        prefix: query.prefix,
+        from: query.from,
+        to: query.to,
+        pieces,
+        foreign,
+    })
+}
+
+/// The most lines of a certificate's text.
+const MOST_LINES: usize = 65_536;
+
+/// Whether the certificate's text keeps its limit: a line for each piece and entry, four before them and one behind.
+fn is_short(certificate: &Certificate) -> bool {
+    let mut lines = certificate
+        .foreign
+        .as_slice()
+        .len()
+        .saturating_add(certificate.pieces.as_slice().len())
+        .saturating_add(5);
+    for piece in certificate.pieces.as_slice() {
+        lines = lines.saturating_add(piece.clear.as_slice().len());
+    }
+    lines <= MOST_LINES
+}
+
+/// The certificate that chains through both journals make for the query, no longer than a text may be. `NoneFound`
+/// where they make none.
+pub fn linked_evidence<S: LineSource>(
+    alloc: Global,
+    source: &S,
+    query: &Query,
+) -> Result<Certificate, FindError>
+    ensures { IfOk result (Claims query.now) }
+{
+    let messages = Messages::between(alloc, source)?;
+    let foreign = linked_foreign(alloc, source, &messages, query)?;
+    let pieces = linked_pieces(alloc, source, &messages, query)?;
+    let certificate = Certificate {
+        holder: query.holder,
+        prefix: query.prefix,
+        from: query.from,
+        to: query.to,
+        pieces,
+        foreign,
+    };
+    if !is_short(&certificate) {
+        return Err(FindError::NoneFound);
+    }
+    Ok(certificate)
+}

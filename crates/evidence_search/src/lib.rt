@@ -1,0 +1,35 @@
+//! Finds the evidence that a client held a prefix.
+//!
+//! An abuse desk has a prefix and a time, not a certificate. [`find_certificate`] searches two journals for the grants
+//! of the holder that carry the interval, end to end, for the reason why each other client's delegation stays out of
+//! it, and asks the auditor of what it found. So it needn't be believed: what it gives is judged as any certificate is.
+//!
+//! It looks at single lines and at pairs of them first, and misses no certificate that is made of these (specs/Plain).
+//! Where they don't show it, it looks at what the partners told each other: `messages` has the ways from one journal to
+//! the other, `bounds` the best chain from a line and to a line, `linking` how chains order two lines. specs/Claim is
+//! what a search is asked, specs/Search is for bodies only.
+//!
+//! ```text
+//! let certificate = find_certificate(alloc, &index, holder, prefix, from, to, skew, Transit::ZERO)?;
+//! ```
+#![tactic(auto)]
+
+mod asking;
+mod bounds;
+mod error;
+mod evidence;
+mod finding;
+mod foreign;
+mod linked_foreign;
+mod linked_pieces;
+mod linking;
+mod messages;
+mod ordering;
+mod pieces;
+mod query;
+mod reach;
+mod releases;
+
+pub use error::FindError;
+pub use finding::find_certificate;
+pub use query::Query;

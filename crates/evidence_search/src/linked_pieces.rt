@@ -1,0 +1,205 @@
+//! The pieces that carry an interval, by chains through both journals.
+
+use crate::asking::{lease_at, reading_at};
+use crate::bounds::{Bound, earliest, earliest_chain, latest, latest_chain, over_message};
+use crate::error::FindError;
+use crate::linking::{is_before, order};
+use crate::messages::Messages;
+use crate::ordering::are_apart;
+use crate::query::Query;
+use crate::reach::{Candidate, Reach, begin_of, farthest, is_holders, lease_limit, less_skew};
+use attribution::Delegation;
+use auditor::LineSource;
+use causal_order::{Lines, Ref};
+use claims::{Clear, ClearList, Piece, PieceList, Why};
+use lead_time::{Reading, Skew};
+use std::alloc::{AllocError, Global};
+
+/// Whether the bound shows that the line was written after its server's partner opened its journal.
+fn is_past_open<S: LineSource>(source: &S, at: Ref, bound: &Bound, skew: Skew) -> bool {
+    let partner = at.side.partner();
+    if source.volume(partner) <= 1 || bound.over.is_some() {
+        return true;
+    }
+    let open = Ref {
+        side: partner,
+        number: 1,
+    };
+    match reading_at(source, open) {
+        Some(opened) => are_apart(opened, bound.reading, skew),
+        None => false,
+    }
+}
+
+/// From when the grant was written, behind its partner's earlier volumes.
+fn granted_from<S: LineSource>(
+    source: &S,
+    messages: &Messages,
+    at: Ref,
+    skew: Skew,
+) -> Option<Bound> {
+    let bound = earliest(source, messages, at)?;
+    if is_past_open(source, at, &bound, skew) {
+        return Some(bound);
+    }
+    over_message(source, messages, at)
+}
+
+/// What releases leave of this reading, up to which a lease lasts.
+fn kept_limit<S: LineSource>(
+    source: &S,
+    messages: &Messages,
+    candidate: &Candidate,
+    skew: Skew,
+    limit: u64,
+) -> u64 {
+    let delegation = Delegation::of_lease(&candidate.lease);
+    let mut kept = limit;
+    let mut walk = source.releases(&delegation);
+    while let Some(release) = source.next_release(&delegation, &mut walk) {
+        if is_before(source, messages, release, candidate.grant, skew) {
+            continue;
+        }
+        if let Some(bound) = earliest(source, messages, release) {
+            kept = kept.min(bound.reading.milliseconds());
+        }
+    }
+    kept
+}
+
+/// The line as a grant with the moments of the query that it carries, where there are any.
+fn reach_at<S: LineSource>(
+    source: &S,
+    messages: &Messages,
+    query: &Query,
+    grant: Ref,
+) -> Option<Reach> {
+    let lease = lease_at(source, grant)?;
+    if !is_holders(&lease, query) {
+        return None;
+    }
+    let reached = latest(source, messages, grant)?;
+    let begin = begin_of(
+        query,
+        &Candidate {
+            grant,
+            lease,
+            reading: reached.reading,
+        },
+    )?;
+    let granted = granted_from(source, messages, grant, query.skew)?;
+    let candidate = Candidate {
+        grant,
+        lease,
+        reading: granted.reading,
+    };
+    let limit = lease_limit(query, &candidate);
+    let kept = kept_limit(source, messages, &candidate, query.skew, limit);
+    let end = less_skew(kept, query.skew)?;
+    Some(Reach { grant, begin, end })
+}
+
+/// The grants that carry moments of the query.
+fn reaches<S: LineSource>(
+    alloc: Global,
+    source: &S,
+    messages: &Messages,
+    query: &Query,
+) -> Result<Vec<Reach>, AllocError> {
+    let mut reaches = Vec::new(alloc);
+    let mut walk = source.overlaps(&query.prefix);
+    while let Some(at) = source.next_overlap(&query.prefix, &mut walk) {
+        if let Some(reach) = reach_at(source, messages, query, at) {
+            reaches.push(reach)?;
+        }
+    }
+    Ok(reaches)
+}
+
+/// Why the release doesn't cut a piece of the grant short.
+fn why_cleared<L: Lines>(
+    alloc: Global,
+    lines: &L,
+    messages: &Messages,
+    release: Ref,
+    grant: Ref,
+    skew: Skew,
+) -> Result<Why, FindError> {
+    if is_before(lines, messages, release, grant, skew) {
+        let order = order(alloc, lines, messages, release, grant, skew)?;
+        return Ok(Why::Before(order));
+    }
+    let Some(bound) = earliest(lines, messages, release) else {
+        return Err(FindError::NoneFound);
+    };
+    Ok(Why::After(earliest_chain(alloc, release, &bound)?))
+}
+
+/// An entry for each release that gives back what the grant gave.
+fn clears<S: LineSource>(
+    alloc: Global,
+    source: &S,
+    messages: &Messages,
+    grant: Ref,
+    skew: Skew,
+) -> Result<ClearList, FindError> {
+    let mut clears = ClearList::new(alloc);
+    let Some(lease) = lease_at(source, grant) else {
+        return Ok(clears);
+    };
+    let delegation = Delegation::of_lease(&lease);
+    let mut walk = source.releases(&delegation);
+    while let Some(release) = source.next_release(&delegation, &mut walk) {
+        let why = why_cleared(alloc, source, messages, release, grant, skew)?;
+        clears.push(Clear { release, why })?;
+    }
+    Ok(clears)
+}
+
+/// The piece that the reach carries from this moment on.
+fn piece_of<S: LineSource>(
+    alloc: Global,
+    source: &S,
+    messages: &Messages,
+    reach: &Reach,
+    from: Reading,
+    skew: Skew,
+) -> Result<Piece, FindError> {
+    let grant = reach.grant;
+    let (Some(reached), Some(granted)) = (
+        latest(source, messages, grant),
+        granted_from(source, messages, grant, skew),
+    ) else {
+        return Err(FindError::NoneFound);
+    };
+    let clear = clears(alloc, source, messages, grant, skew)?;
+    Ok(Piece {
+        grant,
+        from,
+        to: reach.end,
+        latest: latest_chain(alloc, grant, &reached)?,
+        earliest: earliest_chain(alloc, grant, &granted)?,
+        clear,
+    })
+}
+
+/// Pieces end to end over the query, each of the grant that reaches farthest. `NoneFound` where no grant carries some
+/// moment.
+pub fn linked_pieces<S: LineSource>(
+    alloc: Global,
+    source: &S,
+    messages: &Messages,
+    query: &Query,
+) -> Result<PieceList, FindError> {
+    let reaches = reaches(alloc, source, messages, query)?;
+    let mut pieces = PieceList::new(Vec::new(alloc));
+    let mut from = query.from;
+    while from < query.to {
+        let Some(reach) = farthest(&reaches, from) else {
+            return Err(FindError::NoneFound);
+        };
+        pieces.push(piece_of(alloc, source, messages, &reach, from, query.skew)?)?;
+        from = reach.end;
+    }
+    Ok(pieces)
+}
