@@ -1,6 +1,6 @@
 //! Books out of lines.
 
-use crate::books::{PRIMARY, check_text};
+use crate::books::{PRIMARY, check_text, opened};
 use crate::steps::{Deed, Step, Wanted, after, check, place};
 use binding_rules::Role;
 use book_rules::Rule;
@@ -18,8 +18,8 @@ const CLOSED: [Step; 2] = [
 const WHOLE_HOUR: &[u8] =
     b"pd-journal 1 A\n1 9000 open 2000 3600 3600\n2 9000 pool 2001:0db8:0000:0000:0000:0000:0000:0000/48 56\n3 10000 grant 00030001020000000001 00000001 2001:0db8:0000:0000:0000:0000:0000:0000/56 3600\n4 3700000 close\nend 4\n";
 
-/// What a book of no lines has to give.
-const NOTHING: [Step; 3] = [
+/// What clients get of a book without units.
+const NOTHING: [Step; 2] = [
     (
         10_000,
         Deed::Request(1, None),
@@ -30,8 +30,13 @@ const NOTHING: [Step; 3] = [
         Deed::Renew(1, None),
         Wanted::Refused(BookError::NoBinding),
     ),
-    (10_000, Deed::Close, Wanted::Breaks(1, Rule::Opening)),
 ];
+
+/// Nothing was opened that could be closed.
+const UNOPENED: [Step; 1] = [(10_000, Deed::Close, Wanted::Breaks(1, Rule::Opening))];
+
+/// The second line is to be a pool's.
+const POOLLESS: [Step; 1] = [(10_000, Deed::Close, Wanted::Breaks(2, Rule::Pools))];
 
 /// The primary's book of these lines.
 fn replayed(alloc: Global, lines: &[Line]) -> Result<Book, BookError> {
@@ -134,7 +139,24 @@ fn names_the_first_broken_rule(rt: HostRuntime) -> Result<(), Fail> {
 }
 
 #[test]
-fn has_no_units_without_pools(rt: HostRuntime) -> Result<(), Fail> {
+fn has_no_units_without_lines(rt: HostRuntime) -> Result<(), Fail> {
     let mut book = replayed(rt.alloc(), &[])?;
-    check(&rt, &mut book, &NOTHING)
+    check(&rt, &mut book, &NOTHING)?;
+    check(&rt, &mut book, &UNOPENED)
+}
+
+/// The book of the open line alone.
+fn without_pools(alloc: Global) -> Result<Book, Fail> {
+    let book = opened(alloc, PRIMARY)?;
+    match book.journal().first() {
+        Some(line) => Ok(replayed(alloc, &[*line])?),
+        None => Err(Fail::from("no lines")),
+    }
+}
+
+#[test]
+fn has_no_units_without_pools(rt: HostRuntime) -> Result<(), Fail> {
+    let mut book = without_pools(rt.alloc())?;
+    check(&rt, &mut book, &NOTHING)?;
+    check(&rt, &mut book, &POOLLESS)
 }
