@@ -16,6 +16,7 @@ pub record OwnEnds (s m d k t e : ℕ) (U : ℕ → ℕ → ℕ → Type 0) (E :
 -- Of the primary (a) and the secondary (b), by the letters of OwnEnds.
 pub record Acks (sa ma na da ka ta ea sb mb nb db kb tb eb : ℕ) (UA UB : ℕ → ℕ → ℕ → Type 0)
     (EA EB : ℕ → ℕ → Type 0) (RA RB : ℕ → ℕ → Type 0) : Type 0 where
+  -- what each of the two keeps by itself
   pub a : OwnEnds sa ma da ka ta ea UA EA
   pub b : OwnEnds sb mb db kb tb eb UB EB
   -- where the unit is active at one and outside the other's pool, what the one has acknowledged the other was told

@@ -7,6 +7,7 @@ use Rattle.pair_world.specs.Phases.{Own}
 -- backup. DX and DY say which change may be due.
 pub record Marked (f : ℕ) (DX DY : ℕ → ℕ → Type 0) (sx mx nx dx kx tx sy my ny dy ky ty ey : ℕ)
     (UX UY : ℕ → ℕ → ℕ → Type 0) (EX EY RX RY : ℕ → ℕ → Type 0) (SX SY : ℕ → Type 0) : Type 0 where
+  -- what each of the two keeps by itself
   pub x : Own DX sx mx nx dx UX RX
   pub y : Own DY sy my ny dy UY RY
   -- what X said of the unit but the mark is from before its last change
@@ -20,6 +21,7 @@ pub record Marked (f : ℕ) (DX DY : ℕ → ℕ → Type 0) (sx mx nx dx kx tx 
   pub count_y : ny ≤ mx
   -- X was told nothing and has nothing acknowledged
   pub no_ends_x : (kx ≡ 0) × (tx ≡ 0)
+  -- Y's ends are as ever
   pub ends_y : OwnEnds sy my dy ky ty ey UY EY
   -- once Y accepted the mark, its unit is as the mark wants it, and what it says later is that it is free
   pub answered : (p o : ℕ) → RY p o → o ≡ mx → (sy ≡ f) × (f ≡ 0 → p ≡ my)

@@ -46,6 +46,7 @@ pub record Own (D : ℕ → ℕ → Type 0) (s m n d : ℕ) (U : ℕ → ℕ →
 
 -- Of the primary's unit (a) and the secondary's (b), by the letters of Own.
 pub record Phases (sa ma na da sb mb nb db : ℕ) (UA UB : ℕ → ℕ → ℕ → Type 0) (RA RB : ℕ → ℕ → Type 0) : Type 0 where
+  -- what each of the two keeps by itself
   pub a : Own Due sa ma na da UA RA
   pub b : Own DueAtB sb mb nb db UB RB
   -- neither saw more than the other counted
