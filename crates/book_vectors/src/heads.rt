@@ -1,5 +1,5 @@
-//! A head that leaves no room for a further line. Some 5 seconds and 1.3 GB as the gate builds it; `rt try --test` needs
-//! more than its minute.
+//! A head that leaves no room for a further line. It takes some 5 seconds and 1.3 GB as the gate builds it, and
+//! `rt try --test` needs more than its minute.
 
 use crate::steps::{Deed, Step, Wanted, check};
 use crate::volumes::{refusal, second};
