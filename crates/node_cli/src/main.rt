@@ -45,8 +45,8 @@ fn answer<R: Threads + Wait + Sync + Net + Clock>(
             let units = units_of(&settings);
             Ok((format!(in alloc; "ok {units}\n")?.into_bytes(), 0))
         }
-        (Command::Run { count }, Ok(settings)) => {
-            Ok((run_node(rt, alloc, &settings, count)?, 0))
+        (Command::Run { count, partner }, Ok(settings)) => {
+            Ok((run_node(rt, alloc, &settings, count, partner)?, 0))
         }
     }
 }

@@ -3,11 +3,12 @@
 ghost use Rattle.std.specs.Prelude.{◌≡◌, ◌≤◌, length};
 
 use crate::fault::Fault;
+use binding_rules::ServerState;
 use client_id::Duid;
 use journal_text::write;
 use locked_book::{BookName, SharedBook};
 use node_threads::{
-    Clock, Datagrams, NodeSettings, SystemClock, Turns, UdpDatagrams, serve_datagrams,
+    Clock, Datagrams, NodeSettings, Partner, SystemClock, Turns, UdpDatagrams, serve_datagrams,
 };
 use server_book::{Book, Order};
 use std::alloc::Global;
@@ -30,6 +31,7 @@ fn serve<N: BookName + Send + Sync, R: Threads + Wait + Sync, D: Datagrams + Syn
     datagrams: &D,
     clock: &C,
     turns: &Turns,
+    partner: Partner,
 ) -> Result<Book, Fault>
     requires name { blank.name ≡ N.name }
     requires passes { (blank.parts ≡ N.parts) × (N.parts ≡ workers) × (N.passes ≡ workers) }
@@ -43,7 +45,9 @@ fn serve<N: BookName + Send + Sync, R: Threads + Wait + Sync, D: Datagrams + Syn
         rt,
         passes,
         &|mut pass| {
-            let ended = serve_datagrams(rt, alloc, lent, &mut pass, own, datagrams, clock, turns);
+            let ended = serve_datagrams(
+                rt, alloc, lent, &mut pass, own, datagrams, clock, turns, partner,
+            );
             (ended, pass)
         },
     )?;
@@ -69,13 +73,25 @@ fn closes<C: Clock>(book: &mut Book, clock: &C) -> Result<(), Fault> {
     }
 }
 
-fn opened<C: Clock>(alloc: Global, settings: &NodeSettings, clock: &C) -> Result<Book, Fault> {
+/// The book of a server whose partner is taken for up or down from now on.
+fn opened<C: Clock>(
+    alloc: Global,
+    settings: &NodeSettings,
+    partner: Partner,
+    clock: &C,
+) -> Result<Book, Fault> {
     let Ok(now) = clock.now() else {
         return Err(Fault::Net);
     };
-    match Book::open(alloc, now, &settings.server) {
-        Ok(book) => Ok(book),
-        Err(_) => Err(Fault::Memory),
+    let Ok(mut book) = Book::open(alloc, now, &settings.server) else {
+        return Err(Fault::Memory);
+    };
+    match partner {
+        Partner::Up => Ok(book),
+        Partner::Down => match book.apply(now, &Order::State(ServerState::Down)) {
+            Ok(_) => Ok(book),
+            Err(_) => Err(Fault::Memory),
+        },
     }
 }
 
@@ -85,6 +101,7 @@ pub fn run_node<R: Threads + Wait + Sync + Net + Handle>(
     alloc: Global,
     settings: &NodeSettings,
     count: u32,
+    partner: Partner,
 ) -> Result<Vec<u8>, Fault> {
     let Ok(socket) = UdpSocket::bind(rt, settings.ways.listen) else {
         return Err(Fault::Net);
@@ -92,7 +109,7 @@ pub fn run_node<R: Threads + Wait + Sync + Net + Handle>(
     let datagrams = UdpDatagrams::new(socket);
     let clock = SystemClock::new(rt);
     let turns = Turns::new(count);
-    let book = opened(alloc, settings, &clock)?;
+    let book = opened(alloc, settings, partner, &clock)?;
     let workers = settings.ways.workers();
     let mut book = serve::<Brand, _, _, _>(
         rt,
@@ -104,6 +121,7 @@ pub fn run_node<R: Threads + Wait + Sync + Net + Handle>(
         &datagrams,
         &clock,
         &turns,
+        partner,
     )?;
     closes(&mut book, &clock)?;
     match write(alloc, book.role(), book.head(), book.journal()) {

@@ -3,6 +3,7 @@
 use crate::fault::Fault;
 use clap::error::ErrorKind;
 use clap::{Arg, ArgAction, ArgMatches, Command as ClapCommand, Error as ClapError};
+use node_threads::Partner;
 use std::alloc::{AllocError, Global};
 use text_fields::number_of;
 
@@ -15,16 +16,19 @@ pub enum Command {
     /// Say what the settings on standard input are worth.
     Check,
     /// Serve so many datagrams, and write the journal.
-    Run { count: u32 },
+    Run { count: u32, partner: Partner },
 }
 
-/// `check`, and `run --count N`.
+/// `check`, and `run --count N [--partner-down]`.
 fn node_command<'a>(alloc: Global) -> Result<ClapCommand<'a>, AllocError> {
     let count = Arg::new(alloc, "count")
         .long("count")
         .required(true)
         .action(ArgAction::Set);
-    let run = ClapCommand::new(alloc, "run").arg(count)?;
+    let down = Arg::new(alloc, "partner-down")
+        .long("partner-down")
+        .action(ArgAction::SetTrue);
+    let run = ClapCommand::new(alloc, "run").arg(count)?.arg(down)?;
     ClapCommand::new(alloc, "node_cli")
         .subcommand_required(true)
         .disable_help_subcommand(true)
@@ -42,12 +46,21 @@ fn count_given(options: &ArgMatches) -> Option<u32> {
     Some(count)
 }
 
+fn partner_given(options: &ArgMatches) -> Partner {
+    if options.get_flag("partner-down") {
+        Partner::Down
+    } else {
+        Partner::Up
+    }
+}
+
 fn command_in(matches: &ArgMatches) -> Option<Command> {
     let (name, options) = matches.subcommand()?;
     match name {
         "check" => Some(Command::Check),
         "run" => Some(Command::Run {
             count: count_given(options)?,
+            partner: partner_given(options),
         }),
         _ => None,
     }

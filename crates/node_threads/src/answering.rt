@@ -4,6 +4,7 @@ ghost use Rattle.std.specs.Prelude.{◌≡◌, ◌≤◌, length, IfOk, IfSome, 
 ghost use Rattle.server_book.specs.Answer.{IsRequest};
 
 use crate::error::NodeError;
+use crate::partner::Partner;
 use client_id::Duid;
 use dhcp6_pd::{ClientKind, ClientMessage, encode};
 use lead_time::Reading;
@@ -64,8 +65,8 @@ fn served<N: BookName, R: Wait>(
     }
 }
 
-/// What an IA_PD of the message ends in, at a place from 0.
-fn ended<N: BookName, R: Wait>(
+/// What an order of a message of this type ends in: a SOLICIT's is offered.
+fn ordered<N: BookName, R: Wait>(
     rt: &R,
     shared: &SharedBook<N>,
     pass: &mut Pass<N>,
@@ -82,12 +83,59 @@ fn ended<N: BookName, R: Wait>(
     }
 }
 
+/// Takes over the lowest unit of the partner's that the rules let, and says whether there was one.
+fn seizes<N: BookName, R: Wait>(
+    rt: &R,
+    shared: &SharedBook<N>,
+    pass: &mut Pass<N>,
+    now: Reading,
+) -> Result<bool, NodeError> {
+    let found = match shared.work(rt, pass, now) {
+        Ok(work) => work.seizable,
+        Err(refusal) => return Err(NodeError::Serve(refusal)),
+    };
+    let Some(prefix) = found else {
+        return Ok(false);
+    };
+    match shared.serve(rt, pass, now, &Order::Seize(prefix)) {
+        Ok(_) => Ok(true),
+        Err(refusal) => match refusal {
+            ServeError::Stranger { .. } => Err(NodeError::Serve(refusal)),
+            ServeError::Book(_) | ServeError::Memory => Ok(false),
+        },
+    }
+}
+
+/// What an IA_PD of the message ends in, at a place from 0. Where no prefix is left and the partner is down, a unit is
+/// taken over, and it is ordered once more.
+fn ended<N: BookName, R: Wait>(
+    rt: &R,
+    shared: &SharedBook<N>,
+    pass: &mut Pass<N>,
+    partner: Partner,
+    now: Reading,
+    message: &ClientMessage,
+    place: usize,
+) -> Result<Option<IaAnswer>, NodeError> {
+    match (ordered(rt, shared, pass, now, message, place)?, partner) {
+        (Some(IaAnswer::NoPrefix), Partner::Down) => {
+            if seizes(rt, shared, pass, now)? {
+                ordered(rt, shared, pass, now, message, place)
+            } else {
+                Ok(Some(IaAnswer::NoPrefix))
+            }
+        }
+        (answer, _) => Ok(answer),
+    }
+}
+
 /// What each IA_PD of the message ends in, or `None` where it isn't answered.
 fn all_ended<N: BookName, R: Wait>(
     rt: &R,
     alloc: Global,
     shared: &SharedBook<N>,
     pass: &mut Pass<N>,
+    partner: Partner,
     now: Reading,
     message: &ClientMessage,
 ) -> Result<Option<Vec<IaAnswer>>, NodeError>
@@ -95,7 +143,7 @@ fn all_ended<N: BookName, R: Wait>(
 {
     let mut answers = Vec::new(alloc);
     for place in 0..message.ias.as_slice().len() {
-        let Some(answer) = ended(rt, shared, pass, now, message, place)? else {
+        let Some(answer) = ended(rt, shared, pass, partner, now, message, place)? else {
             return Ok(None);
         };
         if answers.push(answer).is_err() {
@@ -135,10 +183,11 @@ pub(crate) fn answer_to<N: BookName, R: Wait>(
     shared: &SharedBook<N>,
     pass: &mut Pass<N>,
     own: &Duid,
+    partner: Partner,
     now: Reading,
     message: &ClientMessage,
 ) -> Result<Option<Vec<u8>>, NodeError> {
-    match all_ended(rt, alloc, shared, pass, now, message)? {
+    match all_ended(rt, alloc, shared, pass, partner, now, message)? {
         Some(answers) => Ok(written(alloc, own, message, &answers)),
         None => Ok(None),
     }

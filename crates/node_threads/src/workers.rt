@@ -6,6 +6,7 @@ use crate::answering::answer_to;
 use crate::clock::Clock;
 use crate::datagrams::Datagrams;
 use crate::error::NodeError;
+use crate::partner::Partner;
 use crate::turns::{MOST_TURNS, Turns};
 use client_id::Duid;
 use dhcp6_pd::decode;
@@ -23,6 +24,7 @@ fn answer_one<N: BookName, R: Wait, D: Datagrams, C: Clock>(
     shared: &SharedBook<N>,
     pass: &mut Pass<N>,
     own: &Duid,
+    partner: Partner,
     datagrams: &D,
     clock: &C,
     peer: &D::Peer,
@@ -32,7 +34,7 @@ fn answer_one<N: BookName, R: Wait, D: Datagrams, C: Clock>(
         return Ok(());
     };
     let now = clock.now()?;
-    if let Some(answer) = answer_to(rt, alloc, shared, pass, own, now, &message)? {
+    if let Some(answer) = answer_to(rt, alloc, shared, pass, own, partner, now, &message)? {
         datagrams.send(peer, &answer)?;
     }
     Ok(())
@@ -41,7 +43,8 @@ fn answer_one<N: BookName, R: Wait, D: Datagrams, C: Clock>(
 /// Receives datagrams while there are turns, answers each that is a client's message to the server `own`, and gives
 /// how many it received, at most 1,000,000. A turn is one datagram, answered or not. It ends sooner where a call of the
 /// datagrams or the clock fails (`Net`), where the buffer finds no memory (`Memory`), or where the pass is a stranger
-/// to the book (`Serve`); any other refusal leaves a message without an answer.
+/// to the book (`Serve`); any other refusal leaves a message without an answer. Of a partner that is down a unit is taken
+/// over where no prefix is left.
 pub fn serve_datagrams<N: BookName, R: Wait, D: Datagrams, C: Clock>(
     rt: &R,
     alloc: Global,
@@ -51,6 +54,7 @@ pub fn serve_datagrams<N: BookName, R: Wait, D: Datagrams, C: Clock>(
     datagrams: &D,
     clock: &C,
     turns: &Turns,
+    partner: Partner,
 ) -> Result<u32, NodeError>
     ensures { IfOk result (λ received. received ≤ 1000000) }
 {
@@ -66,6 +70,7 @@ pub fn serve_datagrams<N: BookName, R: Wait, D: Datagrams, C: Clock>(
             shared,
             pass,
             own,
+            partner,
             datagrams,
             clock,
             &peer,

@@ -1,15 +1,17 @@
 //! What workers answer to datagrams, and the journal that they leave.
 
-use crate::books::{Left, by_workers, opened, own};
+use crate::books::{Left, by_workers, opened, opened_alone, own};
 use crate::clocks::Still;
 use crate::meetings::Met;
 use crate::post::Post;
+use client_id::Duid;
 use journal_text::write;
 use lead_time::Reading;
-use node_threads::{Clock, Datagrams, NodeError, Turns};
+use node_threads::{Clock, Datagrams, NodeError, Partner, Turns};
 use server_book::{Book, Order};
 use std::alloc::Global;
 use std::marker::Brand;
+use std::process::Abort;
 use std::sync::Wait;
 use std::sync::ledger::Blank;
 use std::test::Fail;
@@ -27,6 +29,10 @@ const OFFERED: &[u8] =
 
 const GRANTED: &[u8] =
     b"070a0b0c0001000a000300010200000000010002000a0003000102000000000900190029000000010000070800000b40001a001900000e1000000e103820010db8000000000000000000000000";
+
+/// The status NoPrefixAvail.
+const NONE_GRANTED: &[u8] =
+    b"070a0b0c0001000a000300010200000000010002000a0003000102000000000900190012000000010000000000000000000d00020006";
 
 /// Side A's journal of the lease that lasts an hour.
 const WHOLE_HOUR: &[u8] = b"pd-journal 1 A
@@ -63,22 +69,39 @@ fn closes(book: &mut Book, now: Reading) -> bool {
 }
 
 /// What workers leave of so many turns.
+pub fn served<D: Datagrams + Sync, C: Clock + Sync>(
+    rt: &(impl Threads + Wait + Sync),
+    alloc: Global,
+    book: Book,
+    workers: usize,
+    own: &Duid,
+    datagrams: &D,
+    clock: &C,
+    turns: u32,
+    partner: Partner,
+) -> Option<Left> {
+    let turns = Turns::new(turns);
+    let blank = Blank::new(workers as u64);
+    by_workers::<Brand, _, _, _>(
+        rt, alloc, blank, book, workers, own, datagrams, clock, &turns, partner,
+    )
+}
+
+/// What workers of the server leave of so many turns.
 fn left<D: Datagrams + Sync, C: Clock + Sync>(
     rt: &(impl Threads + Wait + Sync),
     alloc: Global,
+    book: Book,
     workers: usize,
     datagrams: &D,
     clock: &C,
     turns: u32,
+    partner: Partner,
 ) -> Result<Left, Fail> {
-    let book = opened(alloc)?;
     let own = own()?;
-    let turns = Turns::new(turns);
-    let blank = Blank::new(workers as u64);
-    let found = by_workers::<Brand, _, _, _>(
-        rt, alloc, blank, book, workers, &own, datagrams, clock, &turns,
-    );
-    match found {
+    match served(
+        rt, alloc, book, workers, &own, datagrams, clock, turns, partner,
+    ) {
         Some(left) => Ok(left),
         None => Err(Fail::from("not closed")),
     }
@@ -90,7 +113,16 @@ fn one_worker_grants_an_hour(rt: HostRuntime) -> Result<(), Fail> {
     let answers = all_octets(rt.alloc(), &[OFFERED, GRANTED])?;
     let post = Post::new(&datagrams, &answers);
     let clock = Still::new(Reading::new(10_000)?);
-    let Left { mut book, received } = left(&rt, rt.alloc(), 1, &post, &clock, 2)?;
+    let Left { mut book, received } = left(
+        &rt,
+        rt.alloc(),
+        opened(rt.alloc())?,
+        1,
+        &post,
+        &clock,
+        2,
+        Partner::Up,
+    )?;
     assert_eq!(rt; received, Ok(2));
     assert_eq!(rt; post.sent_well(), Some(2));
     assert_eq!(rt; clock.asked(), 2);
@@ -105,7 +137,16 @@ fn what_is_no_message_asks_no_clock(rt: HostRuntime) -> Result<(), Fail> {
     let datagrams = all_octets(rt.alloc(), &[b"010a0b"])?;
     let post = Post::new(&datagrams, &[]);
     let clock = Still::new(Reading::new(10_000)?);
-    let Left { book, received } = left(&rt, rt.alloc(), 1, &post, &clock, 1)?;
+    let Left { book, received } = left(
+        &rt,
+        rt.alloc(),
+        opened(rt.alloc())?,
+        1,
+        &post,
+        &clock,
+        1,
+        Partner::Up,
+    )?;
     assert_eq!(rt; received, Ok(1));
     assert_eq!(rt; post.sent_well(), Some(0));
     assert_eq!(rt; clock.asked(), 0);
@@ -119,7 +160,16 @@ fn a_failing_receive_ends_a_worker(rt: HostRuntime) -> Result<(), Fail> {
     let answers = all_octets(rt.alloc(), &[GRANTED])?;
     let post = Post::new(&datagrams, &answers);
     let clock = Still::new(Reading::new(10_000)?);
-    let Left { book, received } = left(&rt, rt.alloc(), 1, &post, &clock, 2)?;
+    let Left { book, received } = left(
+        &rt,
+        rt.alloc(),
+        opened(rt.alloc())?,
+        1,
+        &post,
+        &clock,
+        2,
+        Partner::Up,
+    )?;
     assert_eq!(rt; received, Err(NodeError::Net));
     assert_eq!(rt; post.sent_well(), Some(1));
     assert_eq!(rt; book.journal().len(), 3);
@@ -133,7 +183,16 @@ fn two_workers_receive_ask_and_send_at_once(rt: HostRuntime) -> Result<(), Fail>
     let post = Post::new(&datagrams, &answers);
     let clock = Still::new(Reading::new(10_000)?);
     let met = Met::new(&post, &clock);
-    let Left { book, received } = left(&rt, rt.alloc(), 2, &met, &met, 2)?;
+    let Left { book, received } = left(
+        &rt,
+        rt.alloc(),
+        opened(rt.alloc())?,
+        2,
+        &met,
+        &met,
+        2,
+        Partner::Up,
+    )?;
     assert_eq!(rt; received, Ok(2));
     assert_eq!(rt; post.sent_well(), Some(2));
     assert!(rt; met.receiving.saw_it());
@@ -141,4 +200,39 @@ fn two_workers_receive_ask_and_send_at_once(rt: HostRuntime) -> Result<(), Fail>
     assert!(rt; met.sending.saw_it());
     assert_eq!(rt; book.journal().len(), 3);
     Ok(())
+}
+
+/// A secondary whose partner is down since 9000, at this reading, and what it answers to a REQUEST.
+fn check_alone(
+    rt: &(impl Abort + Threads + Wait + Sync),
+    alloc: Global,
+    reading: u64,
+    answer: &[u8],
+    lines: usize,
+) -> Result<(), Fail> {
+    let datagrams = all_octets(alloc, &[REQUEST])?;
+    let answers = all_octets(alloc, &[answer])?;
+    let post = Post::new(&datagrams, &answers);
+    let clock = Still::new(Reading::new(reading)?);
+    let Left { book, received } = left(
+        rt,
+        alloc,
+        opened_alone(rt, alloc)?,
+        1,
+        &post,
+        &clock,
+        1,
+        Partner::Down,
+    )?;
+    assert_eq!(rt; received, Ok(1));
+    assert_eq!(rt; post.sent_well(), Some(1));
+    assert_eq!(rt; book.journal().len(), lines);
+    Ok(())
+}
+
+// No lease of the partner's can last past 9000 + 3600 s + 2 x 2000 ms.
+#[test]
+fn a_unit_is_taken_over_once_no_lease_can_last(rt: HostRuntime) -> Result<(), Fail> {
+    check_alone(&rt, rt.alloc(), 3_612_999, NONE_GRANTED, 3)?;
+    check_alone(&rt, rt.alloc(), 3_613_000, GRANTED, 5)
 }

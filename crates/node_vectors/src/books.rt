@@ -2,12 +2,14 @@
 
 ghost use Rattle.std.specs.Prelude.{◌≡◌, length};
 
+use binding_rules::ServerState;
 use client_id::Duid;
 use lead_time::Reading;
 use locked_book::{BookName, SharedBook};
-use node_threads::{Clock, Datagrams, NodeError, Turns, serve_datagrams};
-use server_book::{Book, Settings};
+use node_threads::{Clock, Datagrams, NodeError, Partner, Turns, serve_datagrams};
+use server_book::{Book, Order, Settings};
 use std::alloc::Global;
+use std::process::Abort;
 use std::sync::Wait;
 use std::sync::ledger::Blank;
 use std::test::Fail;
@@ -17,10 +19,22 @@ use std::thread::Threads;
 const PRIMARY: &[u8] =
     b"role = \"primary\"\nduid = \"00030001020000000009\"\nskew_ms = 2000\nmclt = 3600\nlife = 3600\n[[pool]]\nprefix = \"2001:db8::/48\"\nunit = 56\n";
 
+const SECONDARY: &[u8] =
+    b"role = \"secondary\"\nduid = \"00030001020000000009\"\nskew_ms = 2000\nmclt = 3600\nlife = 3600\n[[pool]]\nprefix = \"2001:db8::/48\"\nunit = 56\n";
+
 /// The primary's book, opened at 9000: it has two lines.
 pub fn opened(alloc: Global) -> Result<Book, Fail> {
     let settings = Settings::read(alloc, PRIMARY)?;
     Ok(Book::open(alloc, Reading::new(9000)?, &settings)?)
+}
+
+/// A secondary's book, opened at 9000, whose partner is down since then: it has three lines, and no unit of its own.
+pub fn opened_alone(rt: &impl Abort, alloc: Global) -> Result<Book, Fail> {
+    let now = Reading::new(9000)?;
+    let settings = Settings::read(alloc, SECONDARY)?;
+    let mut book = Book::open(alloc, now, &settings)?;
+    assert!(rt; book.apply(now, &Order::State(ServerState::Down)).is_ok());
+    Ok(book)
 }
 
 /// The server's own identifier.
@@ -59,6 +73,7 @@ pub fn by_workers<
     datagrams: &D,
     clock: &C,
     turns: &Turns,
+    partner: Partner,
 ) -> Option<Left>
     requires name { blank.name ≡ N.name }
     requires passes { (blank.parts ≡ N.parts) × (N.parts ≡ workers) × (N.passes ≡ workers) }
@@ -72,7 +87,9 @@ pub fn by_workers<
         rt,
         passes,
         &|mut pass| {
-            let ended = serve_datagrams(rt, alloc, lent, &mut pass, own, datagrams, clock, turns);
+            let ended = serve_datagrams(
+                rt, alloc, lent, &mut pass, own, datagrams, clock, turns, partner,
+            );
             (ended, pass)
         },
     ) else {

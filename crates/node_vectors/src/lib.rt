@@ -10,4 +10,6 @@ mod clocks;
 #[cfg(test)]
 mod meetings;
 #[cfg(test)]
+mod over_udp;
+#[cfg(test)]
 mod post;

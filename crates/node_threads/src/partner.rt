@@ -1,0 +1,10 @@
+//! What a node takes its partner for.
+
+/// What a node takes its partner for.
+#[derive(Clone, Copy, Debug, PartialEq, Eq)]
+pub enum Partner {
+    /// It has its own units to give.
+    Up,
+    /// Its units may be taken over, once no lease of its own can last.
+    Down,
+}
