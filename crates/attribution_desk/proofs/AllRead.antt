@@ -31,3 +31,8 @@ pub of_input : (P : Result Journal JournalFault → Result Journal JournalFault 
     → a ≡ journal_of_side Primary (first_text input) → b ≡ journal_of_side Secondary (first_text (text_behind input)) → rest ≡ text_behind (text_behind input)
     → P a b rest → P (journal_of_side Primary (first_text input)) (journal_of_side Secondary (first_text (text_behind input))) (text_behind (text_behind input))
 of_input P input a b rest ea eb er h = subst (λ r. P (journal_of_side Primary (first_text input)) (journal_of_side Secondary (first_text (text_behind input))) r) er (subst (λ x. P (journal_of_side Primary (first_text input)) x rest) eb (subst (λ x. P x b rest) ea h))
+
+-- the same of two texts
+pub of_pair : (P : Result Journal JournalFault → Result Journal JournalFault → Type 0) (input : List ℕ) (a b : Result Journal JournalFault)
+    → a ≡ journal_of_side Primary (first_text input) → b ≡ journal_of_side Secondary (text_behind input) → P a b → P (journal_of_side Primary (first_text input)) (journal_of_side Secondary (text_behind input))
+of_pair P input a b ea eb h = subst (λ x. P (journal_of_side Primary (first_text input)) x) eb (subst (λ x. P x b) ea h)

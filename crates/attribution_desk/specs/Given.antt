@@ -2,8 +2,13 @@
 use Rattle.std.specs.Prelude.{◌≡◌, ℕ, ◌<◌, ◌≤◌, List, Option, Some, None, codes}
 use Rattle.std.specs.Fmt.{decimal}
 use Rattle.clap.specs.Words.{Row, Text, first_of}
+use Rattle.text_fields.specs.Octets.{hex}
+use Rattle.client_id.specs.Duid.{IsDuid}
+use Rattle.prefix_range.specs.Prefix.{Prefix, IsPrefix}
+use Rattle.prefix_range.specs.Spelling.{Spells}
+use Rattle.evidence_search.specs.declared.query.Query.{Query}
 use Rattle.attribution_desk.specs.declared.command.Command.{Command}
-use Rattle.attribution_desk.specs.declared.command.Command.TheVariants.{Audit, Batch, Timeline}
+use Rattle.attribution_desk.specs.declared.command.Command.TheVariants.{Audit, Batch, Timeline, Find}
 
 -- the text is this number's, in decimal digits, which is at most so much
 abbrev pub IsNumber : (most : ℕ) → Option Text → ℕ → Type 0
@@ -27,6 +32,29 @@ IsTransit text transit = IsNumberOrNone 3600000 text transit
 abbrev pub IsWorkers : Option Text → ℕ → Type 0
 IsWorkers text workers = IsNumber 64 text workers × (0 < workers)
 
+-- the client's identifier, in hexadecimal digits
+abbrev pub IsHolder : Option Text → List ℕ → Type 0
+IsHolder None holder = ⊥
+IsHolder (Some text) holder = (text ≡ hex holder) × IsDuid holder
+
+-- the text is this prefix's (RFC 4291, section 2.3)
+abbrev pub IsPrefixText : Option Text → Prefix → Type 0
+IsPrefixText None p = ⊥
+IsPrefixText (Some text) p = Spells text p.address p.length × IsPrefix p
+
+-- milliseconds, at most 2^48
+abbrev pub IsMoment : Option Text → ℕ → Type 0
+IsMoment text moment = IsNumber 281474976710656 text moment
+
+-- who is asked of, which prefix and interval, and the bounds on clocks and answers
+pub record IsQuery (rows : List Row) (q : Query) : Type 0 where
+  pub skew : IsSkew (first_of (codes "skew-ms") rows) q.skew
+  pub transit : IsTransit (first_of (codes "transit-ms") rows) q.transit
+  pub holder : IsHolder (first_of (codes "holder") rows) q.holder
+  pub prefix : IsPrefixText (first_of (codes "prefix") rows) q.prefix
+  pub from : IsMoment (first_of (codes "from") rows) q.from
+  pub to : IsMoment (first_of (codes "to") rows) q.to
+
 -- the subcommand that clap finds in the words and the values of its options are those of the command
 abbrev pub IsGiven : Option (Text × List Row) → Command → Type 0
 IsGiven None command = ⊥
@@ -38,6 +66,7 @@ IsGiven (Some found) (Batch skew transit workers) =
     × IsTransit (first_of (codes "transit-ms") found.1) transit
     × IsWorkers (first_of (codes "workers") found.1) workers
 IsGiven (Some found) Timeline = found.0 ≡ codes "timeline"
+IsGiven (Some found) (Find query) = (found.0 ≡ codes "find") × IsQuery found.1 query
 
 -- they are those of no command
 abbrev pub IsNoCommand : Option (Text × List Row) → Type 0

@@ -8,3 +8,4 @@ pub mod Running
 pub mod Intake
 pub mod Telling
 pub mod Claims
+pub mod Find

@@ -17,6 +17,17 @@ batch_app =
     with_rule (with_rule (with_rule (new_app (codes "batch")) (option_rule (codes "skew-ms") true))
     (option_rule (codes "workers") true)) (option_rule (codes "transit-ms") false)
 
+-- who is asked of, and what
+abbrev pub asking_app : App
+asking_app =
+    with_rule (with_rule (with_rule (new_app (codes "find")) (option_rule (codes "skew-ms") true))
+    (option_rule (codes "holder") true)) (option_rule (codes "prefix") true)
+
+abbrev pub find_app : App
+find_app =
+    with_rule (with_rule (with_rule asking_app (option_rule (codes "from") true)) (option_rule (codes "to") true))
+    (option_rule (codes "transit-ms") false)
+
 -- a subcommand has to be named
 abbrev pub bare : App
 bare = record {
@@ -24,7 +35,8 @@ bare = record {
   subs = [];
 }
 
+abbrev pub judging_app : App
+judging_app = with_subcommand (with_subcommand bare audit_app.top) batch_app.top
+
 abbrev pub desk : App
-desk =
-    with_subcommand (with_subcommand (with_subcommand bare audit_app.top) batch_app.top)
-    (new_app (codes "timeline")).top
+desk = with_subcommand (with_subcommand judging_app find_app.top) (new_app (codes "timeline")).top

@@ -1,18 +1,25 @@
 //! Command words, as clap finds them.
 
-ghost use Rattle.std.specs.Prelude.{◌≡◌, ℕ, [], codes, IfOk, IfSome, IsErrOf, Some, None, true, false};
+ghost use Rattle.std.specs.Prelude.{◌≡◌, ℕ, List, [], codes, IfOk, IfSome, IsErrOf, Some, None, true, false};
 ghost use Rattle.std.specs.Prelude.{map, string_bytes};
 ghost use Rattle.clap.specs.Words.{app_of, rule_of, first_of, rows_of, found_of, subcommand_of, subcommand_rows_of};
 ghost use Rattle.clap.specs.Words.{takes, fault_of, kind_of};
 ghost use Rattle.clap.specs.declared.builder.command.Command.TheViews.{out-Command};
-ghost use Rattle.attribution_desk.specs.Words.{option_rule, audit_app, batch_app, desk};
+ghost use Rattle.attribution_desk.specs.Words.{option_rule, audit_app, batch_app, asking_app, find_app, judging_app};
+ghost use Rattle.attribution_desk.specs.Words.{desk};
 ghost use Rattle.attribution_desk.specs.Given.{IsNumber, IsSkew, IsTransit, IsWorkers, IsGiven, IsNoCommand};
+ghost use Rattle.attribution_desk.specs.Given.{IsHolder, IsPrefixText, IsMoment, IsQuery};
+ghost use Rattle.prefix_range.specs.Prefix.{Prefix as PrefixValue};
+ghost use Rattle.evidence_search.specs.declared.query.Query.{Query as QueryValue};
 
 use crate::error::UsageError;
 use crate::workers::Workers;
 use clap::error::ErrorKind;
 use clap::{Arg, ArgAction, ArgMatches, Command as ClapCommand, Error as ClapError};
-use lead_time::{Skew, Transit};
+use client_id::Duid;
+use evidence_search::Query;
+use lead_time::{Reading, Skew, Transit};
+use prefix_range::{Prefix, read_text};
 use std::alloc::{AllocError, Global};
 use text_fields::number_of;
 
@@ -33,9 +40,12 @@ pub enum Command {
     },
     /// Print the lines of two journals in one order.
     Timeline,
+    /// Print a certificate over two journals that shows what is asked.
+    Find(Query),
 }
 
-fn number_option<'a>(alloc: Global, name: &'a str, required: bool) -> Arg<'a>
+/// An option with a value.
+fn value_option<'a>(alloc: Global, name: &'a str, required: bool) -> Arg<'a>
     ensures rule { rule_of result ≡ option_rule name.entry.now required }
     ensures local { result.global ≡ false }
 {
@@ -50,8 +60,8 @@ fn audit_command<'a>(alloc: Global) -> Result<ClapCommand<'a>, AllocError>
     ensures app { IfOk result (λ c. app_of c ≡ audit_app) }
     ensures local { IfOk result (λ c. (out-Command c).has_globals ≡ false) }
 {
-    let skew = number_option(alloc, "skew-ms", true);
-    let transit = number_option(alloc, "transit-ms", false);
+    let skew = value_option(alloc, "skew-ms", true);
+    let transit = value_option(alloc, "transit-ms", false);
     ClapCommand::new(alloc, "audit").arg(skew)?.arg(transit)
 }
 
@@ -60,17 +70,44 @@ fn batch_command<'a>(alloc: Global) -> Result<ClapCommand<'a>, AllocError>
     ensures app { IfOk result (λ c. app_of c ≡ batch_app) }
     ensures local { IfOk result (λ c. (out-Command c).has_globals ≡ false) }
 {
-    let skew = number_option(alloc, "skew-ms", true);
-    let workers = number_option(alloc, "workers", true);
-    let transit = number_option(alloc, "transit-ms", false);
+    let skew = value_option(alloc, "skew-ms", true);
+    let workers = value_option(alloc, "workers", true);
+    let transit = value_option(alloc, "transit-ms", false);
     ClapCommand::new(alloc, "batch")
         .arg(skew)?
         .arg(workers)?
         .arg(transit)
 }
 
-fn desk_command<'a>(alloc: Global) -> Result<ClapCommand<'a>, AllocError>
-    ensures { IfOk result (λ c. app_of c ≡ desk) }
+/// `find --skew-ms N --holder HEX --prefix P ..`: who is asked of, and what.
+fn asking_command<'a>(alloc: Global) -> Result<ClapCommand<'a>, AllocError>
+    ensures app { IfOk result (λ c. app_of c ≡ asking_app) }
+    ensures local { IfOk result (λ c. (out-Command c).has_globals ≡ false) }
+{
+    let skew = value_option(alloc, "skew-ms", true);
+    let holder = value_option(alloc, "holder", true);
+    let prefix = value_option(alloc, "prefix", true);
+    ClapCommand::new(alloc, "find")
+        .arg(skew)?
+        .arg(holder)?
+        .arg(prefix)
+}
+
+/// `find .. --from M --to M [--transit-ms N]`.
+fn find_command<'a>(alloc: Global) -> Result<ClapCommand<'a>, AllocError>
+    ensures app { IfOk result (λ c. app_of c ≡ find_app) }
+    ensures local { IfOk result (λ c. (out-Command c).has_globals ≡ false) }
+{
+    let from = value_option(alloc, "from", true);
+    let to = value_option(alloc, "to", true);
+    let transit = value_option(alloc, "transit-ms", false);
+    let asking = asking_command(alloc)?;
+    asking.arg(from)?.arg(to)?.arg(transit)
+}
+
+/// The commands that judge certificates.
+fn judging_command<'a>(alloc: Global) -> Result<ClapCommand<'a>, AllocError>
+    ensures { IfOk result (λ c. app_of c ≡ judging_app) }
 {
     let audit = audit_command(alloc)?;
     let batch = batch_command(alloc)?;
@@ -78,7 +115,16 @@ fn desk_command<'a>(alloc: Global) -> Result<ClapCommand<'a>, AllocError>
         .subcommand_required(true)
         .disable_help_subcommand(true)
         .subcommand(audit)?
-        .subcommand(batch)?
+        .subcommand(batch)
+}
+
+fn desk_command<'a>(alloc: Global) -> Result<ClapCommand<'a>, AllocError>
+    ensures { IfOk result (λ c. app_of c ≡ desk) }
+{
+    let judging = judging_command(alloc)?;
+    let find = find_command(alloc)?;
+    judging
+        .subcommand(find)?
         .subcommand(ClapCommand::new(alloc, "timeline"))
 }
 
@@ -135,6 +181,74 @@ fn workers_given(options: &ArgMatches) -> Option<Workers>
     Workers::new(count)
 }
 
+fn holder_in(text: &str) -> Option<Duid>
+    ensures given { IfSome result (IsHolder (Some text.now)) }
+    ensures none { result ≡ None → (holder : List ℕ) → IsHolder (Some text.now) holder → ⊥ }
+{
+    match Duid::from_hex(text.as_bytes()) {
+        Ok(holder) => Some(holder),
+        Err(_) => None,
+    }
+}
+
+/// The client, in hexadecimal digits.
+fn holder_given(options: &ArgMatches) -> Option<Duid>
+    ensures given { IfSome result (IsHolder (first_of (codes "holder") (rows_of (found_of options.now)))) }
+    ensures none { result ≡ None
+        → (holder : List ℕ) → IsHolder (first_of (codes "holder") (rows_of (found_of options.now))) holder → ⊥ }
+{
+    holder_in(options.get_str("holder")?)
+}
+
+fn prefix_in(text: &str) -> Option<Prefix>
+    ensures given { IfSome result (IsPrefixText (Some text.now)) }
+    ensures none { result ≡ None → (p : PrefixValue) → IsPrefixText (Some text.now) p → ⊥ }
+{
+    match read_text(text.as_bytes()) {
+        Ok(prefix) => Some(prefix),
+        Err(_) => None,
+    }
+}
+
+/// The prefix.
+fn prefix_given(options: &ArgMatches) -> Option<Prefix>
+    ensures given { IfSome result (IsPrefixText (first_of (codes "prefix") (rows_of (found_of options.now)))) }
+    ensures none { result ≡ None
+        → (p : PrefixValue) → IsPrefixText (first_of (codes "prefix") (rows_of (found_of options.now))) p → ⊥ }
+{
+    prefix_in(options.get_str("prefix")?)
+}
+
+/// A moment, in milliseconds of true time.
+fn moment_given(options: &ArgMatches, name: &str) -> Option<Reading>
+    ensures given { IfSome result (IsMoment (first_of name.now (rows_of (found_of options.now)))) }
+    ensures none { result ≡ None
+        → (moment : ℕ) → IsMoment (first_of name.now (rows_of (found_of options.now))) moment → ⊥ }
+{
+    Reading::new(number_given(options, name, Reading::MAX)?).ok()
+}
+
+/// What is asked of a search.
+fn query_given(options: &ArgMatches) -> Option<Query>
+    ensures given { IfSome result (IsQuery (rows_of (found_of options.now))) }
+    ensures none { result ≡ None → (query : QueryValue) → IsQuery (rows_of (found_of options.now)) query → ⊥ }
+{
+    let skew = skew_given(options)?;
+    let transit = transit_given(options)?;
+    let holder = holder_given(options)?;
+    let prefix = prefix_given(options)?;
+    let from = moment_given(options, "from")?;
+    let to = moment_given(options, "to")?;
+    Some(Query {
+        holder,
+        prefix,
+        from,
+        to,
+        skew,
+        transit,
+    })
+}
+
 fn command_in(matches: &ArgMatches) -> Option<Command>
     ensures given { IfSome result (IsGiven (subcommand_rows_of matches.now)) }
     ensures none { result ≡ None → IsNoCommand (subcommand_rows_of matches.now) }
@@ -153,11 +267,21 @@ fn command_in(matches: &ArgMatches) -> Option<Command>
             transit,
             workers,
         })
+    } else if name == "find" {
+        Some(Command::Find(query_given(options)?))
     } else if name == "timeline" {
         Some(Command::Timeline)
     } else {
         None
     }
+}
+
+/// The command in what clap found, or `Usage`.
+fn command_found(matches: &ArgMatches) -> Result<Command, UsageError>
+    ensures given { IfOk result (IsGiven (subcommand_rows_of matches.now)) }
+    ensures refused { IsErrOf result UsageError.Usage → IsNoCommand (subcommand_rows_of matches.now) }
+{
+    command_in(matches).ok_or(UsageError::Usage)
 }
 
 /// The command that the words give, the first of which is the program's name: `Usage` where clap finds none
@@ -173,7 +297,7 @@ pub fn command_of(alloc: Global, words: &[String]) -> Result<Command, UsageError
         return Err(UsageError::Memory);
     };
     match command.try_get_matches_from(words) {
-        Ok(matches) => command_in(&matches).ok_or(UsageError::Usage),
+        Ok(matches) => command_found(&matches),
         Err(error) => Err(usage_error(error)),
     }
 }

@@ -3,7 +3,8 @@
 //! `command_of` gives the [`Command`] that clap finds in the words, `run` carries it out between a reader and a
 //! writer, and `judge` answers an input that is at hand. The input is journal A, journal B and the certificate, one
 //! after the other, and is never held whole: each chunk goes to the readers of the journals. specs/Answer says what
-//! is answered, specs/Input where a text ends, specs/Words and specs/Given what a command is; specs/Intake is for
+//! is answered, specs/Find what a search answers, specs/Input where a text ends, specs/Words and specs/Given what a
+//! command is; specs/Intake is for
 //! bodies only.
 //!
 //! ```text
@@ -24,6 +25,7 @@ mod journal_intake;
 mod judging;
 mod pair_intake;
 mod running;
+mod searching;
 mod taking;
 mod timelines;
 mod watched;
@@ -33,6 +35,7 @@ pub use answer::Answer;
 pub use audit::judge;
 pub use command::{Command, command_of};
 pub use error::{DeskError, UsageError};
+pub use evidence_search::{FindError, Query, find_certificate};
 pub use running::run;
 pub use timelines::timeline;
 pub use watched::Watched;
