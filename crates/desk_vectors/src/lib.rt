@@ -1,4 +1,5 @@
-//! Vectors from outside for the desk: words, inputs in chunks, devices that fail, timelines, and the lines it answers.
+//! Vectors from outside for the desk: words, inputs in chunks, devices that fail, timelines, searches, and the lines
+//! it answers.
 #![tactic(auto)]
 
 #[cfg(test)]
@@ -13,5 +14,7 @@ mod commands;
 mod devices;
 #[cfg(test)]
 mod inputs;
+#[cfg(test)]
+mod searches;
 #[cfg(test)]
 mod timelines;
