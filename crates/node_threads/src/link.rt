@@ -1,0 +1,93 @@
+//! What one end of the link does.
+
+use crate::clock::Clock;
+use crate::error::NodeError;
+use crate::link_end::LinkEnd;
+use crate::link_taking::Phase;
+use crate::messages::write_word;
+use crate::turns::Turns;
+use crate::wire::{Got, Wire};
+use failover_message::{Feed, Frame, FrameKind, LinkError};
+use locked_book::{BookName, Pass, SharedBook};
+use server_book::Settings;
+use std::alloc::Global;
+use std::sync::Wait;
+
+/// How many octets are read at once, at most.
+const READ_SIZE: usize = 4096;
+
+/// The frames that these octets complete.
+fn fed(feed: &mut Feed, octets: &[u8]) -> Result<Vec<Frame>, NodeError> {
+    match feed.feed(octets) {
+        Ok(frames) => Ok(frames),
+        Err(LinkError::Memory) => Err(NodeError::Memory),
+        Err(_) => Err(NodeError::Read),
+    }
+}
+
+/// One read, what came by it, and then what is to be sent.
+fn turn<N: BookName, R: Wait, C: Clock, W: Wire>(
+    end: &LinkEnd<'_, N, R, C>,
+    pass: &mut Pass<N>,
+    phase: Phase,
+    feed: &mut Feed,
+    buffer: &mut [u8],
+    wire: &mut W,
+) -> Result<Phase, NodeError> {
+    let Ok(got) = wire.read(buffer) else {
+        return Err(NodeError::Read);
+    };
+    let phase = match got {
+        Got::Octets(count) => {
+            let frames = fed(feed, &buffer[..count])?;
+            end.heed_all(pass, phase, &frames, wire)?
+        }
+        Got::Idle => phase,
+        Got::End => Phase::Ended,
+    };
+    if matches!(phase, Phase::Joined) {
+        end.send_all(pass, wire)?;
+    }
+    Ok(phase)
+}
+
+/// Joins the other end of the link and tells it of this one's book, until the wire's end, a DISCONNECT, or a turn after
+/// `Turns::end`, at which it says DISCONNECT itself. What it sent and took it knows by the receipts of its pass, which
+/// is the same for each connection.
+///
+/// It ends sooner where the clock fails (`Net`), a read fails or brings what is no frame or not the frame that comes
+/// there (`Read`), a write fails (`Write`), a growth is refused (`Memory`), or the pass is a stranger to the book
+/// (`Serve`). Any other refusal of the book is passed over.
+pub fn serve_link<N: BookName, R: Wait, C: Clock, W: Wire>(
+    rt: &R,
+    alloc: Global,
+    shared: &SharedBook<N>,
+    pass: &mut Pass<N>,
+    settings: &Settings,
+    clock: &C,
+    turns: &Turns,
+    wire: &mut W,
+) -> Result<(), NodeError> {
+    let role = settings.role();
+    let end = LinkEnd {
+        rt,
+        alloc,
+        shared,
+        role,
+        clock,
+    };
+    let mut buffer = vec![in alloc; 0u8; READ_SIZE]?;
+    let mut feed = Feed::new(alloc);
+    let mut phase = Phase::Greeting;
+    end.greet(pass, wire)?;
+    for _ in rt.forever() {
+        if turns.has_ended(rt) {
+            return write_word(alloc, wire, FrameKind::Disconnect);
+        }
+        phase = turn(&end, pass, phase, &mut feed, &mut buffer, wire)?;
+        if matches!(phase, Phase::Ended) {
+            return Ok(());
+        }
+    }
+    unreachable!()
+}
