@@ -1,5 +1,5 @@
--- Plain certificates. Their chains are single lines, and they order two lines by their journal or by their clocks alone,
--- never by the partners' messages.
+-- Plain certificates. Their chains are single lines, and they order two lines by their journal or by their clocks
+-- alone, never by the partners' messages.
 use Rattle.std.specs.Prelude.{◌≡◌, ◌⊎◌, List, [], ◌∷◌, All}
 use Rattle.claims.specs.declared.reference.Ref.{Ref}
 use Rattle.claims.specs.declared.order.Precedes.{Precedes}

@@ -1,5 +1,6 @@
 -- For bodies only: what single lines show, and what a search makes of them.
-use Rattle.std.specs.Prelude.{◌≡◌, ◌≢◌, ℕ, ◌+◌, ◌*◌, ◌<◌, ◌≤◌, ◌⊎◌, ◌↔◌, ◌==◌, min, List, [], ◌∷◌, Some, All, if◌then◌else◌, Contains as Has}
+use Rattle.std.specs.Prelude.{◌≡◌, ◌≢◌, ℕ, ◌+◌, ◌*◌, ◌<◌, ◌≤◌, ◌⊎◌, ◌↔◌, ◌==◌, min, List, [], ◌∷◌, Some, All}
+use Rattle.std.specs.Prelude.{if◌then◌else◌, Contains as Has}
 use Rattle.prefix_range.specs.Prefix.{Contains, Overlaps}
 use Rattle.binding_rules.specs.Role.{partner_of}
 use Rattle.journal_lines.specs.declared.event.Lease.{Lease}
@@ -91,7 +92,8 @@ begin_of q c = c.reading + q.skew + q.transit
 
 -- the line grants what carries this moment
 abbrev pub CarriesAt : Journals → Query → ℕ → Ref → Type 0
-CarriesAt js q m r = (c : Candidate) × (c.grant ≡ r) × IsCandidate js q c × (begin_of q c ≤ m) × CarriesTo js q c (m + 1)
+CarriesAt js q m r =
+    (c : Candidate) × (c.grant ≡ r) × IsCandidate js q c × (begin_of q c ≤ m) × CarriesTo js q c (m + 1)
 
 -- a grant with the moments that it carries
 pub record IsReach (js : Journals) (q : Query) (x : Reach) : Type 0 where

@@ -17,8 +17,10 @@ use lead_time::{Reading, Skew};
 /// What the clock showed at a release that isn't plainly before the grant.
 fn cutting_reading<L: Lines>(lines: &L, release: Ref, grant: Ref, skew: Skew) -> Option<Reading>
     ensures { MatchOption result
-        ((x : ℕ) → IsReadAt (L.journals lines.now) release x → IsPlainlyBefore (L.journals lines.now) skew release grant)
-        (λ x. IsReadAt (L.journals lines.now) release x × (IsPlainlyBefore (L.journals lines.now) skew release grant → ⊥)) }
+        ((x : ℕ) → IsReadAt (L.journals lines.now) release x
+        → IsPlainlyBefore (L.journals lines.now) skew release grant)
+        (λ x. IsReadAt (L.journals lines.now) release x
+        × (IsPlainlyBefore (L.journals lines.now) skew release grant → ⊥)) }
 {
     if is_plainly_before(lines, release, grant, skew) {
         return None;
