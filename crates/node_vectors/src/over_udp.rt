@@ -14,8 +14,8 @@ const CLIENTS: u8 = 20;
 /// A REQUEST of the client of this number.
 fn request(client: u8) -> [u8; 48] {
     [
-        3, 10, 11, 12, 0, 1, 0, 10, 0, 3, 0, 1, 2, 0, 0, 0, 0, client, 0, 2, 0, 10, 0, 3, 0, 1, 2, 0, 0, 0,
-        0, 9, 0, 25, 0, 12, 0, 0, 0, 1, 0, 0, 0, 0, 0, 0, 0, 0,
+        3, 10, 11, 12, 0, 1, 0, 10, 0, 3, 0, 1, 2, 0, 0, 0, 0, client, 0, 2, 0, 10, 0, 3, 0, 1, 2,
+        0, 0, 0, 0, 9, 0, 25, 0, 12, 0, 0, 0, 1, 0, 0, 0, 0, 0, 0, 0, 0,
     ]
 }
 
@@ -50,7 +50,17 @@ fn twenty_clients_are_given_a_prefix_each(rt: HostRuntime) -> Result<(), Fail> {
     let own = own()?;
     let (left, answers) = thread::join(
         &rt,
-        || served(&rt, rt.alloc(), book, 2, &own, &datagrams, &clock, 20, Partner::Up),
+        || served(
+            &rt,
+            rt.alloc(),
+            book,
+            2,
+            &own,
+            &datagrams,
+            &clock,
+            20,
+            Partner::Up,
+        ),
         || ask(&client, server),
     );
     assert_eq!(rt; answers, 20);
