@@ -3,7 +3,7 @@
 use crate::clock::Clock;
 use crate::error::NodeError;
 use crate::link_end::LinkEnd;
-use crate::memory::{last_sent, last_taken};
+use crate::memory::{last_answered, last_sent, last_taken};
 use crate::messages::{message_in, write_word};
 use crate::wire::Wire;
 use binding_rules::{Counter, PartnerMessage, Role};
@@ -36,14 +36,16 @@ impl<'a, N: BookName, R: Wait, C: Clock> LinkEnd<'a, N, R, C> {
         }
     }
 
-    /// Writes again what the other end didn't take. Refused where it took what was never sent.
+    /// Writes again what the other end didn't take. Refused where it lost its journal: it took what was never sent, or
+    /// took less than it answered.
     fn join<W: Wire>(
         &self,
         pass: &Pass<N>,
         last: Counter,
         wire: &mut W,
     ) -> Result<Phase, NodeError> {
-        if last > last_sent(pass.receipts()) {
+        let receipts = pass.receipts();
+        if last > last_sent(receipts) || last < last_answered(receipts) {
             return Err(NodeError::Read);
         }
         self.send_again(pass, last, wire)?;
