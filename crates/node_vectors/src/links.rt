@@ -236,6 +236,21 @@ fn what_was_not_taken_is_sent_again(rt: HostRuntime) -> Result<(), Fail> {
 }
 
 #[test]
+fn a_partner_that_lost_its_journal_is_refused(rt: HostRuntime) -> Result<(), Fail> {
+    let heard: &[&[u8]] = &[CONNECT_REPLY, REPLY];
+    let told = Case::new(Role::Primary, heard, &[CONNECT, UPDATE], A_ANSWERED);
+    let case = Case {
+        grants: true,
+        step: 26,
+        again: &[CONNECT_REPLY],
+        written_again: &[CONNECT_OF_ONE],
+        ended: Err(NodeError::Read),
+        ..told
+    };
+    check(&rt, rt.alloc(), &case)
+}
+
+#[test]
 fn an_end_says_that_it_goes(rt: HostRuntime) -> Result<(), Fail> {
     let primary = Case::new(Role::Primary, &[], &[CONNECT, DISCONNECT], A_OPENED);
     check(
