@@ -5,7 +5,8 @@ use Rattle.binding_rules.specs.declared.message.Body.TheVariants.{Update, Reply,
 use Rattle.binding_rules.specs.declared.message.PartnerMessage.{PartnerMessage}
 use Rattle.failover_message.specs.declared.frame.Frame.{Frame}
 use Rattle.failover_message.specs.declared.frame.FrameKind.{FrameKind}
-use Rattle.failover_message.specs.declared.frame.FrameKind.TheVariants.{BindingUpdate, BindingReply, Contact as ContactKind}
+use Rattle.failover_message.specs.declared.frame.FrameKind.TheVariants.{BindingUpdate, BindingReply}
+use Rattle.failover_message.specs.declared.frame.FrameKind.TheVariants.{Contact as ContactKind}
 
 -- the frames with a serial: BNDUPD, BNDREPLY and CONTACT (RFC 8156, section 5)
 abbrev pub body_in : FrameKind → Option Body

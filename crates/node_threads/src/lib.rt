@@ -1,8 +1,12 @@
-//! What the threads of a node do: workers that answer clients' datagrams out of one shared book.
+//! What the threads of a node do: workers that answer clients' datagrams out of one shared book, and one end of the
+//! link to its partner.
 //!
 //! [`serve_datagrams`] is a worker: it takes a turn, receives a datagram, reads it, takes the time, orders what the
 //! client asks, and sends the answer. It goes over any [`Datagrams`] and any [`Clock`], so a test may hold them;
 //! [`UdpDatagrams`] and [`SystemClock`] are the system's. No lock is held but for one order.
+//!
+//! [`serve_link`] is one end of the link: over a [`Wire`], which [`TcpWire`] is by the system's streams, it joins the
+//! other end, takes its messages, ends leases that have ended, and sends replies and updates of the book.
 //!
 //! What is ordered and answered is fixed by the contracts of `dhcp6_pd`, `server_book` and `locked_book`; what an
 //! engine adds is said where it stands. That datagrams arrive and go out is tested alone.

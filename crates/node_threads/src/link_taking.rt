@@ -3,11 +3,12 @@
 use crate::clock::Clock;
 use crate::error::NodeError;
 use crate::link_end::LinkEnd;
-use crate::memory::{last_sent, last_taken};
+use crate::memory::{last_answered, last_sent, last_taken};
 use crate::messages::{message_in, write_word};
 use crate::wire::Wire;
-use binding_rules::{Counter, PartnerMessage, Role};
+use binding_rules::{Acknowledgement, BindReply, Body, Counter, PartnerMessage, Role, Status};
 use failover_message::{Frame, FrameKind};
+use lead_time::Reading;
 use locked_book::{BookName, Pass};
 use server_book::Order;
 use std::sync::Wait;
@@ -36,14 +37,16 @@ impl<'a, N: BookName, R: Wait, C: Clock> LinkEnd<'a, N, R, C> {
         }
     }
 
-    /// Writes again what the other end didn't take. Refused where it took what was never sent.
+    /// Writes again what the other end didn't take. Refused where it lost its journal: it took what was never sent, or
+    /// took less than it answered.
     fn join<W: Wire>(
         &self,
         pass: &Pass<N>,
         last: Counter,
         wire: &mut W,
     ) -> Result<Phase, NodeError> {
-        if last > last_sent(pass.receipts()) {
+        let receipts = pass.receipts();
+        if last > last_sent(receipts) || last < last_answered(receipts) {
             return Err(NodeError::Read);
         }
         self.send_again(pass, last, wire)?;
@@ -93,6 +96,35 @@ impl<'a, N: BookName, R: Wait, C: Clock> LinkEnd<'a, N, R, C> {
         }
         let now = self.clock.now()?;
         self.order(pass, now, &Order::Take(*message))?;
+        match &message.body {
+            Body::Reply(reply) => self.ask_back(pass, now, reply),
+            Body::Update(_) | Body::Contact { .. } => Ok(()),
+        }
+    }
+
+    /// Asks for a unit back whose last change was its move to the secondary, where that rejects it.
+    fn ask_back(
+        &self,
+        pass: &mut Pass<N>,
+        now: Reading,
+        reply: &BindReply,
+    ) -> Result<(), NodeError> {
+        if !matches!(
+            (self.role, reply.acknowledgement),
+            (Role::Primary, Acknowledgement::Reject)
+        ) {
+            return Ok(());
+        }
+        let look = match self.shared.look(self.rt, pass, reply.prefix) {
+            Ok(look) => look,
+            Err(refusal) => return Err(NodeError::Serve(refusal)),
+        };
+        let Some(unit) = &look.unit else {
+            return Ok(());
+        };
+        if unit.due == Some(Status::Backup) && unit.mine == reply.of {
+            self.order(pass, now, &Order::Reclaim(reply.prefix))?;
+        }
         Ok(())
     }
 

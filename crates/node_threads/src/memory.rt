@@ -1,6 +1,6 @@
 //! What a link's end knows by its pass's receipts.
 
-use binding_rules::{Body, Counter, Status, Update};
+use binding_rules::{BindReply, Body, Counter, PartnerMessage, Status, Update};
 use journal_lines::Event;
 use locked_book::Receipt;
 use prefix_range::Prefix;
@@ -51,4 +51,45 @@ pub(crate) fn was_sent(
         }
     }
     false
+}
+
+/// The reply that a receipt tells as taken.
+fn reply_in(receipt: &Receipt) -> Option<&BindReply> {
+    match &receipt.line.event {
+        Event::Take(message) => match &message.body {
+            Body::Reply(reply) => Some(reply),
+            _ => None,
+        },
+        _ => None,
+    }
+}
+
+/// Whether a reply answers this message.
+fn answers(reply: &BindReply, message: &PartnerMessage) -> bool {
+    match &message.body {
+        Body::Update(update) => update.prefix == reply.prefix && update.mine == reply.of,
+        Body::Reply(_) | Body::Contact { .. } => false,
+    }
+}
+
+/// The serial of the message that a reply answers: 0 where none was sent.
+fn answered_by(receipts: &[Receipt], reply: &BindReply) -> Counter {
+    for receipt in receipts.iter().rev() {
+        if let Event::Send(message) = &receipt.line.event {
+            if answers(reply, message) {
+                return message.serial;
+            }
+        }
+    }
+    Counter::ZERO
+}
+
+/// A serial that the partner has taken: that of the message which its last reply answers. 0 where it replied to none.
+pub(crate) fn last_answered(receipts: &[Receipt]) -> Counter {
+    for receipt in receipts.iter().rev() {
+        if let Some(reply) = reply_in(receipt) {
+            return answered_by(receipts, reply);
+        }
+    }
+    Counter::ZERO
 }

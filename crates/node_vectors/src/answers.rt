@@ -43,7 +43,8 @@ const WHOLE_HOUR: &[u8] = b"pd-journal 1 A
 end 4
 ";
 
-fn octets(alloc: Global, text: &[u8]) -> Result<Vec<u8>, Fail> {
+/// The octets that digits spell.
+pub fn octets(alloc: Global, text: &[u8]) -> Result<Vec<u8>, Fail> {
     if !is_hex(text) {
         return Err(Fail::from("no digits"));
     }
@@ -61,7 +62,7 @@ fn all_octets(alloc: Global, texts: &[&[u8]]) -> Result<Vec<Vec<u8>>, Fail> {
 }
 
 /// Closes a book, and says whether it could be.
-fn closes(book: &mut Book, now: Reading) -> bool {
+pub fn closes(book: &mut Book, now: Reading) -> bool {
     match book.apply(now, &Order::Close) {
         Ok(_) => true,
         Err(_) => false,

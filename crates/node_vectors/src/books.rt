@@ -2,7 +2,7 @@
 
 ghost use Rattle.std.specs.Prelude.{◌≡◌, length};
 
-use binding_rules::ServerState;
+use binding_rules::{Role, ServerState};
 use client_id::Duid;
 use lead_time::Reading;
 use locked_book::{BookName, SharedBook};
@@ -22,10 +22,23 @@ const PRIMARY: &[u8] =
 const SECONDARY: &[u8] =
     b"role = \"secondary\"\nduid = \"00030001020000000009\"\nskew_ms = 2000\nmclt = 3600\nlife = 3600\n[[pool]]\nprefix = \"2001:db8::/48\"\nunit = 56\n";
 
-/// The primary's book, opened at 9000: it has two lines.
+/// The settings of a server of the pair.
+pub fn settings_of(alloc: Global, role: Role) -> Result<Settings, Fail> {
+    let text = match role {
+        Role::Primary => PRIMARY,
+        Role::Secondary => SECONDARY,
+    };
+    Ok(Settings::read(alloc, text)?)
+}
+
+/// A server's book, opened at 9000: it has two lines.
+pub fn opened_by(alloc: Global, settings: &Settings) -> Result<Book, Fail> {
+    Ok(Book::open(alloc, Reading::new(9000)?, settings)?)
+}
+
+/// The primary's book, opened at 9000.
 pub fn opened(alloc: Global) -> Result<Book, Fail> {
-    let settings = Settings::read(alloc, PRIMARY)?;
-    Ok(Book::open(alloc, Reading::new(9000)?, &settings)?)
+    opened_by(alloc, &settings_of(alloc, Role::Primary)?)
 }
 
 /// A secondary's book, opened at 9000, whose partner is down since then: it has three lines, and no unit of its own.

@@ -8,8 +8,14 @@ mod books;
 #[cfg(test)]
 mod clocks;
 #[cfg(test)]
+mod frames;
+#[cfg(test)]
+mod links;
+#[cfg(test)]
 mod meetings;
 #[cfg(test)]
 mod over_udp;
 #[cfg(test)]
 mod post;
+#[cfg(test)]
+mod scripts;

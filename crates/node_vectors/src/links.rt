@@ -1,0 +1,338 @@
+//! What one end of the link writes to a wire in memory, and the journal that it leaves.
+
+ghost use Rattle.std.specs.Prelude.{◌≡◌, length};
+
+use crate::answers::{closes, octets};
+use crate::books::{opened_by, settings_of};
+use crate::clocks::Still;
+use crate::frames::*;
+use crate::scripts::Script;
+use binding_rules::Role;
+use client_id::{Duid, Iaid};
+use journal_text::write;
+use lead_time::Reading;
+use locked_book::{BookName, SharedBook};
+use node_threads::{NodeError, Turns, serve_link};
+use server_book::{Asked, Book, Order, Settings};
+use std::alloc::Global;
+use std::marker::Brand;
+use std::process::Abort;
+use std::sync::Wait;
+use std::sync::ledger::Blank;
+use std::test::Fail;
+
+/// When all of it happens.
+fn now() -> Result<Reading, Fail> {
+    Ok(Reading::new(10_000)?)
+}
+
+/// What is asked of a book before the link: a lease of the first unit, or nothing.
+fn asked(grants: bool) -> Option<Order> {
+    if !grants {
+        return None;
+    }
+    match Duid::from_hex(b"00030001020000000001") {
+        Ok(client) => Some(Order::Request(Asked {
+            client,
+            iaid: Iaid(1),
+            hint: None,
+        })),
+        Err(_) => None,
+    }
+}
+
+/// What becomes of a link's end.
+#[derive(Drop)]
+struct Done {
+    ended: Result<(), NodeError>,
+    book: Book,
+}
+
+/// What becomes of a link's end over one wire after another.
+fn by_link<N: BookName, R: Wait>(
+    rt: &R,
+    alloc: Global,
+    blank: Blank,
+    book: Book,
+    settings: &Settings,
+    first: Option<Order>,
+    turns: &Turns,
+    now: Reading,
+    wire: &mut Script<'_>,
+    second: &mut Script<'_>,
+) -> Option<Done>
+    requires name { blank.name ≡ N.name }
+    requires passes { (blank.parts ≡ N.parts) × (N.parts ≡ 1) × (N.passes ≡ 1) }
+    requires lines { N.opened ≡ length book.lines }
+{
+    let Ok((shared, mut passes)) = SharedBook::<N>::open(alloc, blank, book, 1) else {
+        return None;
+    };
+    let mut pass = passes.pop()?;
+    if let Some(order) = &first {
+        shared.serve(rt, &mut pass, now, order).ok()?;
+    }
+    let clock = Still::new(now);
+    let mut ended = serve_link(rt, alloc, &shared, &mut pass, settings, &clock, turns, wire);
+    if second.is_there() {
+        ended = serve_link(
+            rt, alloc, &shared, &mut pass, settings, &clock, turns, second,
+        );
+    }
+    passes.push(pass).ok()?;
+    match shared.close(passes) {
+        Ok(book) => Some(Done { ended, book }),
+        Err(_) => None,
+    }
+}
+
+/// A link's end, what it hears, and what is to come of it.
+#[derive(Drop)]
+struct Case<'a> {
+    role: Role,
+    /// Whether the first unit is granted before.
+    grants: bool,
+    /// Whether the workers have ended before.
+    is_over: bool,
+    /// What comes over the wire.
+    heard: &'a [&'a [u8]],
+    /// How many octets a read brings, at most.
+    step: usize,
+    /// What comes over a second wire, if there is one.
+    again: &'a [&'a [u8]],
+    /// How many writes succeed.
+    writes: usize,
+    written: &'a [&'a [u8]],
+    written_again: &'a [&'a [u8]],
+    ended: Result<(), NodeError>,
+    journal: &'a [u8],
+}
+
+impl<'a> Case<'a> {
+    /// What an end writes that hears these frames, and its journal.
+    fn new(
+        role: Role,
+        heard: &'a [&'a [u8]],
+        written: &'a [&'a [u8]],
+        journal: &'a [u8],
+    ) -> Case<'a> {
+        Case {
+            role,
+            grants: false,
+            is_over: false,
+            heard,
+            step: 4096,
+            again: &[],
+            writes: 100,
+            written,
+            written_again: &[],
+            ended: Ok(()),
+            journal,
+        }
+    }
+}
+
+fn joined(alloc: Global, frames: &[&[u8]]) -> Result<Vec<u8>, Fail> {
+    let mut all = Vec::new(alloc);
+    for frame in frames {
+        all.extend_from_slice(&octets(alloc, frame)?)?;
+    }
+    Ok(all)
+}
+
+fn check(rt: &(impl Abort + Wait), alloc: Global, case: &Case<'_>) -> Result<(), Fail> {
+    let settings = settings_of(alloc, case.role)?;
+    let book = opened_by(alloc, &settings)?;
+    let heard = joined(alloc, case.heard)?;
+    let again = joined(alloc, case.again)?;
+    let mut wire = Script::new(alloc, &heard, case.step, 2, case.writes);
+    let mut second = Script::new(alloc, &again, case.step, 2, case.writes);
+    let turns = Turns::new(0);
+    if case.is_over {
+        turns.end(rt);
+    }
+    let first = asked(case.grants);
+    let at = now()?;
+    let blank = Blank::new(1);
+    let done = by_link::<Brand, _>(
+        rt,
+        alloc,
+        blank,
+        book,
+        &settings,
+        first,
+        &turns,
+        at,
+        &mut wire,
+        &mut second,
+    );
+    let Some(Done { ended, mut book }) = done else {
+        return Err(Fail::from("not closed"));
+    };
+    assert_eq!(rt; ended, case.ended);
+    assert_eq!(rt; wire.written(), joined(alloc, case.written)?.as_slice());
+    assert_eq!(rt;
+        second.written(),
+        joined(alloc, case.written_again)?.as_slice()
+    );
+    assert!(rt; closes(&mut book, at));
+    let text = write(alloc, book.role(), book.head(), book.journal())?;
+    assert_eq!(rt; text.as_slice(), case.journal);
+    Ok(())
+}
+
+#[test]
+fn the_secondary_answers_connect_and_takes_a_contact(rt: HostRuntime) -> Result<(), Fail> {
+    let heard: &[&[u8]] = &[CONNECT, CONTACT];
+    let case = Case::new(Role::Secondary, heard, &[CONNECT_REPLY], B_CONTACT);
+    check(&rt, rt.alloc(), &case)?;
+    check(&rt, rt.alloc(), &Case { step: 1, ..case })
+}
+
+#[test]
+fn a_frame_is_taken_once(rt: HostRuntime) -> Result<(), Fail> {
+    let heard: &[&[u8]] = &[CONNECT, CONTACT, CONTACT];
+    let case = Case::new(Role::Secondary, heard, &[CONNECT_REPLY], B_CONTACT);
+    check(&rt, rt.alloc(), &case)
+}
+
+#[test]
+fn the_secondary_replies_to_an_update(rt: HostRuntime) -> Result<(), Fail> {
+    let heard: &[&[u8]] = &[CONNECT, UPDATE];
+    let case = Case::new(Role::Secondary, heard, &[CONNECT_REPLY, REPLY], B_ANSWERED);
+    check(&rt, rt.alloc(), &case)
+}
+
+#[test]
+fn the_primary_tells_of_a_lease_once(rt: HostRuntime) -> Result<(), Fail> {
+    let told = Case::new(Role::Primary, &[CONNECT_REPLY], &[CONNECT, UPDATE], A_TOLD);
+    check(
+        &rt,
+        rt.alloc(),
+        &Case {
+            grants: true,
+            ..told
+        },
+    )
+}
+
+#[test]
+fn what_was_not_taken_is_sent_again(rt: HostRuntime) -> Result<(), Fail> {
+    let told = Case::new(
+        Role::Primary,
+        &[CONNECT_REPLY],
+        &[CONNECT, UPDATE],
+        A_ANSWERED,
+    );
+    let again: &[&[u8]] = &[CONNECT_REPLY, REPLY];
+    let written_again: &[&[u8]] = &[CONNECT, UPDATE];
+    let case = Case {
+        grants: true,
+        again,
+        written_again,
+        ..told
+    };
+    check(&rt, rt.alloc(), &case)
+}
+
+#[test]
+fn a_partner_that_lost_its_journal_is_refused(rt: HostRuntime) -> Result<(), Fail> {
+    let heard: &[&[u8]] = &[CONNECT_REPLY, REPLY];
+    let told = Case::new(Role::Primary, heard, &[CONNECT, UPDATE], A_ANSWERED);
+    let case = Case {
+        grants: true,
+        step: 26,
+        again: &[CONNECT_REPLY],
+        written_again: &[CONNECT_OF_ONE],
+        ended: Err(NodeError::Read),
+        ..told
+    };
+    check(&rt, rt.alloc(), &case)
+}
+
+#[test]
+fn an_end_says_that_it_goes(rt: HostRuntime) -> Result<(), Fail> {
+    let primary = Case::new(Role::Primary, &[], &[CONNECT, DISCONNECT], A_OPENED);
+    check(
+        &rt,
+        rt.alloc(),
+        &Case {
+            is_over: true,
+            ..primary
+        },
+    )?;
+    let heard: &[&[u8]] = &[CONNECT, DISCONNECT, CONTACT];
+    let secondary = Case::new(Role::Secondary, heard, &[CONNECT_REPLY], B_OPENED);
+    check(&rt, rt.alloc(), &secondary)
+}
+
+/// Refuses these frames after these are written, with nothing taken.
+fn check_refused(
+    rt: &(impl Abort + Wait),
+    alloc: Global,
+    role: Role,
+    heard: &[&[u8]],
+    written: &[&[u8]],
+    journal: &[u8],
+) -> Result<(), Fail> {
+    let case = Case::new(role, heard, written, journal);
+    check(
+        rt,
+        alloc,
+        &Case {
+            ended: Err(NodeError::Read),
+            ..case
+        },
+    )
+}
+
+#[test]
+fn what_does_not_come_there_is_refused(rt: HostRuntime) -> Result<(), Fail> {
+    let alloc = rt.alloc();
+    check_refused(&rt, alloc, Role::Secondary, &[CONTACT], &[], B_OPENED)?;
+    check_refused(
+        &rt,
+        alloc,
+        Role::Secondary,
+        &[CONNECT_OF_SECONDARY],
+        &[],
+        B_OPENED,
+    )?;
+    check_refused(
+        &rt,
+        alloc,
+        Role::Secondary,
+        &[CONNECT_OF_ONE],
+        &[CONNECT_REPLY],
+        B_OPENED,
+    )?;
+    check_refused(&rt, alloc, Role::Secondary, &[b"0000000c"], &[], B_OPENED)?;
+    check_refused(&rt, alloc, Role::Primary, &[CONNECT], &[CONNECT], A_OPENED)
+}
+
+/// Fails the write after so many, of a secondary that hears an update.
+fn check_unwritten(
+    rt: &(impl Abort + Wait),
+    alloc: Global,
+    writes: usize,
+    written: &[&[u8]],
+    journal: &[u8],
+) -> Result<(), Fail> {
+    let heard: &[&[u8]] = &[CONNECT, UPDATE];
+    let case = Case::new(Role::Secondary, heard, written, journal);
+    check(
+        rt,
+        alloc,
+        &Case {
+            writes,
+            ended: Err(NodeError::Write),
+            ..case
+        },
+    )
+}
+
+#[test]
+fn a_failing_write_ends_an_end(rt: HostRuntime) -> Result<(), Fail> {
+    check_unwritten(&rt, rt.alloc(), 0, &[], B_OPENED)?;
+    check_unwritten(&rt, rt.alloc(), 1, &[CONNECT_REPLY], B_ANSWERED)
+}

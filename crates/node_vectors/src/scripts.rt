@@ -1,0 +1,85 @@
+//! A wire in memory.
+
+use node_threads::{Got, NetFault, Wire};
+use std::alloc::Global;
+
+/// A wire that brings octets, so many a read at most, then is idle, and then ends. It keeps what is written, until a
+/// write fails.
+#[derive(Drop)]
+pub struct Script<'a> {
+    octets: &'a [u8],
+    place: usize,
+    step: usize,
+    idles: usize,
+    writes: usize,
+    written: Vec<u8>,
+}
+
+impl<'a> Script<'a> {
+    /// A wire whose reads bring `step` octets at most, which is idle `idles` times, and takes `writes` writes.
+    pub fn new(
+        alloc: Global,
+        octets: &'a [u8],
+        step: usize,
+        idles: usize,
+        writes: usize,
+    ) -> Script<'a> {
+        Script {
+            octets,
+            place: 0,
+            step,
+            idles,
+            writes,
+            written: Vec::new(alloc),
+        }
+    }
+
+    /// All that was written.
+    pub fn written(&self) -> &[u8] {
+        &self.written
+    }
+
+    /// Whether it brings any octets.
+    pub fn is_there(&self) -> bool {
+        !self.octets.is_empty()
+    }
+
+    fn is_idle(&mut self) -> bool {
+        match self.idles.checked_sub(1) {
+            Some(left) => {
+                self.idles = left;
+                true
+            }
+            None => false,
+        }
+    }
+}
+
+impl Wire for Script<'_> {
+    fn read(&mut self, buffer: &mut [u8]) -> Result<Got, NetFault> {
+        let Some(rest) = self.octets.get(self.place..) else {
+            return Err(NetFault);
+        };
+        let count = rest.len().min(self.step);
+        if count == 0 {
+            return Ok(if self.is_idle() { Got::Idle } else { Got::End });
+        }
+        let Some(front) = buffer.get_mut(..count) else {
+            return Err(NetFault);
+        };
+        front.copy_from_slice(&rest[..count]);
+        self.place = self.place.saturating_add(count);
+        Ok(Got::Octets(count))
+    }
+
+    fn write(&mut self, octets: &[u8]) -> Result<(), NetFault> {
+        let Some(left) = self.writes.checked_sub(1) else {
+            return Err(NetFault);
+        };
+        self.writes = left;
+        match self.written.extend_from_slice(octets) {
+            Ok(()) => Ok(()),
+            Err(_) => Err(NetFault),
+        }
+    }
+}
