@@ -13,6 +13,7 @@ use journal_text::write;
 use lead_time::Reading;
 use locked_book::{BookName, SharedBook};
 use node_threads::{NodeError, Turns, serve_link};
+use prefix_range::read_text;
 use server_book::{Asked, Book, Order, Settings};
 use std::alloc::Global;
 use std::marker::Brand;
@@ -26,18 +27,31 @@ fn now() -> Result<Reading, Fail> {
     Ok(Reading::new(10_000)?)
 }
 
-/// What is asked of a book before the link: a lease of the first unit, or nothing.
-fn asked(grants: bool) -> Option<Order> {
-    if !grants {
-        return None;
-    }
-    match Duid::from_hex(b"00030001020000000001") {
-        Ok(client) => Some(Order::Request(Asked {
-            client,
-            iaid: Iaid(1),
-            hint: None,
-        })),
-        Err(_) => None,
+/// What is ordered of a book before the link.
+#[derive(Clone, Copy)]
+enum First {
+    Nothing,
+    /// A lease of the first unit.
+    Lease,
+    /// The move of the first unit to the secondary.
+    Move,
+}
+
+fn order_of(first: First) -> Option<Order> {
+    match first {
+        First::Nothing => None,
+        First::Lease => match Duid::from_hex(b"00030001020000000001") {
+            Ok(client) => Some(Order::Request(Asked {
+                client,
+                iaid: Iaid(1),
+                hint: None,
+            })),
+            Err(_) => None,
+        },
+        First::Move => match read_text(b"2001:db8::/56") {
+            Ok(prefix) => Some(Order::Backup(prefix)),
+            Err(_) => None,
+        },
     }
 }
 
@@ -90,8 +104,7 @@ fn by_link<N: BookName, R: Wait>(
 #[derive(Drop)]
 struct Case<'a> {
     role: Role,
-    /// Whether the first unit is granted before.
-    grants: bool,
+    first: First,
     /// Whether the workers have ended before.
     is_over: bool,
     /// What comes over the wire.
@@ -118,7 +131,7 @@ impl<'a> Case<'a> {
     ) -> Case<'a> {
         Case {
             role,
-            grants: false,
+            first: First::Nothing,
             is_over: false,
             heard,
             step: 4096,
@@ -151,7 +164,7 @@ fn check(rt: &(impl Abort + Wait), alloc: Global, case: &Case<'_>) -> Result<(),
     if case.is_over {
         turns.end(rt);
     }
-    let first = asked(case.grants);
+    let first = order_of(case.first);
     let at = now()?;
     let blank = Blank::new(1);
     let done = by_link::<Brand, _>(
@@ -210,7 +223,7 @@ fn the_primary_tells_of_a_lease_once(rt: HostRuntime) -> Result<(), Fail> {
         &rt,
         rt.alloc(),
         &Case {
-            grants: true,
+            first: First::Lease,
             ..told
         },
     )
@@ -227,7 +240,7 @@ fn what_was_not_taken_is_sent_again(rt: HostRuntime) -> Result<(), Fail> {
     let again: &[&[u8]] = &[CONNECT_REPLY, REPLY];
     let written_again: &[&[u8]] = &[CONNECT, UPDATE];
     let case = Case {
-        grants: true,
+        first: First::Lease,
         again,
         written_again,
         ..told
@@ -240,7 +253,7 @@ fn a_partner_that_lost_its_journal_is_refused(rt: HostRuntime) -> Result<(), Fai
     let heard: &[&[u8]] = &[CONNECT_REPLY, REPLY];
     let told = Case::new(Role::Primary, heard, &[CONNECT, UPDATE], A_ANSWERED);
     let case = Case {
-        grants: true,
+        first: First::Lease,
         step: 26,
         again: &[CONNECT_REPLY],
         written_again: &[CONNECT_OF_ONE],
@@ -248,6 +261,21 @@ fn a_partner_that_lost_its_journal_is_refused(rt: HostRuntime) -> Result<(), Fai
         ..told
     };
     check(&rt, rt.alloc(), &case)
+}
+
+#[test]
+fn a_unit_whose_move_is_rejected_is_asked_back(rt: HostRuntime) -> Result<(), Fail> {
+    let heard: &[&[u8]] = &[CONNECT_REPLY, REJECTION];
+    let case = Case::new(Role::Primary, heard, &[CONNECT, MOVE, RETURN], A_ASKED_BACK);
+    check(
+        &rt,
+        rt.alloc(),
+        &Case {
+            first: First::Move,
+            step: 26,
+            ..case
+        },
+    )
 }
 
 #[test]
