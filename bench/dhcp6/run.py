@@ -15,7 +15,7 @@ import time
 
 HERE = pathlib.Path(__file__).resolve().parent
 ROOT = HERE.parent.parent
-CRATES = ["text_fields", "prefix_range", "client_id", "dhcp6_pd"]
+CRATES = ["text_fields", "lists", "prefix_range", "client_id", "dhcp6_pd"]
 COUNT = 2_000_000
 SOLICIT = bytes.fromhex("010a0b0c0001000a000300010200000000010019000c000000010000000000000000")
 
@@ -62,4 +62,5 @@ def main():
         print(f"{name}: dhcp6_pd {rates[0]:.2f}, plain Rust {rates[1]:.2f} million a second; dhcp6_pd : plain {best[ours][0] / best[plain][0]:.2f} (time)")
 
 
-main()
+if __name__ == "__main__":
+    main()
