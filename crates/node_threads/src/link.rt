@@ -60,8 +60,9 @@ fn turn<N: BookName, R: Wait, C: Clock, W: Wire>(
 /// is the same for each connection.
 ///
 /// It ends sooner where the clock fails (`Net`), a read fails or brings what is no frame or not the frame that comes
-/// there (`Read`), a write fails (`Write`), a growth is refused (`Memory`), or the pass is a stranger to the book
-/// (`Serve`). Any other refusal of the book is passed over.
+/// there (`Read`), a write fails (`Write`), a growth is refused (`Memory`), or the pass is a stranger to the book or the
+/// book has no room for a message that came (`Serve`): were that passed over, a later one would be taken in its place,
+/// and this one lost. Any other refusal of the book is passed over.
 pub fn serve_link<N: BookName, R: Wait, C: Clock, W: Wire>(
     rt: &R,
     alloc: Global,
