@@ -86,20 +86,22 @@ IsLooked j last p (Ok look) = Stands j.lines last × IsLook j p look
 IsLooked j last p (Err (Stranger number found)) = IsStrange j.lines last number found
 IsLooked j last p (Err _) = ⊥
 
--- what there is to do at a reading
-pub record IsWork (j : Journal) (now : ℕ) (work : Work) : Type 0 where
+-- what there is to do at a reading; of what is to be sent, for units that begin at an address or above
+pub record IsWork (j : Journal) (now from : ℕ) (work : Work) : Type 0 where
   pub lines : work.lines ≡ length j.lines
   pub expired : IsLeastOf (IsToExpire (state_of j) now) work.expired
   pub expiry : IsFirstExpiry (state_of j) work.expiry
-  pub reply : IsLeastOf (HasReply (state_of j) 0) work.reply
-  pub change : IsLeastOf (HasChange (state_of j) 0) work.change
-  pub mark : IsLeastOf (HasMark (state_of j) 0) work.mark
+  pub reply : IsLeastOf (HasReply (state_of j) from) work.reply
+  pub change : IsLeastOf (HasChange (state_of j) from) work.change
+  pub mark : IsLeastOf (HasMark (state_of j) from) work.mark
   pub seizable : IsLeastOf (IsToSeize (state_of j) now) work.seizable
+  pub waiting : work.waiting ≡ (state_of j).waiting
+  pub down : work.down ≡ (state_of j).down
 
-abbrev pub IsWorkFound : Journal → Option Receipt → ℕ → Result Work ServeError → Type 0
-IsWorkFound j last now (Ok work) = Stands j.lines last × IsWork j now work
-IsWorkFound j last now (Err (Stranger number found)) = IsStrange j.lines last number found
-IsWorkFound j last now (Err _) = ⊥
+abbrev pub IsWorkFound : Journal → Option Receipt → ℕ → ℕ → Result Work ServeError → Type 0
+IsWorkFound j last now from (Ok work) = Stands j.lines last × IsWork j now from work
+IsWorkFound j last now from (Err (Stranger number found)) = IsStrange j.lines last number found
+IsWorkFound j last now from (Err _) = ⊥
 
 -- ---- the change
 

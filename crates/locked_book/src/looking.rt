@@ -30,9 +30,14 @@ pub(crate) fn look_at(
     })
 }
 
-/// What there is to do at a reading.
-pub(crate) fn work_at(book: &Book, last: Option<Receipt>, now: Reading) -> Result<Work, ServeError>
-    ensures found { IsWorkFound book.now last now result }
+/// What there is to do at a reading; of what is to be sent, for units that begin at an address or above.
+pub(crate) fn work_at(
+    book: &Book,
+    last: Option<Receipt>,
+    now: Reading,
+    from: u128,
+) -> Result<Work, ServeError>
+    ensures found { IsWorkFound book.now last now from result }
     ensures legal { IsLegal book.now }
 {
     let lines = book.journal();
@@ -41,10 +46,12 @@ pub(crate) fn work_at(book: &Book, last: Option<Receipt>, now: Reading) -> Resul
         lines: lines.len(),
         expired: book.first_to_expire(now),
         expiry: book.first_expiry(),
-        reply: book.next_reply(0),
-        change: book.next_change(0),
-        mark: book.next_mark(0),
+        reply: book.next_reply(from),
+        change: book.next_change(from),
+        mark: book.next_mark(from),
         seizable: book.first_to_seize(now),
+        waiting: book.waiting(),
+        down: book.down(),
     })
 }
 

@@ -27,7 +27,8 @@ pub struct Look {
     pub down: Option<Reading>,
 }
 
-/// What there is to do in a book at a reading: of each kind the unit with the lowest address, if there is one.
+/// What there is to do in a book at a reading: of each kind the unit with the lowest address, if there is one. Where it
+/// was asked from an address on, that is for what is to be sent: the reply, the change and the mark.
 #[derive(Clone, Copy, Debug, PartialEq, Eq)]
 pub struct Work {
     /// How many lines the journal has.
@@ -44,4 +45,8 @@ pub struct Work {
     pub mark: Option<Prefix>,
     /// The unit that a Seize takes over.
     pub seizable: Option<Prefix>,
+    /// Whether the server waits for its partner's answer to the last restart.
+    pub waiting: bool,
+    /// The reading since which the partner is taken for down.
+    pub down: Option<Reading>,
 }

@@ -142,12 +142,27 @@ impl<N: BookName> SharedBook<N> {
         pass: &mut Pass<N>,
         now: Reading,
     ) -> Result<Work, ServeError>
-        ensures found { (j : Journal) × IsLegal j × IsWorkFound j (last_receipt pass.old.receipts) now result }
+        ensures found { (j : Journal) × IsLegal j × IsWorkFound j (last_receipt pass.old.receipts) now 0 result }
+        ensures same { pass.new ≡ pass.old }
+    {
+        self.work_from(rt, pass, now, 0)
+    }
+
+    /// The same, but that the pending reply, the due change and the mark are those of the lowest unit which begins at
+    /// an address or above: so each of them is found in turn, also while a lower one stays.
+    pub fn work_from<R: Wait>(
+        &self,
+        rt: &R,
+        pass: &mut Pass<N>,
+        now: Reading,
+        from: u128,
+    ) -> Result<Work, ServeError>
+        ensures found { (j : Journal) × IsLegal j × IsWorkFound j (last_receipt pass.old.receipts) now from result }
         ensures same { pass.new ≡ pass.old }
     {
         let last = pass.last();
         let kept = self.kept.lock(rt);
-        work_at(kept.book(), last, now)
+        work_at(kept.book(), last, now, from)
     }
 
     /// What the client of a Request would be given now: a prefix for so many seconds. It writes no line and takes no

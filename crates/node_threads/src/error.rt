@@ -27,7 +27,7 @@ pub enum NodeError {
     /// A growth was refused.
     #[error("fault Memory")]
     Memory,
-    /// The pass is a stranger to the book.
+    /// The pass is a stranger to the book, or the book refuses a message of the partner's.
     #[error("fault Book")]
     Serve(ServeError),
 }

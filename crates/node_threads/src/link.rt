@@ -3,8 +3,8 @@
 use crate::clock::Clock;
 use crate::error::NodeError;
 use crate::link_end::LinkEnd;
-use crate::link_taking::Phase;
 use crate::messages::write_word;
+use crate::talk::{Phase, Talk};
 use crate::turns::Turns;
 use crate::wire::{Got, Wire};
 use failover_message::{Feed, Frame, FrameKind, LinkError};
@@ -29,26 +29,30 @@ fn fed(feed: &mut Feed, octets: &[u8]) -> Result<Vec<Frame>, NodeError> {
 fn turn<N: BookName, R: Wait, C: Clock, W: Wire>(
     end: &LinkEnd<'_, N, R, C>,
     pass: &mut Pass<N>,
-    phase: Phase,
+    talk: &mut Talk,
     feed: &mut Feed,
     buffer: &mut [u8],
     wire: &mut W,
-) -> Result<Phase, NodeError> {
+) -> Result<(), NodeError> {
     let Ok(got) = wire.read(buffer) else {
         return Err(NodeError::Read);
     };
-    let phase = match got {
+    match got {
         Got::Octets(count) => {
             let frames = fed(feed, &buffer[..count])?;
-            end.heed_all(pass, phase, &frames, wire)?
+            end.heed_all(pass, talk, &frames, wire)?;
         }
-        Got::Idle => phase,
-        Got::End => Phase::Ended,
-    };
-    if matches!(phase, Phase::Joined) {
-        end.send_all(pass, wire)?;
+        Got::Idle => {
+            if talk.phase == Phase::Joined {
+                end.ask_if_needed(pass, talk, wire)?;
+            }
+        }
+        Got::End => talk.phase = Phase::Ended,
     }
-    Ok(phase)
+    if talk.phase == Phase::Joined {
+        end.send_all(pass, talk, wire)?;
+    }
+    Ok(())
 }
 
 /// Joins the other end of the link and tells it of this one's book, until the wire's end, a DISCONNECT, or a turn after
@@ -56,8 +60,9 @@ fn turn<N: BookName, R: Wait, C: Clock, W: Wire>(
 /// is the same for each connection.
 ///
 /// It ends sooner where the clock fails (`Net`), a read fails or brings what is no frame or not the frame that comes
-/// there (`Read`), a write fails (`Write`), a growth is refused (`Memory`), or the pass is a stranger to the book
-/// (`Serve`). Any other refusal of the book is passed over.
+/// there (`Read`), a write fails (`Write`), a growth is refused (`Memory`), or the pass is a stranger to the book or the
+/// book has no room for a message that came (`Serve`): were that passed over, a later one would be taken in its place,
+/// and this one lost. Any other refusal of the book is passed over.
 pub fn serve_link<N: BookName, R: Wait, C: Clock, W: Wire>(
     rt: &R,
     alloc: Global,
@@ -68,24 +73,23 @@ pub fn serve_link<N: BookName, R: Wait, C: Clock, W: Wire>(
     turns: &Turns,
     wire: &mut W,
 ) -> Result<(), NodeError> {
-    let role = settings.role();
     let end = LinkEnd {
         rt,
         alloc,
         shared,
-        role,
+        settings,
         clock,
     };
     let mut buffer = vec![in alloc; 0u8; READ_SIZE]?;
     let mut feed = Feed::new(alloc);
-    let mut phase = Phase::Greeting;
-    end.greet(pass, wire)?;
+    let mut talk = Talk::new(alloc);
+    end.greet(pass, &mut talk, wire)?;
     for _ in rt.forever() {
         if turns.has_ended(rt) {
             return write_word(alloc, wire, FrameKind::Disconnect);
         }
-        phase = turn(&end, pass, phase, &mut feed, &mut buffer, wire)?;
-        if matches!(phase, Phase::Ended) {
+        turn(&end, pass, &mut talk, &mut feed, &mut buffer, wire)?;
+        if talk.phase == Phase::Ended {
             return Ok(());
         }
     }

@@ -4,62 +4,119 @@ use crate::clock::Clock;
 use crate::error::NodeError;
 use crate::messages::write_message;
 use crate::wire::Wire;
-use binding_rules::Role;
+use binding_rules::{Outcome, PartnerMessage, Role};
 use journal_lines::Event;
 use lead_time::Reading;
-use locked_book::{BookName, Pass, ServeError, SharedBook};
-use server_book::Order;
+use locked_book::{BookName, Look, Pass, ServeError, SharedBook, Work};
+use prefix_range::Prefix;
+use server_book::{BookError, Order, Reply, Settings};
 use std::alloc::Global;
 use std::sync::Wait;
 
-/// One end of the link: the server's book, role and clock.
+/// One end of the link: the server's book, settings and clock.
 #[derive(Drop)]
 pub(crate) struct LinkEnd<'a, N: BookName, R: Wait, C: Clock> {
     pub rt: &'a R,
     pub alloc: Global,
     pub shared: &'a SharedBook<N>,
-    pub role: Role,
+    pub settings: &'a Settings,
     pub clock: &'a C,
 }
 
+/// What became of an order that a later turn may give again.
+#[derive(Clone, Copy, Debug, PartialEq, Eq)]
+pub(crate) enum Fate {
+    Done,
+    /// The book's rules refuse it now.
+    Refused,
+    /// The journal is full, or a growth was refused.
+    NoRoom,
+}
+
 /// Of an order's refusals a stranger's alone ends the link.
-fn passed_over(refusal: ServeError) -> Result<bool, NodeError> {
+fn fate_of(refusal: ServeError) -> Result<Fate, NodeError> {
     match refusal {
         ServeError::Stranger { .. } => Err(NodeError::Serve(refusal)),
-        ServeError::Book(_) | ServeError::Memory => Ok(false),
+        ServeError::Memory | ServeError::Book(BookError::Memory | BookError::Full) => {
+            Ok(Fate::NoRoom)
+        }
+        ServeError::Book(_) => Ok(Fate::Refused),
     }
 }
 
 impl<'a, N: BookName, R: Wait, C: Clock> LinkEnd<'a, N, R, C> {
-    /// Orders what writes a line. False where it is refused.
+    /// Which server's end it is.
+    pub(crate) fn role(&self) -> Role {
+        self.settings.role()
+    }
+
+    /// Orders what writes a line.
     pub(crate) fn order(
         &self,
         pass: &mut Pass<N>,
         now: Reading,
         order: &Order,
-    ) -> Result<bool, NodeError> {
+    ) -> Result<Fate, NodeError> {
         match self.shared.serve(self.rt, pass, now, order) {
-            Ok(_) => Ok(true),
-            Err(refusal) => passed_over(refusal),
+            Ok(_) => Ok(Fate::Done),
+            Err(refusal) => fate_of(refusal),
         }
     }
 
-    /// Orders what sends a message, and writes that. False where it is refused.
+    /// Orders what sends a message, and writes that.
     pub(crate) fn send<W: Wire>(
         &self,
         pass: &mut Pass<N>,
         now: Reading,
         order: &Order,
         wire: &mut W,
-    ) -> Result<bool, NodeError> {
+    ) -> Result<Fate, NodeError> {
         match self.shared.serve(self.rt, pass, now, order) {
             Ok(receipt) => {
                 if let Event::Send(message) = &receipt.line.event {
                     write_message(self.alloc, wire, message)?;
                 }
-                Ok(true)
+                Ok(Fate::Done)
             }
-            Err(refusal) => passed_over(refusal),
+            Err(refusal) => fate_of(refusal),
+        }
+    }
+
+    /// Orders that the partner's message is taken, and says whether it was accepted. It is the one order whose every
+    /// refusal ends the link: were a later message taken in its place, the partner would never send this one again.
+    pub(crate) fn take_in(
+        &self,
+        pass: &mut Pass<N>,
+        now: Reading,
+        message: &PartnerMessage,
+    ) -> Result<bool, NodeError> {
+        match self
+            .shared
+            .serve(self.rt, pass, now, &Order::Take(*message))
+        {
+            Ok(receipt) => Ok(matches!(receipt.reply, Reply::Taken(Outcome::Accept))),
+            Err(refusal) => Err(NodeError::Serve(refusal)),
+        }
+    }
+
+    /// What there is to do; of what is to be sent, for units that begin at an address or above.
+    pub(crate) fn work(
+        &self,
+        pass: &mut Pass<N>,
+        now: Reading,
+        from: u128,
+    ) -> Result<Work, NodeError> {
+        match self.shared.work_from(self.rt, pass, now, from) {
+            Ok(work) => Ok(work),
+            Err(refusal) => Err(NodeError::Serve(refusal)),
+        }
+    }
+
+    /// What the book has of a unit.
+    pub(crate) fn look(&self, pass: &mut Pass<N>, prefix: &Prefix) -> Result<Look, NodeError> {
+        match self.shared.look(self.rt, pass, *prefix) {
+            Ok(look) => Ok(look),
+            Err(refusal) => Err(NodeError::Serve(refusal)),
         }
     }
 }

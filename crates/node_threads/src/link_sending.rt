@@ -2,11 +2,12 @@
 
 use crate::clock::Clock;
 use crate::error::NodeError;
-use crate::link_end::LinkEnd;
-use crate::memory::was_sent;
-use crate::messages::write_message;
+use crate::link_end::{Fate, LinkEnd};
+use crate::messages::{write_message, write_word};
+use crate::talk::{Again, Talk, lines_at};
 use crate::wire::Wire;
 use binding_rules::{Counter, Status, Unit};
+use failover_message::FrameKind;
 use journal_lines::Event;
 use lead_time::Reading;
 use locked_book::{BookName, Pass, Work};
@@ -14,79 +15,160 @@ use prefix_range::Prefix;
 use server_book::Order;
 use std::sync::Wait;
 
-/// The most units of a server: no more messages are sent in a turn.
+/// The most units of a server: no more messages of a kind are sent in a turn.
 const MOST_UNITS: u32 = 65_536;
 
-/// What an update of a unit would tell, if there is something to tell.
-fn told_of(unit: &Unit) -> Option<Status> {
-    if unit.marked {
-        Some(Status::Seized)
-    } else {
-        unit.due
+/// What there may be to tell of a unit.
+#[derive(Clone, Copy, Debug, PartialEq, Eq)]
+enum Matter {
+    /// The reply to the partner's update.
+    Reply,
+    /// That it was seized.
+    Mark,
+    /// What became of it.
+    Change,
+}
+
+/// The lowest unit of which there is this to tell.
+fn first_of(work: &Work, matter: Matter) -> Option<Prefix> {
+    match matter {
+        Matter::Reply => work.reply,
+        Matter::Mark => work.mark,
+        Matter::Change => work.change,
+    }
+}
+
+/// What an update of a unit would tell, if it is this that there is to tell: a marked unit's only update is that it was
+/// seized.
+fn status_of(unit: &Unit, matter: Matter) -> Option<Status> {
+    match (matter, unit.marked) {
+        (Matter::Mark, true) => Some(Status::Seized),
+        (Matter::Change, false) => unit.due,
+        _ => None,
     }
 }
 
 impl<'a, N: BookName, R: Wait, C: Clock> LinkEnd<'a, N, R, C> {
-    fn work(&self, pass: &mut Pass<N>, now: Reading) -> Result<Work, NodeError> {
-        match self.shared.work(self.rt, pass, now) {
-            Ok(work) => Ok(work),
-            Err(refusal) => Err(NodeError::Serve(refusal)),
-        }
-    }
-
-    /// Whether a unit has something to tell that wasn't sent yet.
-    fn is_unsent(&self, pass: &mut Pass<N>, prefix: &Prefix) -> Result<bool, NodeError> {
-        let look = match self.shared.look(self.rt, pass, *prefix) {
-            Ok(look) => look,
-            Err(refusal) => return Err(NodeError::Serve(refusal)),
-        };
+    /// Whether a unit's update is to be sent: there is one, and it wasn't sent yet, or is asked for again.
+    fn is_to_tell(
+        &self,
+        pass: &mut Pass<N>,
+        talk: &mut Talk,
+        matter: Matter,
+        prefix: &Prefix,
+    ) -> Result<bool, NodeError> {
+        let look = self.look(pass, prefix)?;
         let Some(unit) = &look.unit else {
             return Ok(false);
         };
-        match told_of(unit) {
-            Some(status) => Ok(!was_sent(pass.receipts(), prefix, status, unit.mine)),
-            None => Ok(false),
-        }
-    }
-
-    /// Sends the lowest pending reply; without one, the update of the lowest unit that has something to tell, unless it
-    /// was sent. False where nothing was sent.
-    fn send_one<W: Wire>(
-        &self,
-        pass: &mut Pass<N>,
-        now: Reading,
-        wire: &mut W,
-    ) -> Result<bool, NodeError> {
-        let work = self.work(pass, now)?;
-        if let Some(prefix) = &work.reply {
-            return self.send(pass, now, &Order::SendReply(*prefix), wire);
-        }
-        let Some(prefix) = &work.change else {
+        let Some(status) = status_of(unit, matter) else {
             return Ok(false);
         };
-        if !self.is_unsent(pass, prefix)? {
-            return Ok(false);
+        if talk.again != Again::Nothing {
+            return Ok(true);
+        }
+        talk.told.catch_up(pass.receipts())?;
+        Ok(!talk.told.was_sent(prefix, status, unit.mine))
+    }
+
+    /// Sends what there is to tell of a unit, if it is to be sent.
+    fn tell<W: Wire>(
+        &self,
+        pass: &mut Pass<N>,
+        talk: &mut Talk,
+        now: Reading,
+        matter: Matter,
+        prefix: &Prefix,
+        wire: &mut W,
+    ) -> Result<Fate, NodeError> {
+        if matter == Matter::Reply {
+            return self.send(pass, now, &Order::SendReply(*prefix), wire);
+        }
+        if !self.is_to_tell(pass, talk, matter, prefix)? {
+            return Ok(Fate::Done);
         }
         self.send(pass, now, &Order::SendUpdate(*prefix), wire)
     }
 
-    /// Ends the lowest lease that has ended, and sends what is to be sent.
+    /// Sends what there is to tell of each unit, the lowest first, from one on. False where there was no room for it.
+    fn tell_each<W: Wire>(
+        &self,
+        pass: &mut Pass<N>,
+        talk: &mut Talk,
+        now: Reading,
+        matter: Matter,
+        first: Option<Prefix>,
+        wire: &mut W,
+    ) -> Result<bool, NodeError> {
+        let mut next = first;
+        for _unit in 0..MOST_UNITS {
+            let Some(prefix) = next else {
+                return Ok(true);
+            };
+            if self.tell(pass, talk, now, matter, &prefix, wire)? == Fate::NoRoom {
+                return Ok(false);
+            }
+            let Some(from) = prefix.first().checked_add(1) else {
+                return Ok(true);
+            };
+            next = first_of(&self.work(pass, now, from)?, matter);
+        }
+        Ok(true)
+    }
+
+    /// Sends each pending reply, then each marked unit's update, then each due one. False where there was no room.
+    fn tell_all<W: Wire>(
+        &self,
+        pass: &mut Pass<N>,
+        talk: &mut Talk,
+        now: Reading,
+        work: &Work,
+        wire: &mut W,
+    ) -> Result<bool, NodeError> {
+        Ok(
+            self.tell_each(pass, talk, now, Matter::Reply, work.reply, wire)?
+                && self.tell_each(pass, talk, now, Matter::Mark, work.mark, wire)?
+                && self.tell_each(pass, talk, now, Matter::Change, work.change, wire)?,
+        )
+    }
+
+    /// What there is to do, once the lowest lease that has ended is ended.
+    fn work_left(&self, pass: &mut Pass<N>, now: Reading) -> Result<Work, NodeError> {
+        let work = self.work(pass, now, 0)?;
+        let Some(prefix) = &work.expired else {
+            return Ok(work);
+        };
+        self.order(pass, now, &Order::Expire(*prefix))?;
+        self.work(pass, now, 0)
+    }
+
+    /// What was asked for again was sent.
+    fn finish_again<W: Wire>(&self, talk: &mut Talk, wire: &mut W) -> Result<(), NodeError> {
+        match talk.again {
+            Again::Nothing => {}
+            Again::Due => write_word(self.alloc, wire, FrameKind::UpdateDone)?,
+            Again::All => talk.owes_done = true,
+        }
+        talk.again = Again::Nothing;
+        Ok(())
+    }
+
+    /// Ends the lowest lease that has ended, and sends what is to be sent. While no line is added to the book, that is
+    /// looked for once.
     pub(crate) fn send_all<W: Wire>(
         &self,
         pass: &mut Pass<N>,
+        talk: &mut Talk,
         wire: &mut W,
     ) -> Result<(), NodeError> {
         let now = self.clock.now()?;
-        let work = self.work(pass, now)?;
-        if let Some(prefix) = &work.expired {
-            self.order(pass, now, &Order::Expire(*prefix))?;
+        let work = self.work_left(pass, now)?;
+        let lines = lines_at(&work, pass.receipts().len());
+        if !talk.is_settled(&lines) && self.tell_all(pass, talk, now, &work, wire)? {
+            self.finish_again(talk, wire)?;
+            talk.settled = Some(lines.with_own(pass.receipts().len()));
         }
-        for _message in 0..MOST_UNITS {
-            if !self.send_one(pass, now, wire)? {
-                return Ok(());
-            }
-        }
-        Ok(())
+        self.conclude(pass, talk, now, wire)
     }
 
     /// Writes again, in order, what was sent after the message of a serial.

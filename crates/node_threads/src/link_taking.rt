@@ -3,8 +3,8 @@
 use crate::clock::Clock;
 use crate::error::NodeError;
 use crate::link_end::LinkEnd;
-use crate::memory::{last_answered, last_sent, last_taken};
 use crate::messages::{message_in, write_word};
+use crate::talk::{Again, Phase, Talk};
 use crate::wire::Wire;
 use binding_rules::{Acknowledgement, BindReply, Body, Counter, PartnerMessage, Role, Status};
 use failover_message::{Frame, FrameKind};
@@ -13,54 +13,51 @@ use locked_book::{BookName, Pass};
 use server_book::Order;
 use std::sync::Wait;
 
-/// How far the two ends have come.
-#[derive(Clone, Copy, Debug, PartialEq, Eq)]
-pub(crate) enum Phase {
-    /// The other end hasn't said yet what it took.
-    Greeting,
-    /// Both have.
-    Joined,
-    /// The other end goes.
-    Ended,
-}
-
 impl<'a, N: BookName, R: Wait, C: Clock> LinkEnd<'a, N, R, C> {
     /// The first frame of the primary: the serial of the last message that it took.
-    pub(crate) fn greet<W: Wire>(&self, pass: &Pass<N>, wire: &mut W) -> Result<(), NodeError> {
-        match self.role {
+    pub(crate) fn greet<W: Wire>(
+        &self,
+        pass: &Pass<N>,
+        talk: &mut Talk,
+        wire: &mut W,
+    ) -> Result<(), NodeError> {
+        talk.told.catch_up(pass.receipts())?;
+        match self.role() {
             Role::Primary => {
-                let last = last_taken(pass.receipts());
-                let role = self.role;
+                let role = Role::Primary;
+                let last = talk.told.taken;
                 write_word(self.alloc, wire, FrameKind::Connect { role, last })
             }
             Role::Secondary => Ok(()),
         }
     }
 
-    /// Writes again what the other end didn't take. Refused where it lost its journal: it took what was never sent, or
-    /// took less than it answered.
+    /// Writes again what the other end didn't take, and then what is asked of each connection. Refused where it lost
+    /// its journal: it took what was never sent, or took less than it answered.
     fn join<W: Wire>(
         &self,
-        pass: &Pass<N>,
+        pass: &mut Pass<N>,
+        talk: &mut Talk,
         last: Counter,
         wire: &mut W,
-    ) -> Result<Phase, NodeError> {
-        let receipts = pass.receipts();
-        if last > last_sent(receipts) || last < last_answered(receipts) {
+    ) -> Result<(), NodeError> {
+        if last > talk.told.sent || last < talk.told.answered {
             return Err(NodeError::Read);
         }
         self.send_again(pass, last, wire)?;
-        Ok(Phase::Joined)
+        talk.phase = Phase::Joined;
+        self.ask(pass, talk, wire)
     }
 
     /// The first frame of the other end: the primary's CONNECT, or the secondary's answer to it.
     fn meet<W: Wire>(
         &self,
-        pass: &Pass<N>,
+        pass: &mut Pass<N>,
+        talk: &mut Talk,
         kind: &FrameKind,
         wire: &mut W,
-    ) -> Result<Phase, NodeError> {
-        match (self.role, kind) {
+    ) -> Result<(), NodeError> {
+        match (self.role(), kind) {
             (
                 Role::Secondary,
                 FrameKind::Connect {
@@ -68,14 +65,14 @@ impl<'a, N: BookName, R: Wait, C: Clock> LinkEnd<'a, N, R, C> {
                     last,
                 },
             ) => {
-                let role = self.role;
-                let taken = last_taken(pass.receipts());
+                let role = Role::Secondary;
+                let taken = talk.told.taken;
                 write_word(
                     self.alloc,
                     wire,
                     FrameKind::ConnectReply { role, last: taken },
                 )?;
-                self.join(pass, *last, wire)
+                self.join(pass, talk, *last, wire)
             }
             (
                 Role::Primary,
@@ -83,22 +80,38 @@ impl<'a, N: BookName, R: Wait, C: Clock> LinkEnd<'a, N, R, C> {
                     role: Role::Secondary,
                     last,
                 },
-            ) => { self.join(pass, *last, wire) }
-            (_, FrameKind::Disconnect) => Ok(Phase::Ended),
+            ) => self.join(pass, talk, *last, wire),
+            (_, FrameKind::Disconnect) => {
+                talk.phase = Phase::Ended;
+                Ok(())
+            }
             _ => Err(NodeError::Read),
         }
     }
 
     /// Takes a message, unless it was taken before.
-    fn take(&self, pass: &mut Pass<N>, message: &PartnerMessage) -> Result<(), NodeError> {
-        if message.serial <= last_taken(pass.receipts()) {
+    fn take<W: Wire>(
+        &self,
+        pass: &mut Pass<N>,
+        talk: &mut Talk,
+        message: &PartnerMessage,
+        wire: &mut W,
+    ) -> Result<(), NodeError> {
+        talk.told.catch_up(pass.receipts())?;
+        if message.serial <= talk.told.taken {
             return Ok(());
         }
         let now = self.clock.now()?;
-        self.order(pass, now, &Order::Take(*message))?;
+        let is_accepted = self.take_in(pass, now, message)?;
         match &message.body {
             Body::Reply(reply) => self.ask_back(pass, now, reply),
-            Body::Update(_) | Body::Contact { .. } => Ok(()),
+            Body::Contact { ask, .. } => {
+                if is_accepted && *ask > Counter::ZERO {
+                    talk.owes_contact = true;
+                }
+                self.ask_again(pass, now, wire)
+            }
+            Body::Update(_) => Ok(()),
         }
     }
 
@@ -110,15 +123,12 @@ impl<'a, N: BookName, R: Wait, C: Clock> LinkEnd<'a, N, R, C> {
         reply: &BindReply,
     ) -> Result<(), NodeError> {
         if !matches!(
-            (self.role, reply.acknowledgement),
+            (self.role(), reply.acknowledgement),
             (Role::Primary, Acknowledgement::Reject)
         ) {
             return Ok(());
         }
-        let look = match self.shared.look(self.rt, pass, reply.prefix) {
-            Ok(look) => look,
-            Err(refusal) => return Err(NodeError::Serve(refusal)),
-        };
+        let look = self.look(pass, &reply.prefix)?;
         let Some(unit) = &look.unit else {
             return Ok(());
         };
@@ -128,31 +138,45 @@ impl<'a, N: BookName, R: Wait, C: Clock> LinkEnd<'a, N, R, C> {
         Ok(())
     }
 
-    /// A frame between the first and the last.
-    fn hear(&self, pass: &mut Pass<N>, frame: &Frame) -> Result<Phase, NodeError> {
-        if let Some(message) = &message_in(frame) {
-            self.take(pass, message)?;
-            return Ok(Phase::Joined);
+    /// A frame between the first and the last that carries no message.
+    fn hear<W: Wire>(
+        &self,
+        pass: &mut Pass<N>,
+        talk: &mut Talk,
+        kind: &FrameKind,
+        wire: &mut W,
+    ) -> Result<(), NodeError> {
+        match kind {
+            FrameKind::Connect { .. } | FrameKind::ConnectReply { .. } => {
+                return Err(NodeError::Read);
+            }
+            FrameKind::Disconnect => talk.phase = Phase::Ended,
+            FrameKind::UpdateRequest => {
+                if talk.again == Again::Nothing {
+                    talk.again = Again::Due;
+                }
+            }
+            FrameKind::UpdateRequestAll => return self.welcome(pass, talk, wire),
+            FrameKind::PoolRequest => return self.share(pass, wire),
+            FrameKind::PoolResponse { .. } => talk.awaits_units = false,
+            _ => {}
         }
-        match &frame.kind {
-            FrameKind::Connect { .. } | FrameKind::ConnectReply { .. } => Err(NodeError::Read),
-            FrameKind::Disconnect => Ok(Phase::Ended),
-            _ => Ok(Phase::Joined),
-        }
+        Ok(())
     }
 
     /// What the end does by one frame.
     fn heed<W: Wire>(
         &self,
         pass: &mut Pass<N>,
-        phase: Phase,
+        talk: &mut Talk,
         frame: &Frame,
         wire: &mut W,
-    ) -> Result<Phase, NodeError> {
-        match phase {
-            Phase::Greeting => self.meet(pass, &frame.kind, wire),
-            Phase::Joined => self.hear(pass, frame),
-            Phase::Ended => Ok(Phase::Ended),
+    ) -> Result<(), NodeError> {
+        match (talk.phase, message_in(frame)) {
+            (Phase::Greeting, _) => self.meet(pass, talk, &frame.kind, wire),
+            (Phase::Joined, Some(message)) => self.take(pass, talk, &message, wire),
+            (Phase::Joined, None) => self.hear(pass, talk, &frame.kind, wire),
+            (Phase::Ended, _) => Ok(()),
         }
     }
 
@@ -160,14 +184,13 @@ impl<'a, N: BookName, R: Wait, C: Clock> LinkEnd<'a, N, R, C> {
     pub(crate) fn heed_all<W: Wire>(
         &self,
         pass: &mut Pass<N>,
-        phase: Phase,
+        talk: &mut Talk,
         frames: &[Frame],
         wire: &mut W,
-    ) -> Result<Phase, NodeError> {
-        let mut phase = phase;
+    ) -> Result<(), NodeError> {
         for frame in frames {
-            phase = self.heed(pass, phase, frame, wire)?;
+            self.heed(pass, talk, frame, wire)?;
         }
-        Ok(phase)
+        Ok(())
     }
 }

@@ -4,92 +4,106 @@ use binding_rules::{BindReply, Body, Counter, PartnerMessage, Status, Update};
 use journal_lines::Event;
 use locked_book::Receipt;
 use prefix_range::Prefix;
+use std::alloc::{AllocError, Global};
+use std::collections::BTreeMap;
 
-/// The serial of the message that was taken last: 0 where none was.
-pub(crate) fn last_taken(receipts: &[Receipt]) -> Counter {
-    for receipt in receipts.iter().rev() {
-        if let Event::Take(message) = &receipt.line.event {
-            return message.serial;
-        }
-    }
-    Counter::ZERO
-}
-
-/// The serial of the message that was sent last: 0 where none was.
-pub(crate) fn last_sent(receipts: &[Receipt]) -> Counter {
-    for receipt in receipts.iter().rev() {
-        if let Event::Send(message) = &receipt.line.event {
-            return message.serial;
-        }
-    }
-    Counter::ZERO
-}
-
-/// The update that a receipt tells as sent.
-fn update_in(receipt: &Receipt) -> Option<&Update> {
-    match &receipt.line.event {
-        Event::Send(message) => match &message.body {
-            Body::Update(update) => Some(update),
-            _ => None,
-        },
-        _ => None,
-    }
-}
-
-/// Whether an update with this prefix, status and count of changes was sent.
-pub(crate) fn was_sent(
-    receipts: &[Receipt],
-    prefix: &Prefix,
+/// The last update of a unit that was sent.
+#[derive(Clone, Copy, Debug, PartialEq, Eq)]
+struct Telling {
     status: Status,
+    /// Which change of the unit it told.
     mine: Counter,
-) -> bool {
-    for receipt in receipts.iter().rev() {
-        if let Some(update) = update_in(receipt) {
-            if update.prefix == *prefix {
-                return update.status == status && update.mine == mine;
+    /// The serial under which that change was told first.
+    serial: Counter,
+}
+
+/// What the receipts tell, each of which is looked at once.
+#[derive(Drop)]
+pub(crate) struct Told {
+    /// How many of the receipts were looked at.
+    seen: usize,
+    /// The serial of the message that was taken last: 0 where none was.
+    pub taken: Counter,
+    /// The serial of the message that was sent last: 0 where none was.
+    pub sent: Counter,
+    /// A serial that the partner has taken: the greatest of an update that it replied to. 0 where there is none.
+    pub answered: Counter,
+    /// By the address at which a unit begins.
+    updates: BTreeMap<u128, Telling>,
+}
+
+impl Told {
+    /// What no receipt tells.
+    pub(crate) fn nothing(alloc: Global) -> Told {
+        Told {
+            seen: 0,
+            taken: Counter::ZERO,
+            sent: Counter::ZERO,
+            answered: Counter::ZERO,
+            updates: BTreeMap::new(alloc),
+        }
+    }
+
+    /// An update that was sent under a serial. Where its change was told before, the first serial stays.
+    fn note_update(&mut self, serial: Counter, update: &Update) -> Result<(), AllocError> {
+        let address = update.prefix.first();
+        if let Some(before) = self.updates.get(&address) {
+            if before.status == update.status && before.mine == update.mine {
+                return Ok(());
+            }
+        }
+        let telling = Telling {
+            status: update.status,
+            mine: update.mine,
+            serial,
+        };
+        self.updates.insert(address, telling)?;
+        Ok(())
+    }
+
+    /// A reply that was taken.
+    fn note_reply(&mut self, reply: &BindReply) {
+        if let Some(telling) = self.updates.get(&reply.prefix.first()) {
+            if telling.mine == reply.of && telling.serial > self.answered {
+                self.answered = telling.serial;
             }
         }
     }
-    false
-}
 
-/// The reply that a receipt tells as taken.
-fn reply_in(receipt: &Receipt) -> Option<&BindReply> {
-    match &receipt.line.event {
-        Event::Take(message) => match &message.body {
-            Body::Reply(reply) => Some(reply),
-            _ => None,
-        },
-        _ => None,
+    fn note_sent(&mut self, message: &PartnerMessage) -> Result<(), AllocError> {
+        self.sent = message.serial;
+        match &message.body {
+            Body::Update(update) => self.note_update(message.serial, update),
+            Body::Reply(_) | Body::Contact { .. } => Ok(()),
+        }
     }
-}
 
-/// Whether a reply answers this message.
-fn answers(reply: &BindReply, message: &PartnerMessage) -> bool {
-    match &message.body {
-        Body::Update(update) => update.prefix == reply.prefix && update.mine == reply.of,
-        Body::Reply(_) | Body::Contact { .. } => false,
+    fn note_taken(&mut self, message: &PartnerMessage) {
+        self.taken = message.serial;
+        if let Body::Reply(reply) = &message.body {
+            self.note_reply(reply);
+        }
     }
-}
 
-/// The serial of the message that a reply answers: 0 where none was sent.
-fn answered_by(receipts: &[Receipt], reply: &BindReply) -> Counter {
-    for receipt in receipts.iter().rev() {
-        if let Event::Send(message) = &receipt.line.event {
-            if answers(reply, message) {
-                return message.serial;
+    /// Looks at the receipts that came since the last time. An error where a growth was
+    /// refused.
+    pub(crate) fn catch_up(&mut self, receipts: &[Receipt]) -> Result<(), AllocError> {
+        for index in self.seen..receipts.len() {
+            match &receipts[index].line.event {
+                Event::Send(message) => self.note_sent(message)?,
+                Event::Take(message) => self.note_taken(message),
+                _ => {}
             }
         }
+        self.seen = receipts.len();
+        Ok(())
     }
-    Counter::ZERO
-}
 
-/// A serial that the partner has taken: that of the message which its last reply answers. 0 where it replied to none.
-pub(crate) fn last_answered(receipts: &[Receipt]) -> Counter {
-    for receipt in receipts.iter().rev() {
-        if let Some(reply) = reply_in(receipt) {
-            return answered_by(receipts, reply);
+    /// Whether the last update of a unit told this status and change.
+    pub(crate) fn was_sent(&self, prefix: &Prefix, status: Status, mine: Counter) -> bool {
+        match self.updates.get(&prefix.first()) {
+            Some(telling) => telling.status == status && telling.mine == mine,
+            None => false,
         }
     }
-    Counter::ZERO
 }

@@ -1,0 +1,116 @@
+//! Several workers over one book.
+
+ghost use Rattle.std.specs.Prelude.{◌≡◌, ◌<◌, ◌≤◌, ◌⊎◌, length, take, IfOk, IsErrOf};
+ghost use Rattle.server_book.specs.Replayed.{IsLegal};
+
+use crate::clock::Clock;
+use crate::datagrams::Datagrams;
+use crate::error::NodeError;
+use crate::partner::Partner;
+use crate::turns::Turns;
+use crate::workers::serve_datagrams;
+use client_id::Duid;
+use locked_book::{BookName, LockFault, SharedBook};
+use server_book::Book;
+use std::alloc::Global;
+use std::sync::Wait;
+use std::sync::ledger::Blank;
+use std::thread;
+use std::thread::Threads;
+use thiserror::Error;
+
+/// What workers leave.
+#[derive(Drop)]
+pub struct Left {
+    /// The book with their lines. It isn't closed.
+    pub book: Book,
+    /// How many datagrams they received in all, or why the first of those that failed did.
+    pub received: Result<u32, NodeError>,
+}
+
+/// Why workers leave no book.
+#[derive(Clone, Copy, Debug, PartialEq, Eq, Error)]
+pub enum LeaveError {
+    /// Not 1 to 64 workers.
+    #[error("a book has 1 to 64 workers")]
+    Workers,
+    /// A growth was refused.
+    #[error("out of memory")]
+    Memory,
+    /// The lines of the book aren't those that the workers were told.
+    #[error("the receipts aren't the lines of the book")]
+    Book,
+}
+
+fn added(one: Result<u32, NodeError>, other: Result<u32, NodeError>) -> Result<u32, NodeError> {
+    match (one, other) {
+        (Ok(one), Ok(other)) => Ok(one.saturating_add(other)),
+        (Err(why), _) | (Ok(_), Err(why)) => Err(why),
+    }
+}
+
+/// Shares a book among so many workers, each of which answers datagrams while there are turns, and gives it back with
+/// the lines that came of it. A worker that fails doesn't stop the others. It stands in a function over `N`, which its
+/// caller calls with `Brand`: `N` names the workers, and the lines that the book has.
+///
+/// The refusals: `Workers`, `Memory`, and `Book` where the lines aren't what the workers were told.
+pub fn serve_all<
+    N: BookName + Send + Sync,
+    R: Threads + Wait + Sync,
+    D: Datagrams + Sync,
+    C: Clock + Sync,
+>(
+    rt: &R,
+    alloc: Global,
+    blank: Blank,
+    book: Book,
+    workers: usize,
+    own: &Duid,
+    datagrams: &D,
+    clock: &C,
+    turns: &Turns,
+    partner: Partner,
+) -> Result<Left, LeaveError>
+    requires name { blank.name ≡ N.name }
+    requires passes { (blank.parts ≡ N.parts) × (N.parts ≡ workers) × (N.passes ≡ workers) }
+    requires lines { N.opened ≡ length book.lines }
+    ensures opening { IfOk result (λ left. take (length book.lines) left.book.lines ≡ book.lines) }
+    ensures legal { IfOk result (λ left. IsLegal left.book) }
+    ensures within { IfOk result (λ _. (1 ≤ workers) × (workers ≤ 64)) }
+    ensures outside { IsErrOf result LeaveError.Workers → (workers ≡ 0) ⊎ (64 < workers) }
+{
+    let (shared, passes) = match SharedBook::<N>::open(alloc, blank, book, workers) {
+        Ok(opened) => opened,
+        Err(refused) => {
+            return match refused.why {
+                LockFault::Passes => Err(LeaveError::Workers),
+                LockFault::Memory => Err(LeaveError::Memory),
+            };
+        }
+    };
+    let lent = &shared;
+    let Ok(done) = thread::map_vec(
+        rt,
+        passes,
+        &|mut pass| {
+            let ended = serve_datagrams(
+                rt, alloc, lent, &mut pass, own, datagrams, clock, turns, partner,
+            );
+            (ended, pass)
+        },
+    ) else {
+        return Err(LeaveError::Memory);
+    };
+    let mut received = Ok(0);
+    let mut passes = Vec::new(alloc);
+    for (ended, pass) in done {
+        received = added(received, ended);
+        if passes.push(pass).is_err() {
+            return Err(LeaveError::Memory);
+        }
+    }
+    match shared.close(passes) {
+        Ok(book) => Ok(Left { book, received }),
+        Err(_) => Err(LeaveError::Book),
+    }
+}
