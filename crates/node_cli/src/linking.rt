@@ -1,0 +1,148 @@
+//! The node's end of the link: which connection it has, when it has another, and what a person is told of it.
+
+use crate::connection::Connection;
+use crate::meeting::{Door, FIRST_PAUSE, LONGEST_PAUSE, door_of, next_stream, rests};
+use binding_rules::Role;
+use locked_book::{BookName, Pass, SharedBook};
+use node_threads::{Clock, NodeError, Turns, serve_link};
+use server_book::Settings;
+use std::alloc::Global;
+use std::net::{Net, SocketAddr};
+use std::sync::Wait;
+use std::time::Clock as Handle;
+
+/// How a connection ended.
+#[derive(Clone, Copy, Debug, PartialEq, Eq)]
+enum Ending {
+    /// This node's workers have ended.
+    Served,
+    /// The partner said DISCONNECT.
+    PartnerGone,
+    /// The connection broke, or the partner closed it.
+    Lost,
+    /// What came isn't what may come there.
+    Refused,
+    /// This node can't go on with it.
+    Failed(NodeError),
+}
+
+impl Ending {
+    /// How many milliseconds the primary waits before it connects again; none where there is no other connection.
+    fn pause(&self) -> Option<u64> {
+        match self {
+            Ending::Served | Ending::PartnerGone => None,
+            Ending::Failed(NodeError::Serve(_)) => None,
+            Ending::Lost => Some(FIRST_PAUSE),
+            Ending::Refused | Ending::Failed(_) => Some(LONGEST_PAUSE),
+        }
+    }
+}
+
+/// How the connection ended, by what its engine gave and what was seen of its wire.
+fn ending_of(
+    ended: Result<(), NodeError>,
+    has_ended: bool,
+    has_failed: bool,
+    is_over: bool,
+) -> Ending {
+    match ended {
+        Ok(()) if has_ended => Ending::Lost,
+        Ok(()) if is_over => Ending::Served,
+        Ok(()) => Ending::PartnerGone,
+        Err(NodeError::Read) if has_failed => Ending::Lost,
+        Err(NodeError::Read) => Ending::Refused,
+        Err(NodeError::Write) => Ending::Lost,
+        Err(fault) => Ending::Failed(fault),
+    }
+}
+
+/// Says how a connection ended.
+fn tell<P: Print>(notes: &P, ending: &Ending) {
+    let _ = match ending {
+        Ending::Served => println!(notes; "node: said DISCONNECT to its partner"),
+        Ending::PartnerGone => println!(notes; "node: its partner said DISCONNECT"),
+        Ending::Lost => println!(notes; "node: lost its partner"),
+        Ending::Refused => println!(notes;
+            "node: refused its partner, which sent what may not come there or has lost its journal"
+        ),
+        Ending::Failed(fault) => println!(notes; "node: ended the link: {fault}"),
+    };
+}
+
+/// One connection, from its first frame to its end.
+fn served<N: BookName, R: Wait + Handle + Net, C: Clock, P: Print>(
+    rt: &R,
+    alloc: Global,
+    shared: &SharedBook<N>,
+    pass: &mut Pass<N>,
+    settings: &Settings,
+    clock: &C,
+    turns: &Turns,
+    notes: &P,
+    stream: R::Stream,
+    door: &Door<R::Listener>,
+) -> Ending {
+    let Ok(mut connection) = Connection::new(stream, door.listener()) else {
+        return Ending::Lost;
+    };
+    let ended = serve_link(
+        rt,
+        alloc,
+        shared,
+        pass,
+        settings,
+        clock,
+        turns,
+        &mut connection,
+    );
+    let others = connection.others();
+    if others > 0 {
+        let _ = println!(notes; "node: closed {others} other connections");
+    }
+    let is_over = turns.has_ended(rt);
+    ending_of(
+        ended,
+        connection.has_ended(),
+        connection.has_failed(),
+        is_over,
+    )
+}
+
+/// Keeps the link to the partner until the workers have ended or the partner said that it goes: the secondary listens at
+/// the address and the primary connects to it, again after a second, and then at most every ten. One line for a person
+/// tells of each connection, and one of its end.
+pub fn keep_link<N: BookName, R: Wait + Handle + Net, C: Clock, P: Print>(
+    rt: &R,
+    alloc: Global,
+    shared: &SharedBook<N>,
+    pass: &mut Pass<N>,
+    settings: &Settings,
+    address: SocketAddr,
+    clock: &C,
+    turns: &Turns,
+    notes: &P,
+) {
+    let Some(door) = door_of(rt, settings.role(), address, turns, notes) else {
+        return;
+    };
+    let _ = match settings.role() {
+        Role::Primary => println!(notes; "node: connects to its partner at {address}"),
+        Role::Secondary => println!(notes; "node: listens for its partner at {address}"),
+    };
+    for _ in rt.forever() {
+        let Some(stream) = next_stream(rt, &door, turns) else {
+            return;
+        };
+        let _ = println!(notes; "node: its partner is connected");
+        let ending = served(
+            rt, alloc, shared, pass, settings, clock, turns, notes, stream, &door,
+        );
+        tell(notes, &ending);
+        let Some(pause) = ending.pause() else {
+            return;
+        };
+        if door.listener().is_none() && !rests(rt, turns, pause) {
+            return;
+        }
+    }
+}
