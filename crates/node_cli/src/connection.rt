@@ -47,6 +47,11 @@ impl<'a, S: Read + Write + OpenStream + Drop, L: OpenListener> Connection<'a, S,
         })
     }
 
+    /// Whether anything came over it.
+    pub fn is_heard(&self) -> bool {
+        self.is_heard
+    }
+
     /// Whether the partner closed it, or it was given up.
     pub fn has_ended(&self) -> bool {
         self.has_ended

@@ -7,7 +7,7 @@ use locked_book::{BookName, Pass, SharedBook};
 use node_threads::{Clock, NodeError, Turns, serve_link};
 use server_book::Settings;
 use std::alloc::Global;
-use std::net::{Net, SocketAddr};
+use std::net::{Net, OpenStream, SocketAddr};
 use std::sync::Wait;
 use std::time::Clock as Handle;
 
@@ -27,13 +27,21 @@ enum Ending {
 }
 
 impl Ending {
-    /// How many milliseconds the primary waits before it connects again; none where there is no other connection.
-    fn pause(&self) -> Option<u64> {
+    /// Whether there is to be no other connection.
+    fn is_last(&self) -> bool {
+        matches!(
+            self,
+            Ending::Served | Ending::PartnerGone | Ending::Failed(NodeError::Serve(_))
+        )
+    }
+
+    /// How many milliseconds the primary waits before it connects again: a second where this connection was heard, or
+    /// else as long as it would have waited.
+    fn pause(&self, is_heard: bool, pause: u64) -> u64 {
         match self {
-            Ending::Served | Ending::PartnerGone => None,
-            Ending::Failed(NodeError::Serve(_)) => None,
-            Ending::Lost => Some(FIRST_PAUSE),
-            Ending::Refused | Ending::Failed(_) => Some(LONGEST_PAUSE),
+            Ending::Refused => LONGEST_PAUSE,
+            _ if is_heard => FIRST_PAUSE,
+            _ => pause,
         }
     }
 }
@@ -57,19 +65,19 @@ fn ending_of(
 }
 
 /// Says how a connection ended.
-fn tell<P: Print>(notes: &P, ending: &Ending) {
+fn tell<P: Print>(notes: &P, peer: SocketAddr, ending: &Ending) {
     let _ = match ending {
         Ending::Served => println!(notes; "node: said DISCONNECT to its partner"),
         Ending::PartnerGone => println!(notes; "node: its partner said DISCONNECT"),
-        Ending::Lost => println!(notes; "node: lost its partner"),
+        Ending::Lost => println!(notes; "node: lost the connection with {peer}"),
         Ending::Refused => println!(notes;
-            "node: refused its partner, which sent what may not come there or has lost its journal"
+            "node: refused {peer}, which sent what may not come there or has lost its journal"
         ),
         Ending::Failed(fault) => println!(notes; "node: ended the link: {fault}"),
     };
 }
 
-/// One connection, from its first frame to its end.
+/// One connection, from its first frame to its end, which is told. Also whether anything came over it.
 fn served<N: BookName, R: Wait + Handle + Net, C: Clock, P: Print>(
     rt: &R,
     alloc: Global,
@@ -81,10 +89,14 @@ fn served<N: BookName, R: Wait + Handle + Net, C: Clock, P: Print>(
     notes: &P,
     stream: R::Stream,
     door: &Door<R::Listener>,
-) -> Ending {
-    let Ok(mut connection) = Connection::new(stream, door.listener()) else {
-        return Ending::Lost;
+) -> (Ending, bool) {
+    let Ok(peer) = stream.peer_addr() else {
+        return (Ending::Lost, false);
     };
+    let Ok(mut connection) = Connection::new(stream, door.listener()) else {
+        return (Ending::Lost, false);
+    };
+    let _ = println!(notes; "node: connected with {peer}");
     let ended = serve_link(
         rt,
         alloc,
@@ -99,13 +111,14 @@ fn served<N: BookName, R: Wait + Handle + Net, C: Clock, P: Print>(
     if others > 0 {
         let _ = println!(notes; "node: closed {others} other connections");
     }
-    let is_over = turns.has_ended(rt);
-    ending_of(
+    let ending = ending_of(
         ended,
         connection.has_ended(),
         connection.has_failed(),
-        is_over,
-    )
+        turns.has_ended(rt),
+    );
+    tell(notes, peer, &ending);
+    (ending, connection.is_heard())
 }
 
 /// Keeps the link to the partner until the workers have ended or the partner said that it goes: the secondary listens at
@@ -129,20 +142,22 @@ pub fn keep_link<N: BookName, R: Wait + Handle + Net, C: Clock, P: Print>(
         Role::Primary => println!(notes; "node: connects to its partner at {address}"),
         Role::Secondary => println!(notes; "node: listens for its partner at {address}"),
     };
+    let mut pause = FIRST_PAUSE;
     for _ in rt.forever() {
         let Some(stream) = next_stream(rt, &door, turns) else {
             return;
         };
-        let _ = println!(notes; "node: its partner is connected");
-        let ending = served(
+        let (ending, is_heard) = served(
             rt, alloc, shared, pass, settings, clock, turns, notes, stream, &door,
         );
-        tell(notes, &ending);
-        let Some(pause) = ending.pause() else {
+        if ending.is_last() {
             return;
-        };
+        }
+        pause = ending.pause(is_heard, pause);
         if door.listener().is_none() && !rests(rt, turns, pause) {
             return;
         }
+        pause = pause.saturating_mul(2).min(LONGEST_PAUSE);
     }
+    unreachable!()
 }
