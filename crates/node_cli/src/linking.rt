@@ -71,7 +71,7 @@ fn tell<P: Print>(notes: &P, peer: SocketAddr, ending: &Ending) {
         Ending::PartnerGone => println!(notes; "node: its partner said DISCONNECT"),
         Ending::Lost => println!(notes; "node: lost the connection with {peer}"),
         Ending::Refused => println!(notes;
-            "node: refused {peer}, which sent what may not come there or has lost its journal"
+            "node: refused {peer}: what it sent may not come there, or one of the two has lost its journal"
         ),
         Ending::Failed(fault) => println!(notes; "node: ended the link: {fault}"),
     };
@@ -121,7 +121,7 @@ fn served<N: BookName, R: Wait + Handle + Net, C: Clock, P: Print>(
     (ending, connection.is_heard())
 }
 
-/// Keeps the link to the partner until the workers have ended or the partner said that it goes: the secondary listens at
+/// Keeps the link to the partner until the workers have ended or the partner said DISCONNECT: the secondary listens at
 /// the address and the primary connects to it, again after a second, and then at most every ten. One line for a person
 /// tells of each connection, and one of its end.
 pub fn keep_link<N: BookName, R: Wait + Handle + Net, C: Clock, P: Print>(

@@ -44,7 +44,8 @@ pub fn rests<R: Wait + Handle>(rt: &R, turns: &Turns, milliseconds: u64) -> bool
     !turns.has_ended(rt)
 }
 
-/// The primary's door is the address, the secondary's a listener there that blocks nobody. `None` where it can't listen.
+/// The primary's door is the address, the secondary's a listener there that blocks nobody. `None` where it can't
+/// listen.
 fn opens<R: Net>(rt: &R, role: Role, address: SocketAddr) -> Option<Door<R::Listener>> {
     match role {
         Role::Primary => Some(Door::Partner(address)),
@@ -96,7 +97,7 @@ fn tried<R: Net>(rt: &R, door: &Door<R::Listener>) -> Option<R::Stream> {
     }
 }
 
-/// The next stream to the partner, and how long the door was tried. `None` where the workers have ended before.
+/// The next stream to the partner. `None` where the workers have ended before.
 pub fn next_stream<R: Wait + Handle + Net>(
     rt: &R,
     door: &Door<R::Listener>,

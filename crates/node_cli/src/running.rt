@@ -194,8 +194,9 @@ fn opened<C: Clock>(
     }
 }
 
-/// Answers so many datagrams that come where the settings say, beside the link to the partner, and gives the text of the
-/// closed journal. Where it listens, what becomes of the link and how many datagrams came is said in notes, a line each.
+/// Answers so many datagrams that come where the settings say, beside the link to the partner, and gives the text of
+/// the closed journal. Where it listens, what becomes of the link and how many datagrams came is said in notes, a line
+/// each.
 pub fn run_node<R: Threads + Wait + Sync + Net + Handle, P: Print + Sync>(
     rt: &R,
     alloc: Global,
