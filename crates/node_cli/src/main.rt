@@ -3,7 +3,10 @@
 //! from that (2).
 #![tactic(auto)]
 
+mod connection;
 mod fault;
+mod linking;
+mod meeting;
 mod running;
 mod words;
 
@@ -32,12 +35,17 @@ fn units_of(settings: &NodeSettings) -> usize {
 }
 
 /// What a command writes, and the status.
-fn answer<R: Threads + Wait + Sync + Net + Clock>(
+fn answer<R: Threads + Wait + Sync + Net + Clock, P: Print + Sync>(
     rt: &R,
     alloc: Global,
     command: Command,
     text: &[u8],
-) -> Result<(Vec<u8>, u8), Fault> {
+    notes: &P,
+) -> Result<(Vec<u8>, u8), Fault>
+where
+    R::Stream: Send + Drop,
+    R::Listener: Send + Drop,
+{
     match (command, NodeSettings::read(alloc, text)) {
         (_, Err(OpenError::Memory)) => Err(Fault::Memory),
         (_, Err(refusal)) => Ok((format!(in alloc; "{refusal}\n")?.into_bytes(), 1)),
@@ -46,7 +54,7 @@ fn answer<R: Threads + Wait + Sync + Net + Clock>(
             Ok((format!(in alloc; "ok {units}\n")?.into_bytes(), 0))
         }
         (Command::Run { count, partner }, Ok(settings)) => {
-            Ok((run_node(rt, alloc, &settings, count, partner)?, 0))
+            Ok((run_node(rt, alloc, &settings, count, partner, notes)?, 0))
         }
     }
 }
@@ -65,17 +73,21 @@ fn usage_fault(error: io::Error) -> Fault {
     }
 }
 
-fn answered(
+fn answered<R: Threads + Wait + Sync + Net + Clock>(
     rt: &HostRuntime,
-    handles: &(impl Threads + Wait + Sync + Net + Clock),
-) -> Result<u8, Fault> {
+    handles: &R,
+) -> Result<u8, Fault>
+where
+    R::Stream: Send + Drop,
+    R::Listener: Send + Drop,
+{
     let words = words_given(rt)?;
     let command = command_of(rt.alloc(), &words)?;
     let mut text = Vec::new(rt.alloc());
     if rt.stdin().read_to_end(&mut text).is_err() {
         return Err(Fault::Read);
     }
-    let (octets, status) = answer(handles, rt.alloc(), command, &text)?;
+    let (octets, status) = answer(handles, rt.alloc(), command, &text, &rt.stderr())?;
     match rt.stdout().write_all(&octets) {
         Ok(()) => Ok(status),
         Err(_) => Err(Fault::Write),

@@ -1,63 +1,162 @@
-//! Serving clients, and the journal that comes of it.
+//! Serving clients beside the link to the partner, and the journal that comes of it.
 
-ghost use Rattle.std.specs.Prelude.{◌≡◌, ◌≤◌, length};
+ghost use Rattle.std.specs.Prelude.{◌≡◌, ◌≤◌, ◌+◌, length};
 
 use crate::fault::Fault;
+use crate::linking::keep_link;
 use binding_rules::ServerState;
-use client_id::Duid;
 use journal_text::write;
-use locked_book::{BookName, SharedBook};
+use locked_book::{BookName, Pass, SharedBook};
 use node_threads::{
-    Clock, Datagrams, NodeSettings, Partner, SystemClock, Turns, UdpDatagrams, serve_datagrams,
+    Clock, Datagrams, NodeError, NodeSettings, Partner, SystemClock, Turns, UdpDatagrams,
+    serve_datagrams,
 };
 use server_book::{Book, Order};
 use std::alloc::Global;
 use std::marker::Brand;
-use std::net::{Net, UdpSocket};
+use std::net::{Net, SocketAddr, UdpSocket};
 use std::sync::Wait;
 use std::sync::ledger::Blank;
 use std::thread;
 use std::thread::Threads;
 use std::time::Clock as Handle;
 
-/// Shares a book among so many workers, each of which answers datagrams while there are turns, and closes it.
-fn serve<N: BookName + Send + Sync, R: Threads + Wait + Sync, D: Datagrams + Sync, C: Clock + Sync>(
+/// What the workers leave: their passes, and how many datagrams they received in all or why one of them ended.
+struct Done<N: BookName> {
+    passes: Vec<Pass<N>>,
+    received: Result<u32, NodeError>,
+}
+
+/// What both have received, or why one ended.
+fn added(one: Result<u32, NodeError>, other: Result<u32, NodeError>) -> Result<u32, NodeError> {
+    match (one, other) {
+        (Ok(one), Ok(other)) => Ok(one.saturating_add(other)),
+        (Err(why), _) | (Ok(_), Err(why)) => Err(why),
+    }
+}
+
+/// Lets a worker for each pass answer datagrams while there are turns. `None` where a growth was refused.
+fn by_workers<
+    N: BookName + Send + Sync,
+    R: Threads + Wait + Sync,
+    D: Datagrams + Sync,
+    C: Clock + Sync,
+>(
     rt: &R,
     alloc: Global,
-    blank: Blank,
-    book: Book,
-    workers: usize,
-    own: &Duid,
+    shared: &SharedBook<N>,
+    passes: Vec<Pass<N>>,
+    settings: &NodeSettings,
     datagrams: &D,
     clock: &C,
     turns: &Turns,
     partner: Partner,
-) -> Result<Book, Fault>
-    requires name { blank.name ≡ N.name }
-    requires passes { (blank.parts ≡ N.parts) × (N.parts ≡ workers) × (N.passes ≡ workers) }
-    requires lines { N.opened ≡ length book.lines }
-{
-    let Ok((shared, passes)) = SharedBook::<N>::open(alloc, blank, book, workers) else {
-        return Err(Fault::Memory);
-    };
-    let lent = &shared;
+) -> Option<Done<N>> {
+    let own = settings.server.duid();
     let done = thread::map_vec(
         rt,
         passes,
         &|mut pass| {
             let ended = serve_datagrams(
-                rt, alloc, lent, &mut pass, own, datagrams, clock, turns, partner,
+                rt, alloc, shared, &mut pass, own, datagrams, clock, turns, partner,
             );
             (ended, pass)
         },
-    )?;
+    );
+    let mut received = Ok(0);
     let mut passes = Vec::new(alloc);
-    for (ended, pass) in done {
-        ended?;
-        passes.push(pass)?;
+    for (ended, pass) in done.ok()? {
+        received = added(received, ended);
+        passes.push(pass).ok()?;
     }
+    Some(Done { passes, received })
+}
+
+/// Where the link is, unless the partner is down: then that is said.
+fn link_address<P: Print>(
+    settings: &NodeSettings,
+    partner: Partner,
+    notes: &P,
+) -> Option<SocketAddr> {
+    let address = settings.ways.link?;
+    match partner {
+        Partner::Up => Some(address),
+        Partner::Down => {
+            let _ = println!(notes; "node: takes its partner for down, and passes over the link");
+            None
+        }
+    }
+}
+
+/// Shares a book among so many workers and the link's end, and closes it once no turn is left. Gives the book, and how
+/// many datagrams were received.
+fn serve<
+    N: BookName + Send + Sync,
+    R: Threads + Wait + Sync + Net + Handle,
+    D: Datagrams + Sync,
+    C: Clock + Sync,
+    P: Print + Sync,
+>(
+    rt: &R,
+    alloc: Global,
+    blank: Blank,
+    book: Book,
+    passes: usize,
+    settings: &NodeSettings,
+    datagrams: &D,
+    clock: &C,
+    turns: &Turns,
+    partner: Partner,
+    notes: &P,
+) -> Result<(Book, u32), Fault>
+where
+    R::Stream: Send + Drop,
+    R::Listener: Send + Drop,
+    requires name { blank.name ≡ N.name }
+    requires passes { (blank.parts ≡ N.parts) × (N.parts ≡ passes) × (N.passes ≡ passes) }
+    requires lines { N.opened ≡ length book.lines }
+{
+    let Ok((shared, mut passes)) = SharedBook::<N>::open(alloc, blank, book, passes) else {
+        return Err(Fault::Memory);
+    };
+    let Some(link) = passes.pop() else {
+        return Err(Fault::Book);
+    };
+    let address = link_address(settings, partner, notes);
+    let server = &settings.server;
+    let lent = &shared;
+    let (link, done) = thread::join(
+        rt,
+        move || {
+            let mut link = link;
+            if let Some(address) = address {
+                keep_link(
+                    rt, alloc, lent, &mut link, server, address, clock, turns, notes,
+                );
+            }
+            link
+        },
+        move || {
+            let done = by_workers(
+                rt, alloc, lent, passes, settings, datagrams, clock, turns, partner,
+            );
+            turns.end(rt);
+            done
+        },
+    );
+    let Some(
+        Done {
+            mut passes,
+            received,
+        },
+    ) = done
+    else {
+        return Err(Fault::Memory);
+    };
+    let received = received?;
+    passes.push(link)?;
     match shared.close(passes) {
-        Ok(book) => Ok(book),
+        Ok(book) => Ok((book, received)),
         Err(_) => Err(Fault::Book),
     }
 }
@@ -95,34 +194,45 @@ fn opened<C: Clock>(
     }
 }
 
-/// Answers so many datagrams that come where the settings say, and gives the text of the closed journal.
-pub fn run_node<R: Threads + Wait + Sync + Net + Handle>(
+/// Answers so many datagrams that come where the settings say, beside the link to the partner, and gives the text of
+/// the closed journal. Where it listens, what becomes of the link and how many datagrams came is said in notes, a line
+/// each.
+pub fn run_node<R: Threads + Wait + Sync + Net + Handle, P: Print + Sync>(
     rt: &R,
     alloc: Global,
     settings: &NodeSettings,
     count: u32,
     partner: Partner,
-) -> Result<Vec<u8>, Fault> {
-    let Ok(socket) = UdpSocket::bind(rt, settings.ways.listen) else {
+    notes: &P,
+) -> Result<Vec<u8>, Fault>
+where
+    R::Stream: Send + Drop,
+    R::Listener: Send + Drop,
+{
+    let listen = settings.ways.listen;
+    let Ok(socket) = UdpSocket::bind(rt, listen) else {
         return Err(Fault::Net);
     };
+    let _ = println!(notes; "node: listens for clients and relays at {listen}");
     let datagrams = UdpDatagrams::new(socket);
     let clock = SystemClock::new(rt);
     let turns = Turns::new(count);
     let book = opened(alloc, settings, partner, &clock)?;
-    let workers = settings.ways.workers();
-    let mut book = serve::<Brand, _, _, _>(
+    let passes = settings.ways.workers() + 1;
+    let (mut book, received) = serve::<Brand, _, _, _, _>(
         rt,
         alloc,
-        Blank::new(workers as u64),
+        Blank::new(passes as u64),
         book,
-        workers,
-        settings.server.duid(),
+        passes,
+        settings,
         &datagrams,
         &clock,
         &turns,
         partner,
+        notes,
     )?;
+    let _ = println!(notes; "node: received {received} datagrams");
     closes(&mut book, &clock)?;
     match write(alloc, book.role(), book.head(), book.journal()) {
         Ok(text) => Ok(text),

@@ -6,16 +6,32 @@ mod answers;
 #[cfg(test)]
 mod books;
 #[cfg(test)]
+mod cables;
+#[cfg(test)]
 mod clocks;
 #[cfg(test)]
+mod evidence;
+#[cfg(test)]
 mod frames;
+#[cfg(test)]
+mod letters;
 #[cfg(test)]
 mod links;
 #[cfg(test)]
 mod meetings;
 #[cfg(test)]
+mod moments;
+#[cfg(test)]
+mod nodes;
+#[cfg(test)]
+mod over_tcp;
+#[cfg(test)]
 mod over_udp;
+#[cfg(test)]
+mod pairs;
 #[cfg(test)]
 mod post;
 #[cfg(test)]
 mod scripts;
+#[cfg(test)]
+mod stories;

@@ -113,6 +113,8 @@ struct Case<'a> {
     step: usize,
     /// What comes over a second wire, if there is one.
     again: &'a [&'a [u8]],
+    /// How many reads succeed.
+    reads: usize,
     /// How many writes succeed.
     writes: usize,
     written: &'a [&'a [u8]],
@@ -136,6 +138,7 @@ impl<'a> Case<'a> {
             heard,
             step: 4096,
             again: &[],
+            reads: 1000,
             writes: 100,
             written,
             written_again: &[],
@@ -158,8 +161,8 @@ fn check(rt: &(impl Abort + Wait), alloc: Global, case: &Case<'_>) -> Result<(),
     let book = opened_by(alloc, &settings)?;
     let heard = joined(alloc, case.heard)?;
     let again = joined(alloc, case.again)?;
-    let mut wire = Script::new(alloc, &heard, case.step, 2, case.writes);
-    let mut second = Script::new(alloc, &again, case.step, 2, case.writes);
+    let mut wire = Script::new(alloc, &heard, case.step, 2, case.reads, case.writes);
+    let mut second = Script::new(alloc, &again, case.step, 2, case.reads, case.writes);
     let turns = Turns::new(0);
     if case.is_over {
         turns.end(rt);
@@ -338,12 +341,14 @@ fn what_does_not_come_there_is_refused(rt: HostRuntime) -> Result<(), Fail> {
     check_refused(&rt, alloc, Role::Primary, &[CONNECT], &[CONNECT], A_OPENED)
 }
 
-/// Fails the write after so many, of a secondary that hears an update.
-fn check_unwritten(
+/// Ends a secondary that hears an update in pieces of 26 octets by a read or a write that fails.
+fn check_cut_off(
     rt: &(impl Abort + Wait),
     alloc: Global,
+    reads: usize,
     writes: usize,
     written: &[&[u8]],
+    ended: NodeError,
     journal: &[u8],
 ) -> Result<(), Fail> {
     let heard: &[&[u8]] = &[CONNECT, UPDATE];
@@ -352,8 +357,10 @@ fn check_unwritten(
         rt,
         alloc,
         &Case {
+            step: 26,
+            reads,
             writes,
-            ended: Err(NodeError::Write),
+            ended: Err(ended),
             ..case
         },
     )
@@ -361,6 +368,21 @@ fn check_unwritten(
 
 #[test]
 fn a_failing_write_ends_an_end(rt: HostRuntime) -> Result<(), Fail> {
-    check_unwritten(&rt, rt.alloc(), 0, &[], B_OPENED)?;
-    check_unwritten(&rt, rt.alloc(), 1, &[CONNECT_REPLY], B_ANSWERED)
+    let alloc = rt.alloc();
+    let written: &[&[u8]] = &[CONNECT_REPLY];
+    check_cut_off(&rt, alloc, 100, 0, &[], NodeError::Write, B_OPENED)?;
+    check_cut_off(&rt, alloc, 100, 1, written, NodeError::Write, B_ANSWERED)
+}
+
+// The update's 74 octets take three reads behind CONNECT's one.
+#[test]
+fn a_failing_read_ends_an_end(rt: HostRuntime) -> Result<(), Fail> {
+    let alloc = rt.alloc();
+    let written: &[&[u8]] = &[CONNECT_REPLY];
+    let answered: &[&[u8]] = &[CONNECT_REPLY, REPLY];
+    check_cut_off(&rt, alloc, 0, 100, &[], NodeError::Read, B_OPENED)?;
+    for reads in 1..4 {
+        check_cut_off(&rt, alloc, reads, 100, written, NodeError::Read, B_OPENED)?;
+    }
+    check_cut_off(&rt, alloc, 4, 100, answered, NodeError::Read, B_ANSWERED)
 }

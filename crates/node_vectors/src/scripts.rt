@@ -3,25 +3,28 @@
 use node_threads::{Got, NetFault, Wire};
 use std::alloc::Global;
 
-/// A wire that brings octets, so many a read at most, then is idle, and then ends. It keeps what is written, until a
-/// write fails.
+/// A wire that brings octets, so many a read at most, then is idle, and then ends. It keeps what is written. So many
+/// reads and so many writes succeed.
 #[derive(Drop)]
 pub struct Script<'a> {
     octets: &'a [u8],
     place: usize,
     step: usize,
     idles: usize,
+    reads: usize,
     writes: usize,
     written: Vec<u8>,
 }
 
 impl<'a> Script<'a> {
-    /// A wire whose reads bring `step` octets at most, which is idle `idles` times, and takes `writes` writes.
+    /// A wire whose reads bring `step` octets at most, which is idle `idles` times, and lets `reads` reads and `writes`
+    /// writes succeed.
     pub fn new(
         alloc: Global,
         octets: &'a [u8],
         step: usize,
         idles: usize,
+        reads: usize,
         writes: usize,
     ) -> Script<'a> {
         Script {
@@ -29,6 +32,7 @@ impl<'a> Script<'a> {
             place: 0,
             step,
             idles,
+            reads,
             writes,
             written: Vec::new(alloc),
         }
@@ -57,6 +61,10 @@ impl<'a> Script<'a> {
 
 impl Wire for Script<'_> {
     fn read(&mut self, buffer: &mut [u8]) -> Result<Got, NetFault> {
+        let Some(left) = self.reads.checked_sub(1) else {
+            return Err(NetFault);
+        };
+        self.reads = left;
         let Some(rest) = self.octets.get(self.place..) else {
             return Err(NetFault);
         };

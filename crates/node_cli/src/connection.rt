@@ -1,0 +1,123 @@
+//! A connection to the partner, and what became of it.
+
+use node_threads::{Got, NetFault, TcpWire, Wire};
+use std::io::{Read, Write};
+use std::net::{OpenListener, OpenStream};
+use std::time::Duration;
+
+/// The most seconds that a write waits for a partner that doesn't read.
+const LONGEST_WRITE: u64 = 10;
+
+/// After how many seconds without a first octet it is given up.
+const MOST_SILENCE: u32 = 10;
+
+/// After how many seconds without an octet it is given up where a second connection comes.
+const LONG_SILENCE: u32 = 60;
+
+/// The only connection to the partner while it stands: a second one to the same listener is closed at once. It is given
+/// up where nothing comes over it at first, and where a second one comes after a minute of silence: its other end may
+/// have lost it without a word.
+#[derive(Drop)]
+pub struct Connection<'a, S: Read + Write + OpenStream + Drop, L: OpenListener> {
+    wire: TcpWire<S>,
+    listener: Option<&'a L>,
+    is_heard: bool,
+    silence: u32,
+    has_ended: bool,
+    has_failed: bool,
+    others: u32,
+}
+
+impl<'a, S: Read + Write + OpenStream + Drop, L: OpenListener> Connection<'a, S, L> {
+    /// A connection by a stream, whose partner came to the listener, if there is one. A fault where the stream can't be
+    /// told how long to wait.
+    pub fn new(stream: S, listener: Option<&'a L>) -> Result<Connection<'a, S, L>, NetFault> {
+        let longest = Some(Duration::from_secs(LONGEST_WRITE));
+        if stream.set_write_timeout(longest).is_err() || stream.set_nodelay(true).is_err() {
+            return Err(NetFault);
+        }
+        Ok(Connection {
+            wire: TcpWire::new(stream)?,
+            listener,
+            is_heard: false,
+            silence: 0,
+            has_ended: false,
+            has_failed: false,
+            others: 0,
+        })
+    }
+
+    /// Whether anything came over it.
+    pub fn is_heard(&self) -> bool {
+        self.is_heard
+    }
+
+    /// Whether the partner closed it, or it was given up.
+    pub fn has_ended(&self) -> bool {
+        self.has_ended
+    }
+
+    /// Whether it couldn't be read.
+    pub fn has_failed(&self) -> bool {
+        self.has_failed
+    }
+
+    /// How many others were closed meanwhile.
+    pub fn others(&self) -> u32 {
+        self.others
+    }
+
+    /// Closes another connection, if one has come.
+    fn turns_away(&mut self) -> bool {
+        let Some(listener) = self.listener else {
+            return false;
+        };
+        let has_come = listener.accept().is_ok();
+        if has_come {
+            self.others = self.others.saturating_add(1);
+        }
+        has_come
+    }
+
+    /// Whether a second of silence is one too many.
+    fn is_given_up(&mut self) -> bool {
+        self.silence = self.silence.saturating_add(1);
+        let most = if self.is_heard {
+            LONG_SILENCE
+        } else {
+            MOST_SILENCE
+        };
+        let has_come = self.turns_away();
+        self.silence >= most && (has_come || !self.is_heard)
+    }
+
+    fn hear(&mut self) {
+        self.is_heard = true;
+        self.silence = 0;
+    }
+}
+
+impl<S: Read + Write + OpenStream + Drop, L: OpenListener> Wire for Connection<'_, S, L> {
+    fn read(&mut self, buffer: &mut [u8]) -> Result<Got, NetFault> {
+        let got = self.wire.read(buffer);
+        match got {
+            Ok(Got::Octets(_)) => {
+                self.turns_away();
+                self.hear();
+            }
+            Ok(Got::Idle) => {
+                if self.is_given_up() {
+                    self.has_ended = true;
+                    return Ok(Got::End);
+                }
+            }
+            Ok(Got::End) => self.has_ended = true,
+            Err(_) => self.has_failed = true,
+        }
+        got
+    }
+
+    fn write(&mut self, octets: &[u8]) -> Result<(), NetFault> {
+        self.wire.write(octets)
+    }
+}

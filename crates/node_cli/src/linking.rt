@@ -1,0 +1,163 @@
+//! The node's end of the link: which connection it has, when it has another, and what a person is told of it.
+
+use crate::connection::Connection;
+use crate::meeting::{Door, FIRST_PAUSE, LONGEST_PAUSE, door_of, next_stream, rests};
+use binding_rules::Role;
+use locked_book::{BookName, Pass, SharedBook};
+use node_threads::{Clock, NodeError, Turns, serve_link};
+use server_book::Settings;
+use std::alloc::Global;
+use std::net::{Net, OpenStream, SocketAddr};
+use std::sync::Wait;
+use std::time::Clock as Handle;
+
+/// How a connection ended.
+#[derive(Clone, Copy, Debug, PartialEq, Eq)]
+enum Ending {
+    /// This node's workers have ended.
+    Served,
+    /// The partner said DISCONNECT.
+    PartnerGone,
+    /// The connection broke, or the partner closed it.
+    Lost,
+    /// What came isn't what may come there.
+    Refused,
+    /// This node can't go on with it.
+    Failed(NodeError),
+}
+
+impl Ending {
+    /// Whether there is to be no other connection.
+    fn is_last(&self) -> bool {
+        matches!(
+            self,
+            Ending::Served | Ending::PartnerGone | Ending::Failed(NodeError::Serve(_))
+        )
+    }
+
+    /// How many milliseconds the primary waits before it connects again: a second where this connection was heard, or
+    /// else as long as it would have waited.
+    fn pause(&self, is_heard: bool, pause: u64) -> u64 {
+        match self {
+            Ending::Refused => LONGEST_PAUSE,
+            _ if is_heard => FIRST_PAUSE,
+            _ => pause,
+        }
+    }
+}
+
+/// How the connection ended, by what its engine gave and what was seen of its wire.
+fn ending_of(
+    ended: Result<(), NodeError>,
+    has_ended: bool,
+    has_failed: bool,
+    is_over: bool,
+) -> Ending {
+    match ended {
+        Ok(()) if has_ended => Ending::Lost,
+        Ok(()) if is_over => Ending::Served,
+        Ok(()) => Ending::PartnerGone,
+        Err(NodeError::Read) if has_failed => Ending::Lost,
+        Err(NodeError::Read) => Ending::Refused,
+        Err(NodeError::Write) => Ending::Lost,
+        Err(fault) => Ending::Failed(fault),
+    }
+}
+
+/// Says how a connection ended.
+fn tell<P: Print>(notes: &P, peer: SocketAddr, ending: &Ending) {
+    let _ = match ending {
+        Ending::Served => println!(notes; "node: said DISCONNECT to its partner"),
+        Ending::PartnerGone => println!(notes; "node: its partner said DISCONNECT"),
+        Ending::Lost => println!(notes; "node: lost the connection with {peer}"),
+        Ending::Refused => println!(notes;
+            "node: refused {peer}: what it sent may not come there, or one of the two has lost its journal"
+        ),
+        Ending::Failed(fault) => println!(notes; "node: ended the link: {fault}"),
+    };
+}
+
+/// One connection, from its first frame to its end, which is told. Also whether anything came over it.
+fn served<N: BookName, R: Wait + Handle + Net, C: Clock, P: Print>(
+    rt: &R,
+    alloc: Global,
+    shared: &SharedBook<N>,
+    pass: &mut Pass<N>,
+    settings: &Settings,
+    clock: &C,
+    turns: &Turns,
+    notes: &P,
+    stream: R::Stream,
+    door: &Door<R::Listener>,
+) -> (Ending, bool) {
+    let Ok(peer) = stream.peer_addr() else {
+        return (Ending::Lost, false);
+    };
+    let Ok(mut connection) = Connection::new(stream, door.listener()) else {
+        return (Ending::Lost, false);
+    };
+    let _ = println!(notes; "node: connected with {peer}");
+    let ended = serve_link(
+        rt,
+        alloc,
+        shared,
+        pass,
+        settings,
+        clock,
+        turns,
+        &mut connection,
+    );
+    let others = connection.others();
+    if others > 0 {
+        let _ = println!(notes; "node: closed {others} other connections");
+    }
+    let ending = ending_of(
+        ended,
+        connection.has_ended(),
+        connection.has_failed(),
+        turns.has_ended(rt),
+    );
+    tell(notes, peer, &ending);
+    (ending, connection.is_heard())
+}
+
+/// Keeps the link to the partner until the workers have ended or the partner said DISCONNECT: the secondary listens at
+/// the address and the primary connects to it, again after a second, and then at most every ten. One line for a person
+/// tells of each connection, and one of its end.
+pub fn keep_link<N: BookName, R: Wait + Handle + Net, C: Clock, P: Print>(
+    rt: &R,
+    alloc: Global,
+    shared: &SharedBook<N>,
+    pass: &mut Pass<N>,
+    settings: &Settings,
+    address: SocketAddr,
+    clock: &C,
+    turns: &Turns,
+    notes: &P,
+) {
+    let Some(door) = door_of(rt, settings.role(), address, turns, notes) else {
+        return;
+    };
+    let _ = match settings.role() {
+        Role::Primary => println!(notes; "node: connects to its partner at {address}"),
+        Role::Secondary => println!(notes; "node: listens for its partner at {address}"),
+    };
+    let mut pause = FIRST_PAUSE;
+    for _ in rt.forever() {
+        let Some(stream) = next_stream(rt, &door, turns) else {
+            return;
+        };
+        let (ending, is_heard) = served(
+            rt, alloc, shared, pass, settings, clock, turns, notes, stream, &door,
+        );
+        if ending.is_last() {
+            return;
+        }
+        pause = ending.pause(is_heard, pause);
+        if door.listener().is_none() && !rests(rt, turns, pause) {
+            return;
+        }
+        pause = pause.saturating_mul(2).min(LONGEST_PAUSE);
+    }
+    unreachable!()
+}
