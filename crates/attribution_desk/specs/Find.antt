@@ -15,10 +15,33 @@ use Rattle.evidence_search.specs.declared.query.Query.{Query}
 use Rattle.evidence_search.specs.Claim.{Claims, IsShown, HasNoPlainEvidence}
 use Rattle.attribution_desk.specs.Answer.{first_text, text_behind, status_of}
 
+-- ---- of any search: what it answers on two legal journals
+
 -- the line and the status of a verdict on the journals
 pub record IsVerdictText (v : Verdict) (text : List ℕ) (status : ℕ) : Type 0 where
   pub line : text ≡ verdict_line v
   pub gives : status ≡ status_of v
+
+-- what refuses the two journals, or else what the search answers
+abbrev pub IsSearchOn : Journal → Journal → (Journals → List ℕ → ℕ → Type 0) → List ℕ → ℕ → Type 0
+IsSearchOn a b answers text status =
+    ((v : Verdict) × IsPairRefused a b v × IsVerdictText v text status)
+    ⊎ (IsPairLegal a b × answers (journals_of a b) text status)
+
+-- a fault of A's text before one of B's
+abbrev pub IsSearchOf : Result Journal JournalFault → Result Journal JournalFault
+    → (Journals → List ℕ → ℕ → Type 0) → List ℕ → ℕ → Type 0
+IsSearchOf (Err fault) b answers text status = IsVerdictText (JournalVerdict Primary fault) text status
+IsSearchOf (Ok a) (Err fault) answers text status = IsVerdictText (JournalVerdict Secondary fault) text status
+IsSearchOf (Ok a) (Ok b) answers text status = IsSearchOn a b answers text status
+
+-- of an input: journal A, and journal B, which is all that follows
+abbrev pub IsSearch : List ℕ → (Journals → List ℕ → ℕ → Type 0) → List ℕ → ℕ → Type 0
+IsSearch input answers text status =
+    IsSearchOf (journal_of_side Primary (first_text input)) (journal_of_side Secondary (text_behind input)) answers
+    text status
+
+-- ---- for the evidence of what is asked
 
 -- a certificate that claims what is asked and that an auditor accepts
 pub record IsFound (js : Journals) (q : Query) (text : List ℕ) (status : ℕ) : Type 0 where
@@ -37,20 +60,5 @@ pub record IsNoneFound (js : Journals) (q : Query) (text : List ℕ) (status : �
 abbrev pub IsFinding : Journals → Query → List ℕ → ℕ → Type 0
 IsFinding js q text status = IsFound js q text status ⊎ IsNoneFound js q text status
 
--- what refuses the two journals, or else what is found
-abbrev pub IsFindingOn : Journal → Journal → Query → List ℕ → ℕ → Type 0
-IsFindingOn a b q text status =
-    ((v : Verdict) × IsPairRefused a b v × IsVerdictText v text status)
-    ⊎ (IsPairLegal a b × IsFinding (journals_of a b) q text status)
-
--- a fault of A's text before one of B's
-abbrev pub IsFindingOf : Result Journal JournalFault → Result Journal JournalFault → Query → List ℕ → ℕ → Type 0
-IsFindingOf (Err fault) b q text status = IsVerdictText (JournalVerdict Primary fault) text status
-IsFindingOf (Ok a) (Err fault) q text status = IsVerdictText (JournalVerdict Secondary fault) text status
-IsFindingOf (Ok a) (Ok b) q text status = IsFindingOn a b q text status
-
--- of an input: journal A, and journal B, which is all that follows
 abbrev pub IsFind : List ℕ → Query → List ℕ → ℕ → Type 0
-IsFind input q text status =
-    IsFindingOf (journal_of_side Primary (first_text input)) (journal_of_side Secondary (text_behind input)) q
-    text status
+IsFind input q text status = IsSearch input (λ js. IsFinding js q) text status

@@ -1,5 +1,5 @@
 -- The command that the words of a command line give, as clap reads them.
-use Rattle.std.specs.Prelude.{◌≡◌, ℕ, ◌<◌, ◌≤◌, List, Option, Some, None, codes}
+use Rattle.std.specs.Prelude.{◌≡◌, ℕ, ◌<◌, ◌≤◌, ◌⊎◌, ◌++◌, List, Option, Some, None, codes}
 use Rattle.std.specs.Fmt.{decimal}
 use Rattle.clap.specs.Words.{Row, Text, first_of}
 use Rattle.text_fields.specs.Octets.{hex}
@@ -7,8 +7,10 @@ use Rattle.client_id.specs.Duid.{IsDuid}
 use Rattle.prefix_range.specs.Prefix.{Prefix, IsPrefix}
 use Rattle.prefix_range.specs.Spelling.{Spells}
 use Rattle.evidence_search.specs.declared.query.Query.{Query}
+use Rattle.evidence_search.specs.declared.query.HolderQuery.{HolderQuery}
+use Rattle.time_text.specs.Time.{IsTimeOf}
 use Rattle.attribution_desk.specs.declared.command.Command.{Command}
-use Rattle.attribution_desk.specs.declared.command.Command.TheVariants.{Audit, Batch, Timeline, Find}
+use Rattle.attribution_desk.specs.declared.command.Command.TheVariants.{Audit, Batch, Timeline, Find, Who}
 
 -- the text is this number's, in decimal digits, which is at most so much
 abbrev pub IsNumber : (most : ℕ) → Option Text → ℕ → Type 0
@@ -55,6 +57,23 @@ pub record IsQuery (rows : List Row) (q : Query) : Type 0 where
   pub from : IsMoment (first_of (codes "from") rows) q.from
   pub to : IsMoment (first_of (codes "to") rows) q.to
 
+-- a prefix, or an address: the prefix of it alone
+abbrev pub IsBlockText : Option Text → Prefix → Type 0
+IsBlockText None p = ⊥
+IsBlockText (Some text) p = IsPrefixText (Some text) p ⊎ IsPrefixText (Some (text ++ codes "/128")) p
+
+-- a moment in milliseconds, or a time (RFC 3339) with any offset and up to three decimals
+abbrev pub IsWhen : Option Text → ℕ → Type 0
+IsWhen None moment = ⊥
+IsWhen (Some text) moment = (moment ≤ 281474976710656) × ((text ≡ decimal moment) ⊎ IsTimeOf text moment)
+
+-- which prefix is asked of, at which moment, and the bounds on clocks and answers
+pub record IsHolderQuery (rows : List Row) (q : HolderQuery) : Type 0 where
+  pub skew : IsSkew (first_of (codes "skew-ms") rows) q.skew
+  pub transit : IsTransit (first_of (codes "transit-ms") rows) q.transit
+  pub prefix : IsBlockText (first_of (codes "prefix") rows) q.prefix
+  pub at : IsWhen (first_of (codes "at") rows) q.at
+
 -- the subcommand that clap finds in the words and the values of its options are those of the command
 abbrev pub IsGiven : Option (Text × List Row) → Command → Type 0
 IsGiven None command = ⊥
@@ -67,6 +86,7 @@ IsGiven (Some found) (Batch skew transit workers) =
     × IsWorkers (first_of (codes "workers") found.1) workers
 IsGiven (Some found) Timeline = found.0 ≡ codes "timeline"
 IsGiven (Some found) (Find query) = (found.0 ≡ codes "find") × IsQuery found.1 query
+IsGiven (Some found) (Who query) = (found.0 ≡ codes "who") × IsHolderQuery found.1 query
 
 -- they are those of no command
 abbrev pub IsNoCommand : Option (Text × List Row) → Type 0

@@ -9,3 +9,4 @@ pub mod Intake
 pub mod Telling
 pub mod Claims
 pub mod Find
+pub mod Who

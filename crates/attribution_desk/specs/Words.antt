@@ -38,5 +38,13 @@ bare = record {
 abbrev pub judging_app : App
 judging_app = with_subcommand (with_subcommand bare audit_app.top) batch_app.top
 
+-- which prefix is asked of, and at which moment
+abbrev pub who_app : App
+who_app =
+    with_rule (with_rule (with_rule (with_rule (new_app (codes "who")) (option_rule (codes "skew-ms") true))
+    (option_rule (codes "prefix") true)) (option_rule (codes "at") true)) (option_rule (codes "transit-ms") false)
+
 abbrev pub desk : App
-desk = with_subcommand (with_subcommand judging_app find_app.top) (new_app (codes "timeline")).top
+desk =
+    with_subcommand (with_subcommand (with_subcommand judging_app find_app.top) who_app.top)
+    (new_app (codes "timeline")).top

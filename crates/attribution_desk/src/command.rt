@@ -1,6 +1,6 @@
 //! Command words, as clap finds them.
 
-ghost use Rattle.std.specs.Prelude.{◌≡◌, ℕ, List, [], codes, IfOk, IfSome, IsErrOf, Some, None, true, false};
+ghost use Rattle.std.specs.Prelude.{◌≡◌, ◌≢◌, ℕ, List, [], codes, IfOk, IfSome, IsErrOf, Some, None, true, false};
 ghost use Rattle.std.specs.Prelude.{map, string_bytes};
 ghost use Rattle.clap.specs.Words.{app_of, rule_of, first_of, rows_of, found_of, subcommand_of, subcommand_rows_of};
 ghost use Rattle.clap.specs.Words.{takes, fault_of, kind_of};
@@ -13,11 +13,12 @@ ghost use Rattle.prefix_range.specs.Prefix.{Prefix as PrefixValue};
 ghost use Rattle.evidence_search.specs.declared.query.Query.{Query as QueryValue};
 
 use crate::error::UsageError;
+use crate::who_words::{holder_query_given, who_command};
 use crate::workers::Workers;
 use clap::error::ErrorKind;
 use clap::{Arg, ArgAction, ArgMatches, Command as ClapCommand, Error as ClapError};
 use client_id::Duid;
-use evidence_search::Query;
+use evidence_search::{HolderQuery, Query};
 use lead_time::{Reading, Skew, Transit};
 use prefix_range::{Prefix, read_text};
 use std::alloc::{AllocError, Global};
@@ -42,10 +43,12 @@ pub enum Command {
     Timeline,
     /// Print a certificate over two journals that shows what is asked.
     Find(Query),
+    /// Print which client held a prefix at a moment, when, and a certificate over two journals that shows it.
+    Who(HolderQuery),
 }
 
 /// An option with a value.
-fn value_option<'a>(alloc: Global, name: &'a str, required: bool) -> Arg<'a>
+pub(crate) fn value_option<'a>(alloc: Global, name: &'a str, required: bool) -> Arg<'a>
     ensures rule { rule_of result ≡ option_rule name.entry.now required }
     ensures local { result.global ≡ false }
 {
@@ -123,8 +126,10 @@ fn desk_command<'a>(alloc: Global) -> Result<ClapCommand<'a>, AllocError>
 {
     let judging = judging_command(alloc)?;
     let find = find_command(alloc)?;
+    let who = who_command(alloc)?;
     judging
         .subcommand(find)?
+        .subcommand(who)?
         .subcommand(ClapCommand::new(alloc, "timeline"))
 }
 
@@ -138,20 +143,28 @@ fn usage_error(error: ClapError) -> UsageError
     }
 }
 
-/// The number that an option has, written as in a journal, of at most so much.
-fn number_given(options: &ArgMatches, name: &str, most: u64) -> Option<u64>
-    ensures given { IfSome result (IsNumber most (first_of name.now (rows_of (found_of options.now)))) }
-    ensures none { result ≡ None → (n : ℕ) → IsNumber most (first_of name.now (rows_of (found_of options.now))) n → ⊥ }
+/// The number that a text is, written as in a journal, of at most so much.
+pub(crate) fn number_in(text: &str, most: u64) -> Option<u64>
+    ensures given { IfSome result (IsNumber most (Some text.now)) }
+    ensures none { result ≡ None → (n : ℕ) → IsNumber most (Some text.now) n → ⊥ }
 {
-    let number = number_of(options.get_str(name)?.as_bytes())?;
+    let number = number_of(text.as_bytes())?;
     if number > most {
         return None;
     }
     Some(number)
 }
 
+/// The number that an option has, of at most so much.
+fn number_given(options: &ArgMatches, name: &str, most: u64) -> Option<u64>
+    ensures given { IfSome result (IsNumber most (first_of name.now (rows_of (found_of options.now)))) }
+    ensures none { result ≡ None → (n : ℕ) → IsNumber most (first_of name.now (rows_of (found_of options.now))) n → ⊥ }
+{
+    number_in(options.get_str(name)?, most)
+}
+
 /// The skew, in milliseconds, of at most a day.
-fn skew_given(options: &ArgMatches) -> Option<Skew>
+pub(crate) fn skew_given(options: &ArgMatches) -> Option<Skew>
     ensures given { IfSome result (IsSkew (first_of (codes "skew-ms") (rows_of (found_of options.now)))) }
     ensures none { result ≡ None
         → (skew : ℕ) → IsSkew (first_of (codes "skew-ms") (rows_of (found_of options.now))) skew → ⊥ }
@@ -160,7 +173,7 @@ fn skew_given(options: &ArgMatches) -> Option<Skew>
 }
 
 /// The transit, in milliseconds, of at most an hour: none where the option isn't given.
-fn transit_given(options: &ArgMatches) -> Option<Transit>
+pub(crate) fn transit_given(options: &ArgMatches) -> Option<Transit>
     ensures given { IfSome result (IsTransit (first_of (codes "transit-ms") (rows_of (found_of options.now)))) }
     ensures none { result ≡ None
         → (transit : ℕ) → IsTransit (first_of (codes "transit-ms") (rows_of (found_of options.now))) transit → ⊥ }
@@ -200,7 +213,7 @@ fn holder_given(options: &ArgMatches) -> Option<Duid>
     holder_in(options.get_str("holder")?)
 }
 
-fn prefix_in(text: &str) -> Option<Prefix>
+pub(crate) fn prefix_in(text: &str) -> Option<Prefix>
     ensures given { IfSome result (IsPrefixText (Some text.now)) }
     ensures none { result ≡ None → (p : PrefixValue) → IsPrefixText (Some text.now) p → ⊥ }
 {
@@ -249,11 +262,12 @@ fn query_given(options: &ArgMatches) -> Option<Query>
     })
 }
 
-fn command_in(matches: &ArgMatches) -> Option<Command>
-    ensures given { IfSome result (IsGiven (subcommand_rows_of matches.now)) }
-    ensures none { result ≡ None → IsNoCommand (subcommand_rows_of matches.now) }
+/// The command of this name with these options, but `who`.
+fn command_named(name: &str, options: &ArgMatches) -> Option<Command>
+    ensures given { IfSome result (IsGiven (Some (name.now, rows_of (found_of options.now)))) }
+    ensures none { result ≡ None → name.now ≢ codes "who"
+        → IsNoCommand (Some (name.now, rows_of (found_of options.now))) }
 {
-    let (name, options) = matches.subcommand()?;
     if name == "audit" {
         let skew = skew_given(options)?;
         let transit = transit_given(options)?;
@@ -276,12 +290,19 @@ fn command_in(matches: &ArgMatches) -> Option<Command>
     }
 }
 
-/// The command in what clap found, or `Usage`.
-fn command_found(matches: &ArgMatches) -> Result<Command, UsageError>
+/// The command in what clap found: `Usage` where a value is no value, `Memory` where a growth was refused.
+fn command_found(alloc: Global, matches: &ArgMatches) -> Result<Command, UsageError>
     ensures given { IfOk result (IsGiven (subcommand_rows_of matches.now)) }
     ensures refused { IsErrOf result UsageError.Usage → IsNoCommand (subcommand_rows_of matches.now) }
 {
-    command_in(matches).ok_or(UsageError::Usage)
+    let Some((name, options)) = matches.subcommand() else {
+        return Err(UsageError::Usage);
+    };
+    if name == "who" {
+        let query = holder_query_given(alloc, options)?;
+        return Ok(Command::Who(query));
+    }
+    command_named(name, options).ok_or(UsageError::Usage)
 }
 
 /// The command that the words give, the first of which is the program's name: `Usage` where clap finds none
@@ -297,7 +318,7 @@ pub fn command_of(alloc: Global, words: &[String]) -> Result<Command, UsageError
         return Err(UsageError::Memory);
     };
     match command.try_get_matches_from(words) {
-        Ok(matches) => command_found(&matches),
+        Ok(matches) => command_found(alloc, &matches),
         Err(error) => Err(usage_error(error)),
     }
 }

@@ -3,9 +3,8 @@
 //! `command_of` gives the [`Command`] that clap finds in the words, `run` carries it out between a reader and a
 //! writer, and `judge` answers an input that is at hand. The input is journal A, journal B and the certificate, one
 //! after the other, and is never held whole: each chunk goes to the readers of the journals. specs/Answer says what
-//! is answered, specs/Find what a search answers, specs/Input where a text ends, specs/Words and specs/Given what a
-//! command is; specs/Intake is for
-//! bodies only.
+//! is answered, specs/Find and specs/Who what searches answer, specs/Input where a text ends, specs/Words and
+//! specs/Given what a command is; specs/Intake is for bodies only.
 //!
 //! ```text
 //! let command = command_of(alloc, &words)?;
@@ -20,6 +19,7 @@ mod certificates;
 mod command;
 mod end_line;
 mod error;
+mod holding;
 mod intake;
 mod journal_intake;
 mod judging;
@@ -29,13 +29,14 @@ mod searching;
 mod taking;
 mod timelines;
 mod watched;
+mod who_words;
 mod workers;
 
 pub use answer::Answer;
 pub use audit::judge;
 pub use command::{Command, command_of};
 pub use error::{DeskError, UsageError};
-pub use evidence_search::{FindError, Query, find_certificate};
+pub use evidence_search::{FindError, HolderQuery, Query, find_certificate, find_holder};
 pub use running::run;
 pub use timelines::timeline;
 pub use watched::Watched;

@@ -7,7 +7,7 @@ use crate::audit::audit_input;
 use crate::batch::batch_input;
 use crate::command::Command;
 use crate::error::DeskError;
-use crate::searching::find_input;
+use crate::searching::{Search, search_input};
 use crate::timelines::timeline_input;
 use crate::watched::Watched;
 use std::alloc::Global;
@@ -38,6 +38,7 @@ pub fn run<T: Threads + Wait + Sync, R: Read, W: Write>(
             workers,
         } => batch_input(rt, alloc, *skew, *transit, *workers, reader, writer),
         Command::Timeline => timeline_input(rt, alloc, reader, writer),
-        Command::Find(query) => find_input(rt, alloc, query, reader, writer),
+        Command::Find(query) => search_input(rt, alloc, &Search::Find(*query), reader, writer),
+        Command::Who(query) => search_input(rt, alloc, &Search::Who(*query), reader, writer),
     }
 }

@@ -13,6 +13,8 @@ mod commands;
 #[cfg(test)]
 mod devices;
 #[cfg(test)]
+mod holders;
+#[cfg(test)]
 mod inputs;
 #[cfg(test)]
 mod searches;

@@ -7,3 +7,5 @@ pub mod Cleared
 pub mod Tiling
 pub mod Reasons
 pub mod Complete
+pub mod Holders
+pub mod Widened

@@ -1,11 +1,12 @@
 -- What is asked of a search.
-use Rattle.std.specs.Prelude.{◌≡◌, ℕ, List}
+use Rattle.std.specs.Prelude.{◌≡◌, ℕ, ◌+◌, ◌<◌, ◌≤◌, List}
 use Rattle.prefix_range.specs.Prefix.{Prefix}
 use Rattle.claims.specs.declared.certificate.Certificate.{Certificate}
 use Rattle.causal_order.specs.Journals.{Journals}
 use Rattle.attribution.specs.declared.verdict.Verdict.TheVariants.{Accepted}
 use Rattle.attribution.specs.FirstRefusal.{IsVerdict}
 use Rattle.evidence_search.specs.declared.query.Query.{Query}
+use Rattle.evidence_search.specs.declared.query.HolderQuery.{HolderQuery}
 use Rattle.evidence_search.specs.Plain.{IsPlain}
 
 -- who is asked of, which prefix and interval, and the bounds on clocks and answers
@@ -33,3 +34,33 @@ pub record IsShown (js : Journals) (q : Query) (c : Certificate) : Type 0 where
 -- it accepts no plain certificate that claims it
 pub record HasNoPlainEvidence (js : Journals) (q : Query) : Type 0 where
   pub none : (c : Certificate) → Claims q c → IsPlain c → IsShown js q c → ⊥
+
+-- ---- who held a prefix at a moment
+
+-- the query with another interval
+abbrev pub between : Query → (from to : ℕ) → Query
+between q from to = asked q.holder q.prefix from to q.skew q.transit
+
+-- whether this client held the prefix from the moment to the next
+abbrev pub held_by : HolderQuery → List ℕ → Query
+held_by q holder = asked holder q.prefix q.at (q.at + 1) q.skew q.transit
+
+-- the certificate is of all of the prefix, and of an interval round the moment
+pub record IsRound (q : HolderQuery) (c : Certificate) : Type 0 where
+  pub prefix : c.prefix ≡ q.prefix
+  pub from : c.from ≤ q.at
+  pub to : q.at < c.to
+
+-- an auditor accepts it
+pub record IsAcceptedOf (js : Journals) (q : HolderQuery) (c : Certificate) : Type 0 where
+  pub verdict : IsVerdict js q.skew q.transit c Accepted
+
+-- Neither end of the interval can be moved outward by a millisecond: it accepts no plain certificate of this client's
+-- from before its beginning to the moment, or from its beginning to behind its end.
+pub record IsWidest (js : Journals) (q : HolderQuery) (c : Certificate) : Type 0 where
+  pub from : (m : ℕ) → m + 1 ≡ c.from → HasNoPlainEvidence js (between (held_by q c.holder) m (q.at + 1))
+  pub to : HasNoPlainEvidence js (between (held_by q c.holder) c.from (c.to + 1))
+
+-- it accepts no plain certificate of any client's at the moment
+pub record HasNoPlainHolder (js : Journals) (q : HolderQuery) : Type 0 where
+  pub none : (holder : List ℕ) → HasNoPlainEvidence js (held_by q holder)

@@ -21,11 +21,14 @@ use Rattle.causal_order.specs.Bounds.{reading_of}
 use Rattle.attribution.specs.declared.delegation.Delegation.{Delegation}
 use Rattle.attribution.specs.Delegation.{of_lease}
 use Rattle.attribution.specs.Run.{infinity}
-use Rattle.attribution.specs.Acceptance.{Grants, Tells, GivesBack, HasEarlier, IsOutside, Tile}
+use Rattle.attribution.specs.Acceptance.{Grants, Tells, GivesBack, HasEarlier, IsOutside, Tile, IsTrueInEveryRun}
+use Rattle.book_rules.specs.NextHead.{IsLegal}
 use Rattle.evidence_search.specs.declared.query.Query.{Query}
+use Rattle.evidence_search.specs.declared.query.HolderQuery.{HolderQuery}
 use Rattle.evidence_search.specs.declared.reach.Candidate.{Candidate}
 use Rattle.evidence_search.specs.declared.reach.Reach.{Reach}
 use Rattle.evidence_search.specs.Plain.{IsPlainReason}
+use Rattle.evidence_search.specs.Claim.{IsShown}
 
 -- ---- two lines
 
@@ -229,3 +232,28 @@ certificate_with q pieces foreign = record {
 pub record IsPutTogether (js : Journals) (q : Query) (c : Certificate) : Type 0 where
   pub pieces : ReachTo js q q.to c.pieces
   pub foreign : AreForeign js q c.foreign
+
+-- ---- who held a prefix at a moment
+
+-- the certificate is of the query's client and prefix, and of an interval round the query's; and it is true
+pub record IsShownRound (js : Journals) (q : Query) (c : Certificate) : Type 0 where
+  pub holder : c.holder ≡ q.holder
+  pub prefix : c.prefix ≡ q.prefix
+  pub from : c.from ≤ q.from
+  pub to : q.to ≤ c.to
+  pub shown : IsShown js q c
+  pub headline : IsTrueInEveryRun IsLegal js q.skew q.transit c
+
+-- a lease that was granted at this reading may last at the moment, as far as clocks go
+abbrev pub MayLast : Lease → ℕ → HolderQuery → Type 0
+MayLast g x q = (x ≤ q.at + q.skew) × ((g.valid ≡ infinity) ⊎ (q.at < x + q.skew + 1000 * g.valid))
+
+-- the line grants this client such a lease of a prefix round the one asked of
+pub record IsClientAt (js : Journals) (q : HolderQuery) (r : Ref) (holder : List ℕ) : Type 0 where
+  pub lease : Lease
+  pub reading : ℕ
+  pub grants : Grants js r lease
+  pub read : IsReadAt js r reading
+  pub round : Contains lease.prefix q.prefix
+  pub lasts : MayLast lease reading q
+  pub client : lease.client ≡ holder

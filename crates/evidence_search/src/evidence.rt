@@ -57,18 +57,18 @@ fn is_short(certificate: &Certificate) -> bool {
     lines <= MOST_LINES
 }
 
-/// The certificate that chains through both journals make for the query, no longer than a text may be. `NoneFound`
-/// where they make none.
+/// The certificate that chains over these messages make for the query, no longer than a text may be. `NoneFound` where
+/// they make none.
 pub fn linked_evidence<S: LineSource>(
     alloc: Global,
     source: &S,
+    messages: &Messages,
     query: &Query,
 ) -> Result<Certificate, FindError>
     ensures { IfOk result (Claims query.now) }
 {
-    let messages = Messages::between(alloc, source)?;
-    let foreign = linked_foreign(alloc, source, &messages, query)?;
-    let pieces = linked_pieces(alloc, source, &messages, query)?;
+    let foreign = linked_foreign(alloc, source, messages, query)?;
+    let pieces = linked_pieces(alloc, source, messages, query)?;
     let certificate = Certificate {
         holder: query.holder,
         prefix: query.prefix,

@@ -7,6 +7,7 @@ ghost use Rattle.evidence_search.specs.Claim.{asked, Claims, IsShown, HasNoPlain
 
 use crate::error::FindError;
 use crate::evidence::{evidence, linked_evidence};
+use crate::messages::Messages;
 use crate::query::Query;
 use attribution::Verdict;
 use auditor::{LineSource, audit};
@@ -54,10 +55,11 @@ fn plain_search<S: LineSource>(
     Ok(certificate)
 }
 
-/// The certificate that chains through both journals make for the query, where the auditor accepts it.
+/// The certificate that chains over these messages make for the query, where the auditor accepts it.
 fn linked_search<S: LineSource>(
     alloc: Global,
     source: &S,
+    messages: &Messages,
     query: &Query,
 ) -> Result<Certificate, FindError>
     ensures claims { IfOk result (Claims query.now) }
@@ -65,11 +67,34 @@ fn linked_search<S: LineSource>(
     ensures headline { IfOk result
         (IsTrueInEveryRun IsLegal (S.journals source.now) query.now.skew query.now.transit) }
 {
-    let certificate = linked_evidence(alloc, source, query)?;
+    let certificate = linked_evidence(alloc, source, messages, query)?;
     if !is_shown(source, query, &certificate) {
         return Err(FindError::NoneFound);
     }
     Ok(certificate)
+}
+
+/// What single lines show of the query, or else what chains over these messages do, where there are any.
+pub fn search_over<S: LineSource>(
+    alloc: Global,
+    source: &S,
+    messages: Option<&Messages>,
+    query: &Query,
+) -> Result<Certificate, FindError>
+    ensures claims { IfOk result (Claims query.now) }
+    ensures shown { IfOk result (IsShown (S.journals source.now) query.now) }
+    ensures headline { IfOk result
+        (IsTrueInEveryRun IsLegal (S.journals source.now) query.now.skew query.now.transit) }
+    ensures none { IsErrOf result FindError.NoneFound → HasNoPlainEvidence (S.journals source.now) query.now }
+{
+    let plain = plain_search(alloc, source, query);
+    let Some(messages) = messages else {
+        return plain;
+    };
+    match plain {
+        Err(FindError::NoneFound) => linked_search(alloc, source, messages, query),
+        plain => plain,
+    }
 }
 
 /// What single lines show of the query, or else what chains do.
@@ -81,7 +106,10 @@ fn search<S: LineSource>(alloc: Global, source: &S, query: &Query) -> Result<Cer
     ensures none { IsErrOf result FindError.NoneFound → HasNoPlainEvidence (S.journals source.now) query.now }
 {
     match plain_search(alloc, source, query) {
-        Err(FindError::NoneFound) => linked_search(alloc, source, query),
+        Err(FindError::NoneFound) => {
+            let messages = Messages::between(alloc, source)?;
+            linked_search(alloc, source, &messages, query)
+        }
         plain => plain,
     }
 }

@@ -4,8 +4,11 @@
 //! of the holder that carry the interval, end to end, for the reason why each other client's delegation stays out of
 //! it, and asks the auditor of what it found. So it needn't be believed: what it gives is judged as any certificate is.
 //!
-//! It looks at single lines and at pairs of them first, and misses no certificate that is made of these (specs/Plain).
-//! Where they don't show it, it looks at what the partners told each other: `messages` has the ways from one journal to
+//! Where only a prefix and a moment are known, [`find_holder`] asks so of each client whose lease may have lasted, and
+//! widens the interval of the one that is shown until it can be shown no further.
+//!
+//! Both look at single lines and at pairs of them first, and miss no certificate that is made of these (specs/Plain).
+//! Where they don't show it, they look at what the partners told each other: `messages` has the ways from one journal to
 //! the other, `bounds` the best chain from a line and to a line, `linking` how chains order two lines. specs/Claim is
 //! what a search is asked, specs/Search is for bodies only.
 //!
@@ -20,6 +23,7 @@ mod error;
 mod evidence;
 mod finding;
 mod foreign;
+mod holder;
 mod linked_foreign;
 mod linked_pieces;
 mod linking;
@@ -29,7 +33,9 @@ mod pieces;
 mod query;
 mod reach;
 mod releases;
+mod widening;
 
 pub use error::FindError;
 pub use finding::find_certificate;
-pub use query::Query;
+pub use holder::find_holder;
+pub use query::{HolderQuery, Query};

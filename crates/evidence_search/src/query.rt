@@ -18,3 +18,15 @@ pub struct Query {
     /// The most by which an answer reaches its client after its grant.
     pub transit: Transit,
 }
+
+/// Which client held a whole prefix at a moment, and the bounds under which it must be shown.
+#[derive(Clone, Copy, Debug, PartialEq, Eq)]
+pub struct HolderQuery {
+    pub prefix: Prefix,
+    /// In milliseconds of true time.
+    pub at: Reading,
+    /// The most by which a reading of either journal and true time differ.
+    pub skew: Skew,
+    /// The most by which an answer reaches its client after its grant.
+    pub transit: Transit,
+}

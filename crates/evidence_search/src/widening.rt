@@ -1,0 +1,127 @@
+//! The widest interval that a search shows.
+
+ghost use Rattle.std.specs.Prelude.{◌≡◌, ◌+◌, ◌<◌, ◌≤◌, ℕ, IfOk, IsErrOf};
+ghost use Rattle.binding_rules.specs.declared.role.Role.TheVariants.{Primary};
+ghost use Rattle.causal_order.specs.Journals.{journal_of};
+ghost use Rattle.attribution.specs.Acceptance.{ClosesFrom};
+ghost use Rattle.evidence_search.specs.Claim.{between, HasNoPlainEvidence};
+ghost use Rattle.evidence_search.specs.Search.{IsShownRound};
+
+use crate::error::FindError;
+use crate::finding::search_over;
+use crate::messages::Messages;
+use crate::query::Query;
+use crate::reach::less_skew;
+use auditor::LineSource;
+use binding_rules::Role;
+use claims::Certificate;
+use lead_time::{Reading, Skew};
+use std::alloc::Global;
+
+/// The moment of these milliseconds, which is no later than another.
+fn moment(milliseconds: u64, latest: Reading) -> Reading
+    requires { milliseconds ≤ latest }
+    ensures { result ≡ milliseconds }
+{
+    match Reading::new(milliseconds) {
+        Ok(moment) => moment,
+        Err(_) => latest,
+    }
+}
+
+/// The certificate of the earliest beginning that is shown, found by halving.
+fn from_earliest<S: LineSource>(
+    alloc: Global,
+    source: &S,
+    messages: Option<&Messages>,
+    query: &Query,
+    found: Certificate,
+) -> Result<Certificate, FindError>
+    requires round { IsShownRound (S.journals source.now) query.now found }
+    requires to { found.to ≡ query.now.to }
+    ensures round { IfOk result (IsShownRound (S.journals source.now) query.now) }
+    ensures to { IfOk result (λ c. c.to ≡ query.now.to) }
+    ensures earliest { IfOk result (λ c. (m : ℕ) → m + 1 ≡ c.from
+        → HasNoPlainEvidence (S.journals source.now) (between query.now m query.now.to)) }
+    ensures found { IsErrOf result FindError.NoneFound → ⊥ }
+{
+    let mut found = found;
+    let mut low = 0;
+    while low < found.from.milliseconds() {
+        let from = moment(low + (found.from.milliseconds() - low) / 2, found.from);
+        let wider = Query { from, ..*query };
+        match search_over(alloc, source, messages, &wider) {
+            Ok(certificate) => found = certificate,
+            Err(FindError::NoneFound) => low = from.milliseconds() + 1,
+            Err(FindError::Memory) => return Err(FindError::Memory),
+        }
+    }
+    Ok(found)
+}
+
+/// The last moment up to which the primary's journal can show an interval, or this one where that is later.
+fn last_shown<S: LineSource>(source: &S, skew: Skew, least: Reading) -> Reading
+    ensures least { least ≤ result }
+    ensures last { (to : ℕ) → result < to → ClosesFrom (journal_of (S.journals source.now) Primary) (to + skew) → ⊥ }
+{
+    let closed = source.close_reading(Role::Primary);
+    let Some(last) = less_skew(closed.milliseconds(), skew) else {
+        return least;
+    };
+    if last.milliseconds() > least.milliseconds() {
+        last
+    } else {
+        least
+    }
+}
+
+/// The certificate of the latest end that is shown from the same beginning, found by halving.
+fn to_latest<S: LineSource>(
+    alloc: Global,
+    source: &S,
+    messages: Option<&Messages>,
+    query: &Query,
+    found: Certificate,
+) -> Result<Certificate, FindError>
+    requires round { IsShownRound (S.journals source.now) query.now found }
+    ensures round { IfOk result (IsShownRound (S.journals source.now) query.now) }
+    ensures from { IfOk result (λ c. c.from ≡ found.from) }
+    ensures latest { IfOk result (λ c.
+        HasNoPlainEvidence (S.journals source.now) (between query.now c.from (c.to + 1))) }
+    ensures found { IsErrOf result FindError.NoneFound → ⊥ }
+{
+    let from = found.from;
+    let mut found = found;
+    let mut high = last_shown(source, query.skew, found.to);
+    while found.to < high {
+        let half = (high.milliseconds() - found.to.milliseconds()) / 2;
+        let to = moment(high.milliseconds() - half, high);
+        let wider = Query { from, to, ..*query };
+        match search_over(alloc, source, messages, &wider) {
+            Ok(certificate) => found = certificate,
+            Err(FindError::NoneFound) => high = moment(to.milliseconds() - 1, to),
+            Err(FindError::Memory) => return Err(FindError::Memory),
+        }
+    }
+    Ok(found)
+}
+
+/// The certificate of the widest interval round the query's that is shown: neither end can be moved outward by a
+/// millisecond. `NoneFound` where the query itself isn't shown.
+pub fn widest<S: LineSource>(
+    alloc: Global,
+    source: &S,
+    messages: Option<&Messages>,
+    query: &Query,
+) -> Result<Certificate, FindError>
+    ensures round { IfOk result (IsShownRound (S.journals source.now) query.now) }
+    ensures earliest { IfOk result (λ c. (m : ℕ) → m + 1 ≡ c.from
+        → HasNoPlainEvidence (S.journals source.now) (between query.now m query.now.to)) }
+    ensures latest { IfOk result (λ c.
+        HasNoPlainEvidence (S.journals source.now) (between query.now c.from (c.to + 1))) }
+    ensures none { IsErrOf result FindError.NoneFound → HasNoPlainEvidence (S.journals source.now) query.now }
+{
+    let found = search_over(alloc, source, messages, query)?;
+    let found = from_earliest(alloc, source, messages, query, found)?;
+    to_latest(alloc, source, messages, query, found)
+}
