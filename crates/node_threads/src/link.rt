@@ -16,6 +16,9 @@ use std::sync::Wait;
 /// How many octets are read at once, at most.
 const READ_SIZE: usize = 4096;
 
+/// How often an end that goes reads on, at most.
+const LAST_READS: u32 = 1000;
+
 /// The frames that these octets complete.
 fn fed(feed: &mut Feed, octets: &[u8]) -> Result<Vec<Frame>, NodeError> {
     match feed.feed(octets) {
@@ -55,6 +58,19 @@ fn turn<N: BookName, R: Wait, C: Clock, W: Wire>(
     Ok(())
 }
 
+/// Says DISCONNECT, and reads on until the other end has closed or is quiet. What still comes isn't taken: but a
+/// connection that is closed with octets unread may lose what was written last.
+fn disconnect<W: Wire>(alloc: Global, buffer: &mut [u8], wire: &mut W) -> Result<(), NodeError> {
+    write_word(alloc, wire, FrameKind::Disconnect)?;
+    for _ in 0..LAST_READS {
+        match wire.read(buffer) {
+            Ok(Got::Octets(_)) => {}
+            Ok(Got::Idle | Got::End) | Err(_) => break,
+        }
+    }
+    Ok(())
+}
+
 /// Joins the other end of the link and tells it of this one's book, until the wire's end, a DISCONNECT, or a turn after
 /// `Turns::end`, at which it says DISCONNECT itself. What it sent and took it knows by the receipts of its pass, which
 /// is the same for each connection.
@@ -86,7 +102,7 @@ pub fn serve_link<N: BookName, R: Wait, C: Clock, W: Wire>(
     end.greet(pass, &mut talk, wire)?;
     for _ in rt.forever() {
         if turns.has_ended(rt) {
-            return write_word(alloc, wire, FrameKind::Disconnect);
+            return disconnect(alloc, &mut buffer, wire);
         }
         turn(&end, pass, &mut talk, &mut feed, &mut buffer, wire)?;
         if talk.phase == Phase::Ended {

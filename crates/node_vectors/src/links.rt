@@ -200,7 +200,7 @@ fn check(rt: &(impl Abort + Wait), alloc: Global, case: &Case<'_>) -> Result<(),
 #[test]
 fn the_secondary_answers_connect_and_takes_a_contact(rt: HostRuntime) -> Result<(), Fail> {
     let heard: &[&[u8]] = &[CONNECT, CONTACT];
-    let case = Case::new(Role::Secondary, heard, &[CONNECT_REPLY], B_CONTACT);
+    let case = Case::new(Role::Secondary, heard, &[CONNECT_REPLY, POOL_REQUEST], B_CONTACT);
     check(&rt, rt.alloc(), &case)?;
     check(&rt, rt.alloc(), &Case { step: 1, ..case })
 }
@@ -208,14 +208,15 @@ fn the_secondary_answers_connect_and_takes_a_contact(rt: HostRuntime) -> Result<
 #[test]
 fn a_frame_is_taken_once(rt: HostRuntime) -> Result<(), Fail> {
     let heard: &[&[u8]] = &[CONNECT, CONTACT, CONTACT];
-    let case = Case::new(Role::Secondary, heard, &[CONNECT_REPLY], B_CONTACT);
+    let case = Case::new(Role::Secondary, heard, &[CONNECT_REPLY, POOL_REQUEST], B_CONTACT);
     check(&rt, rt.alloc(), &case)
 }
 
 #[test]
 fn the_secondary_replies_to_an_update(rt: HostRuntime) -> Result<(), Fail> {
     let heard: &[&[u8]] = &[CONNECT, UPDATE];
-    let case = Case::new(Role::Secondary, heard, &[CONNECT_REPLY, REPLY], B_ANSWERED);
+    let written: &[&[u8]] = &[CONNECT_REPLY, POOL_REQUEST, REPLY];
+    let case = Case::new(Role::Secondary, heard, written, B_ANSWERED);
     check(&rt, rt.alloc(), &case)
 }
 
@@ -293,7 +294,8 @@ fn an_end_says_that_it_goes(rt: HostRuntime) -> Result<(), Fail> {
         },
     )?;
     let heard: &[&[u8]] = &[CONNECT, DISCONNECT, CONTACT];
-    let secondary = Case::new(Role::Secondary, heard, &[CONNECT_REPLY], B_OPENED);
+    let written: &[&[u8]] = &[CONNECT_REPLY, POOL_REQUEST];
+    let secondary = Case::new(Role::Secondary, heard, written, B_OPENED);
     check(&rt, rt.alloc(), &secondary)
 }
 
@@ -369,17 +371,18 @@ fn check_cut_off(
 #[test]
 fn a_failing_write_ends_an_end(rt: HostRuntime) -> Result<(), Fail> {
     let alloc = rt.alloc();
-    let written: &[&[u8]] = &[CONNECT_REPLY];
+    let asked: &[&[u8]] = &[CONNECT_REPLY, POOL_REQUEST];
     check_cut_off(&rt, alloc, 100, 0, &[], NodeError::Write, B_OPENED)?;
-    check_cut_off(&rt, alloc, 100, 1, written, NodeError::Write, B_ANSWERED)
+    check_cut_off(&rt, alloc, 100, 1, &[CONNECT_REPLY], NodeError::Write, B_OPENED)?;
+    check_cut_off(&rt, alloc, 100, 2, asked, NodeError::Write, B_ANSWERED)
 }
 
 // The update's 74 octets take three reads behind CONNECT's one.
 #[test]
 fn a_failing_read_ends_an_end(rt: HostRuntime) -> Result<(), Fail> {
     let alloc = rt.alloc();
-    let written: &[&[u8]] = &[CONNECT_REPLY];
-    let answered: &[&[u8]] = &[CONNECT_REPLY, REPLY];
+    let written: &[&[u8]] = &[CONNECT_REPLY, POOL_REQUEST];
+    let answered: &[&[u8]] = &[CONNECT_REPLY, POOL_REQUEST, REPLY];
     check_cut_off(&rt, alloc, 0, 100, &[], NodeError::Read, B_OPENED)?;
     for reads in 1..4 {
         check_cut_off(&rt, alloc, reads, 100, written, NodeError::Read, B_OPENED)?;
