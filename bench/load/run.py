@@ -243,15 +243,32 @@ def desk(words, given):
     return done.returncode, done.stdout.decode(), done.stderr.decode()
 
 
+def returned(text):
+    """The readings at which each client gave back each prefix."""
+    found = collections.defaultdict(list)
+    for words in (line.split() for line in text.splitlines()):
+        if len(words) == 6 and words[2] == "release":
+            found[words[3]].append(int(words[1]))
+    return found
+
+
+def drawn(texts, dice):
+    """A hundred leases that nobody gave back near their beginning."""
+    close = min(int(text.splitlines()[-2].split()[1]) for text in texts)
+    releases, leases = returned("".join(texts)), []
+    for text in texts:
+        for reading, client, (address, length), _ in lines_of(text):
+            apart = all(abs(release - reading) > 4000 for release in releases[client])
+            if apart and reading + 3000 < close:
+                leases.append((reading, client, f"{address}/{length}"))
+    return dice.sample(leases, min(100, len(leases)))
+
+
 def judged(texts, dice):
-    """What the desk says of leases that nobody gave back: how many were accepted, and what it said of others."""
-    text = "".join(texts)
-    released = set(re.findall(r" release ([0-9a-f]+) ", text))
-    close = min(int(text_of.splitlines()[-2].split()[1]) for text_of in texts)
-    leases = [lease for text_of in texts for lease in lines_of(text_of) if lease[1] not in released and lease[0] + 3000 < close]
-    accepted, others = 0, []
-    for reading, client, (address, length), _ in dice.sample(leases, min(100, len(leases))):
-        words = ["--holder", client, "--prefix", f"{address}/{length}", "--from", str(reading + 500), "--to", str(reading + 1500)]
+    """What the desk says of these leases: how many were accepted, and what it said of others."""
+    text, accepted, others = "".join(texts), 0, []
+    for reading, client, prefix in drawn(texts, dice):
+        words = ["--holder", client, "--prefix", prefix, "--from", str(reading + 500), "--to", str(reading + 1500)]
         status, found, complaint = desk(["find", "--skew-ms", "500", *words], text)
         verdict = desk(["audit", "--skew-ms", "500"], text + found)[1] if status == 0 else found + complaint
         if verdict == "accepted\n":
@@ -285,8 +302,9 @@ def ended(children, load):
             if done:
                 found[place] = (os.waitstatus_to_exitcode(status), used.ru_maxrss * 1024)
             else:
-                load.left[place] += 1
-                load.send(place, b"x")
+                load.left[place] += 32
+                for _ in range(32):
+                    load.send(place, b"x")
         time.sleep(0.002)
     return [found[place] for place in range(len(children))]
 
