@@ -1,17 +1,15 @@
 -- The grants that carry moments.
 use Rattle.std.specs.Prelude.{◌≡◌, ℕ, ◌+◌, ◌<◌, ◌≤◌, ◌⊎◌, List, [], ◌∷◌, ◌++◌, length, slice_get, Option, Some, None, MatchOption, All, Contains as Has}
-use Rattle.std.proofs.Common.{arith, sym, ◌∙◌, ap, subst, refl, inl, inr}
-use Rattle.std.proofs.lemmas.Bool.{cases_lt}
+use Rattle.std.proofs.Common.{arith, sym, subst, refl}
 use Rattle.std.proofs.lemmas.List.Elements.{All-append, Contains-append_left, Contains-append_right}
 use Rattle.prefix_range.specs.Prefix.{Prefix, IsPrefix, HasAddress, Overlaps}
 use Rattle.claims.specs.declared.reference.Ref.{Ref}
 use Rattle.journal_lines.specs.declared.event.Event.{Event}
 use Rattle.causal_order.specs.Journals.{Journals}
 use Rattle.attribution.specs.Listing.{Concerns, IsListing}
-use Rattle.auditor.proofs.Given.{Contains-get, get-Contains}
 use Rattle.evidence_search.specs.declared.query.Query.{Query}
 use Rattle.evidence_search.specs.declared.reach.Reach.{Reach}
-use Rattle.evidence_search.specs.Search.{CarriesAt, IsReach, HasReach, AreAllReaches, NoneReaches, IsFarthest}
+use Rattle.evidence_search.specs.Search.{CarriesAt, IsReach, HasReach, AreAllReaches}
 use Rattle.evidence_search.proofs.Walked.{Passed, passed_none, passed_on, passed_all}
 
 -- ---- lists
@@ -70,53 +68,3 @@ module _ (js : Journals) (q : Query) where
 
   pub all_reached : (left : List Ref) (xs : List Reach) → left ≡ [] → AreReached js q left xs → AreAllReaches js q xs
   all_reached left xs none h m r ge at = passed_all (Carries js q) (HasReach xs) left none h.passed r (m, ge, at)
-
--- ---- the farthest
-
--- among the first so many
-abbrev pub IsBestBy : List Reach → ℕ → ℕ → Option Reach → Type 0
-IsBestBy xs m past None = past ≡ m
-IsBestBy xs m past (Some z) = Has xs z × (z.begin ≤ m) × (z.end ≡ past) × (m < past)
-
-pub record IsBest (xs : List Reach) (m i past : ℕ) (best : Option Reach) : Type 0 where
-  pub best_of : IsBestBy xs m past best
-  pub from : m ≤ past
-  pub most : (k : ℕ) (x : Reach) → k < i → slice_get xs k ≡ Some x → x.begin ≤ m → x.end ≤ past
-
-module _ (xs : List Reach) (m : ℕ) where
-  pub best_of_none : IsBest xs m 0 m None
-  best_of_none = record { best_of = refl; from = omega arith; most = λ k x lt e le. absurd (omega arith) }
-
-  most_on : (i past more : ℕ) (x : Reach) → slice_get xs i ≡ Some x → past ≤ more → (x.begin ≤ m → x.end ≤ more)
-      → ((k : ℕ) (y : Reach) → k < i → slice_get xs k ≡ Some y → y.begin ≤ m → y.end ≤ past)
-      → (k : ℕ) (y : Reach) → k < i + 1 → slice_get xs k ≡ Some y → y.begin ≤ m → y.end ≤ more
-  most_on i past more x e le here h k y lt f begun = elim (cases_lt k i) [
-    | inl less ↦ (let z = h k y less f begun in omega arith)
-    | inr ge ↦ (let at : i ≡ k = omega arith in let same : Some x ≡ Some y = sym e ∙ (ap (slice_get xs) at ∙ f) in let is : x ≡ y = cc in subst (λ (z : Reach). z.begin ≤ m → z.end ≤ more) is here begun)
-  ]
-
-  pub best_more : (i past : ℕ) (best : Option Reach) (x : Reach) → slice_get xs i ≡ Some x → x.begin ≤ m → past < x.end → IsBest xs m i past best → IsBest xs m (i + 1) x.end (Some x)
-  best_more i past best x e begun lt h = record {
-    best_of = (Contains-get xs i x e, begun, refl, (let le = h.from in omega arith));
-    from = (let le = h.from in omega arith);
-    most = most_on i past x.end x e (omega arith) (λ b. omega arith) h.most;
-  }
-
-  pub best_kept : (i past : ℕ) (best : Option Reach) (x : Reach) → slice_get xs i ≡ Some x → (((x.begin ≤ m) × (past < x.end)) → ⊥) → IsBest xs m i past best → IsBest xs m (i + 1) past best
-  best_kept i past best x e not h = record {
-    best_of = h.best_of;
-    from = h.from;
-    most = most_on i past past x e (omega arith) (λ b. elim (cases_lt past x.end) [ inl lt ↦ absurd (not (b, lt)) | inr le ↦ le ]) h.most;
-  }
-
-  most_of : (i past : ℕ) (best : Option Reach) → length xs ≤ i → IsBest xs m i past best → (x : Reach) → Has xs x → x.begin ≤ m → x.end ≤ past
-  most_of i past best le h x has begun = let at = get-Contains xs x has in h.most at.0 x (let lt = at.1 in omega arith) at.2 begun
-
-  pub best_found : (i past : ℕ) (best : Option Reach) → length xs ≤ i → IsBest xs m i past best → MatchOption best (NoneReaches xs m) (IsFarthest xs m)
-  best_found i past None le h = λ x has begun. let most = most_of i past None le h x has begun in let is = h.best_of in omega arith
-  best_found i past (Some z) le h = record {
-    has = h.best_of.0;
-    begins = h.best_of.1;
-    ends = (let a = h.best_of.2 in let b = h.best_of.3 in omega arith);
-    most = λ x has begun. (let most = most_of i past (Some z) le h x has begun in let a = h.best_of.2 in omega arith);
-  }

@@ -4,6 +4,7 @@ pub mod Candidates
 pub mod Kept
 pub mod Carrying
 pub mod Cleared
+pub mod Sweeping
 pub mod Tiling
 pub mod Reasons
 pub mod Complete

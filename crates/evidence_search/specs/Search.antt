@@ -1,6 +1,7 @@
 -- For bodies only: what single lines show, and what a search makes of them.
 use Rattle.std.specs.Prelude.{◌≡◌, ◌≢◌, ℕ, ◌+◌, ◌*◌, ◌<◌, ◌≤◌, ◌⊎◌, ◌↔◌, ◌==◌, min, List, [], ◌∷◌, Some, All}
-use Rattle.std.specs.Prelude.{if◌then◌else◌, Contains as Has}
+use Rattle.std.specs.Prelude.{if◌then◌else◌, length, slice_get, Contains as Has}
+use Rattle.std.specs.List.Sorted.{IsNonDecreasingBy}
 use Rattle.prefix_range.specs.Prefix.{Contains, Overlaps}
 use Rattle.binding_rules.specs.Role.{partner_of}
 use Rattle.journal_lines.specs.declared.event.Lease.{Lease}
@@ -27,6 +28,7 @@ use Rattle.evidence_search.specs.declared.query.Query.{Query}
 use Rattle.evidence_search.specs.declared.query.HolderQuery.{HolderQuery}
 use Rattle.evidence_search.specs.declared.reach.Candidate.{Candidate}
 use Rattle.evidence_search.specs.declared.reach.Reach.{Reach}
+use Rattle.evidence_search.specs.declared.sweep.Passed.{Passed}
 use Rattle.evidence_search.specs.Plain.{IsPlainReason}
 use Rattle.evidence_search.specs.Claim.{IsShown}
 
@@ -123,6 +125,27 @@ pub record IsFarthest (xs : List Reach) (m : ℕ) (z : Reach) : Type 0 where
   pub begins : z.begin ≤ m
   pub ends : m < z.end
   pub most : (x : Reach) → Has xs x → x.begin ≤ m → x.end ≤ z.end
+
+-- the grants stand in the order in which they begin
+abbrev pub AreInOrder : List Reach → Type 0
+AreInOrder xs = IsNonDecreasingBy (λ (x : Reach). x.begin) xs
+
+-- the first so many begin by the moment, and none of them carries farther than the best
+pub record IsPassed (xs : List Reach) (m : ℕ) (p : Passed) : Type 0 where
+  pub within : p.count ≤ length xs
+  pub begun : (k : ℕ) (x : Reach) → k < p.count → slice_get xs k ≡ Some x → x.begin ≤ m
+  pub place : p.best ≤ p.count
+  pub some : 0 < p.count → p.best < p.count
+  pub most : (k : ℕ) (x z : Reach) → k < p.count → slice_get xs k ≡ Some x → slice_get xs p.best ≡ Some z → x.end ≤ z.end
+
+-- the place of the one of two that carries farther
+abbrev pub IsFarther : List Reach → (best place found : ℕ) → Type 0
+IsFarther xs best place found = (x z : Reach) → slice_get xs best ≡ Some x → slice_get xs place ≡ Some z
+    → ((found ≡ place) × (x.end ≤ z.end)) ⊎ ((found ≡ best) × (z.end ≤ x.end))
+
+-- those from this place on begin later
+abbrev pub AreLater : List Reach → ℕ → ℕ → Type 0
+AreLater xs m count = (k : ℕ) (x : Reach) → count ≤ k → slice_get xs k ≡ Some x → m < x.begin
 
 -- no grant carries some moment of the query
 pub record HasGap (js : Journals) (q : Query) : Type 0 where

@@ -8,9 +8,9 @@
 //! widens the interval of the one that is shown until it can be shown no further.
 //!
 //! Both look at single lines and at pairs of them first, and miss no certificate that is made of these (specs/Plain).
-//! Where they don't show it, they look at what the partners told each other: `messages` has the ways from one journal to
-//! the other, `bounds` the best chain from a line and to a line, `linking` how chains order two lines. specs/Claim is
-//! what a search is asked, specs/Search is for bodies only.
+//! Where they don't show it, they look at what the partners told each other: `messages` has the ways from one journal
+//! to the other, `bounds` the best chain from a line and to a line, `linking` how chains order two lines. specs/Claim
+//! is what a search is asked, specs/Search is for bodies only.
 //!
 //! ```text
 //! let certificate = find_certificate(alloc, &index, holder, prefix, from, to, skew, Transit::ZERO)?;
@@ -33,6 +33,7 @@ mod pieces;
 mod query;
 mod reach;
 mod releases;
+mod sweep;
 mod widening;
 
 pub use error::FindError;

@@ -1,5 +1,8 @@
 //! The pieces that carry an interval, by chains through both journals.
 
+ghost use Rattle.std.specs.Prelude.{IfOk};
+ghost use Rattle.evidence_search.specs.Search.{AreInOrder};
+
 use crate::asking::{lease_at, reading_at};
 use crate::bounds::{Bound, earliest, earliest_chain, latest, latest_chain, over_message};
 use crate::error::FindError;
@@ -7,7 +10,8 @@ use crate::linking::{is_before, order};
 use crate::messages::Messages;
 use crate::ordering::are_apart;
 use crate::query::Query;
-use crate::reach::{Candidate, Reach, begin_of, farthest, is_holders, lease_limit, less_skew};
+use crate::reach::{Candidate, Reach, begin_of, is_holders, lease_limit, less_skew};
+use crate::sweep::{Passed, farthest, pass, sort};
 use attribution::Delegation;
 use auditor::LineSource;
 use causal_order::{Lines, Ref};
@@ -99,13 +103,15 @@ fn reach_at<S: LineSource>(
     Some(Reach { grant, begin, end })
 }
 
-/// The grants that carry moments of the query.
+/// The grants that carry moments of the query, the first that does first.
 fn reaches<S: LineSource>(
     alloc: Global,
     source: &S,
     messages: &Messages,
     query: &Query,
-) -> Result<Vec<Reach>, AllocError> {
+) -> Result<Vec<Reach>, AllocError>
+    ensures { IfOk result (λ xs. AreInOrder xs.items) }
+{
     let mut reaches = Vec::new(alloc);
     let mut walk = source.overlaps(&query.prefix);
     while let Some(at) = source.next_overlap(&query.prefix, &mut walk) {
@@ -113,6 +119,7 @@ fn reaches<S: LineSource>(
             reaches.push(reach)?;
         }
     }
+    sort(&mut reaches)?;
     Ok(reaches)
 }
 
@@ -183,6 +190,30 @@ fn piece_of<S: LineSource>(
     })
 }
 
+/// Pieces end to end over the query, each of the one of these grants that reaches farthest.
+fn pieces_of<S: LineSource>(
+    alloc: Global,
+    source: &S,
+    messages: &Messages,
+    query: &Query,
+    reaches: &[Reach],
+) -> Result<PieceList, FindError>
+    requires { AreInOrder reaches.now }
+{
+    let mut pieces = PieceList::new(Vec::new(alloc));
+    let mut from = query.from;
+    let mut passed = Passed::NONE;
+    while from < query.to {
+        passed = pass(reaches, &passed, from);
+        let Some(reach) = farthest(reaches, &passed, from) else {
+            return Err(FindError::NoneFound);
+        };
+        pieces.push(piece_of(alloc, source, messages, &reach, from, query.skew)?)?;
+        from = reach.end;
+    }
+    Ok(pieces)
+}
+
 /// Pieces end to end over the query, each of the grant that reaches farthest. `NoneFound` where no grant carries some
 /// moment.
 pub fn linked_pieces<S: LineSource>(
@@ -192,14 +223,5 @@ pub fn linked_pieces<S: LineSource>(
     query: &Query,
 ) -> Result<PieceList, FindError> {
     let reaches = reaches(alloc, source, messages, query)?;
-    let mut pieces = PieceList::new(Vec::new(alloc));
-    let mut from = query.from;
-    while from < query.to {
-        let Some(reach) = farthest(&reaches, from) else {
-            return Err(FindError::NoneFound);
-        };
-        pieces.push(piece_of(alloc, source, messages, &reach, from, query.skew)?)?;
-        from = reach.end;
-    }
-    Ok(pieces)
+    pieces_of(alloc, source, messages, query, &reaches)
 }

@@ -3,14 +3,15 @@
 ghost use Rattle.std.specs.Prelude.{◌≡◌, ◌≤◌, All, IfOk, IsErrOf};
 ghost use Rattle.claims.specs.declared.reference.Ref.{Ref as RefValue};
 ghost use Rattle.attribution.specs.Acceptance.{GivesBack};
-ghost use Rattle.evidence_search.specs.Search.{IsPlainEntry, HasEntry, AreEntries, IsReach, AreAllReaches};
+ghost use Rattle.evidence_search.specs.Search.{IsPlainEntry, HasEntry, AreEntries, IsReach, AreAllReaches, AreInOrder};
 ghost use Rattle.evidence_search.specs.Search.{IsPieceOf, ReachTo, HasGap};
 
 use crate::asking::lease_at;
 use crate::error::FindError;
 use crate::ordering::{is_plainly_before, plain_order, single};
 use crate::query::Query;
-use crate::reach::{Reach, farthest, reaches};
+use crate::reach::{Reach, reaches};
+use crate::sweep::{Passed, farthest, pass};
 use attribution::Delegation;
 use auditor::LineSource;
 use causal_order::{Lines, Ref};
@@ -89,7 +90,8 @@ fn piece_of<S: LineSource>(
     })
 }
 
-/// Pieces end to end over the query, each of the one of these grants that reaches farthest.
+/// Pieces end to end over the query, each of the one of these grants that reaches farthest: they stand in the order in
+/// which they begin.
 fn pieces_of<S: LineSource>(
     alloc: Global,
     source: &S,
@@ -99,13 +101,16 @@ fn pieces_of<S: LineSource>(
     requires interval { query.now.from ≤ query.now.to }
     requires each { All (IsReach (S.journals source.now) query.now) reaches.now }
     requires all { AreAllReaches (S.journals source.now) query.now reaches.now }
+    requires sorted { AreInOrder reaches.now }
     ensures found { IfOk result (ReachTo (S.journals source.now) query.now query.now.to) }
     ensures none { IsErrOf result FindError.NoneFound → HasGap (S.journals source.now) query.now }
 {
     let mut pieces = Vec::new(alloc);
     let mut from = query.from;
+    let mut passed = Passed::NONE;
     while from < query.to {
-        let Some(reach) = farthest(reaches, from) else {
+        passed = pass(reaches, &passed, from);
+        let Some(reach) = farthest(reaches, &passed, from) else {
             return Err(FindError::NoneFound);
         };
         pieces.push(piece_of(alloc, source, &reach, from, query.skew)?)?;

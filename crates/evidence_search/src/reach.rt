@@ -2,13 +2,13 @@
 
 ghost use Rattle.std.specs.Prelude.{◌≡◌, ◌↔◌, ℕ, ◌+◌, ◌^◌, ◌<◌, ◌≤◌, ◌⊎◌, All, IsTrue, MatchOption, IfOk};
 ghost use Rattle.evidence_search.specs.Search.{IsPastPartners, IsHolders, NoCandidateAt, IsCandidate, CarriesTo};
-ghost use Rattle.evidence_search.specs.Search.{begin_of, lease_limit, CarriesAt, IsReach, AreAllReaches, IsFarthest};
-ghost use Rattle.evidence_search.specs.Search.{NoneReaches};
+ghost use Rattle.evidence_search.specs.Search.{begin_of, lease_limit, CarriesAt, IsReach, AreAllReaches, AreInOrder};
 
 use crate::asking::{lease_at, reading_at};
 use crate::ordering::are_apart;
 use crate::query::Query;
 use crate::releases::kept_limit;
+use crate::sweep::sort;
 use auditor::LineSource;
 use causal_order::Ref;
 use journal_lines::Lease;
@@ -140,8 +140,8 @@ fn reach_at<S: LineSource>(source: &S, query: &Query, at: Ref) -> Option<Reach>
     })
 }
 
-/// The grants that carry moments of the query.
-pub fn reaches<S: LineSource>(
+/// The grants that carry moments of the query, in the order in which the source gives their lines.
+fn found_reaches<S: LineSource>(
     alloc: Global,
     source: &S,
     query: &Query,
@@ -160,24 +160,17 @@ pub fn reaches<S: LineSource>(
     Ok(reaches)
 }
 
-/// Whether the grant carries the moment, and reaches past this one.
-fn carries(reach: &Reach, moment: Reading, past: Reading) -> bool
-    ensures { IsTrue result ↔ ((reach.now.begin ≤ moment) × (past < reach.now.end)) }
+/// The grants that carry moments of the query, the first that does first.
+pub fn reaches<S: LineSource>(
+    alloc: Global,
+    source: &S,
+    query: &Query,
+) -> Result<Vec<Reach>, AllocError>
+    ensures each { IfOk result (λ xs. All (IsReach (S.journals source.now) query.now) xs.items) }
+    ensures all { IfOk result (λ xs. AreAllReaches (S.journals source.now) query.now xs.items) }
+    ensures sorted { IfOk result (λ xs. AreInOrder xs.items) }
 {
-    reach.begin <= moment && past < reach.end
-}
-
-/// The grant that carries the moment and reaches farthest from it.
-pub fn farthest(reaches: &[Reach], moment: Reading) -> Option<Reach>
-    ensures { MatchOption result (NoneReaches reaches.now moment) (IsFarthest reaches.now moment) }
-{
-    let mut best = None;
-    let mut past = moment;
-    for reach in reaches {
-        if carries(reach, moment, past) {
-            past = reach.end;
-            best = Some(*reach);
-        }
-    }
-    best
+    let mut reaches = found_reaches(alloc, source, query)?;
+    sort(&mut reaches)?;
+    Ok(reaches)
 }
