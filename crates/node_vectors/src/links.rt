@@ -200,7 +200,12 @@ fn check(rt: &(impl Abort + Wait), alloc: Global, case: &Case<'_>) -> Result<(),
 #[test]
 fn the_secondary_answers_connect_and_takes_a_contact(rt: HostRuntime) -> Result<(), Fail> {
     let heard: &[&[u8]] = &[CONNECT, CONTACT];
-    let case = Case::new(Role::Secondary, heard, &[CONNECT_REPLY, POOL_REQUEST], B_CONTACT);
+    let case = Case::new(
+        Role::Secondary,
+        heard,
+        &[CONNECT_REPLY, POOL_REQUEST],
+        B_CONTACT,
+    );
     check(&rt, rt.alloc(), &case)?;
     check(&rt, rt.alloc(), &Case { step: 1, ..case })
 }
@@ -208,7 +213,12 @@ fn the_secondary_answers_connect_and_takes_a_contact(rt: HostRuntime) -> Result<
 #[test]
 fn a_frame_is_taken_once(rt: HostRuntime) -> Result<(), Fail> {
     let heard: &[&[u8]] = &[CONNECT, CONTACT, CONTACT];
-    let case = Case::new(Role::Secondary, heard, &[CONNECT_REPLY, POOL_REQUEST], B_CONTACT);
+    let case = Case::new(
+        Role::Secondary,
+        heard,
+        &[CONNECT_REPLY, POOL_REQUEST],
+        B_CONTACT,
+    );
     check(&rt, rt.alloc(), &case)
 }
 
@@ -373,7 +383,15 @@ fn a_failing_write_ends_an_end(rt: HostRuntime) -> Result<(), Fail> {
     let alloc = rt.alloc();
     let asked: &[&[u8]] = &[CONNECT_REPLY, POOL_REQUEST];
     check_cut_off(&rt, alloc, 100, 0, &[], NodeError::Write, B_OPENED)?;
-    check_cut_off(&rt, alloc, 100, 1, &[CONNECT_REPLY], NodeError::Write, B_OPENED)?;
+    check_cut_off(
+        &rt,
+        alloc,
+        100,
+        1,
+        &[CONNECT_REPLY],
+        NodeError::Write,
+        B_OPENED,
+    )?;
     check_cut_off(&rt, alloc, 100, 2, asked, NodeError::Write, B_ANSWERED)
 }
 
