@@ -23,6 +23,7 @@ mod link_sending;
 mod link_taking;
 mod memory;
 mod messages;
+mod ordering;
 mod partner;
 mod pool_sharing;
 mod serving_all;

@@ -1,5 +1,7 @@
 //! What one end of the link does.
 
+ghost use Rattle.node_threads.specs.Receipts.{Goes};
+
 use crate::clock::Clock;
 use crate::error::NodeError;
 use crate::link_end::LinkEnd;
@@ -25,7 +27,35 @@ fn fed(feed: &mut Feed, octets: &[u8]) -> Result<Vec<Frame>, NodeError> {
     }
 }
 
+/// One read, and what came by it.
+fn listen<N: BookName, R: Wait, C: Clock, W: Wire>(
+    end: &LinkEnd<'_, N, R, C>,
+    pass: &mut Pass<N>,
+    talk: &mut Talk,
+    feed: &mut Feed,
+    buffer: &mut [u8],
+    wire: &mut W,
+) -> Result<(), NodeError>
+    ensures { Goes pass.old.receipts pass.new.receipts }
+{
+    let Ok(got) = wire.read(buffer) else {
+        return Err(NodeError::Read);
+    };
+    match got {
+        Got::Octets(count) => {
+            let frames = fed(feed, &buffer[..count])?;
+            end.heed_all(pass, talk, &frames, wire)
+        }
+        Got::Idle => end.ask_if_needed(pass, talk, wire),
+        Got::End => {
+            talk.phase = Phase::Ended;
+            Ok(())
+        }
+    }
+}
+
 /// One read, what came by it, and then what is to be sent.
+#[tactic(auto, using(crate::proofs::Going::goes_on))]
 fn turn<N: BookName, R: Wait, C: Clock, W: Wire>(
     end: &LinkEnd<'_, N, R, C>,
     pass: &mut Pass<N>,
@@ -33,26 +63,14 @@ fn turn<N: BookName, R: Wait, C: Clock, W: Wire>(
     feed: &mut Feed,
     buffer: &mut [u8],
     wire: &mut W,
-) -> Result<(), NodeError> {
-    let Ok(got) = wire.read(buffer) else {
-        return Err(NodeError::Read);
-    };
-    match got {
-        Got::Octets(count) => {
-            let frames = fed(feed, &buffer[..count])?;
-            end.heed_all(pass, talk, &frames, wire)?;
-        }
-        Got::Idle => {
-            if talk.phase == Phase::Joined {
-                end.ask_if_needed(pass, talk, wire)?;
-            }
-        }
-        Got::End => talk.phase = Phase::Ended,
+) -> Result<(), NodeError>
+    ensures { Goes pass.old.receipts pass.new.receipts }
+{
+    listen(end, pass, talk, feed, buffer, wire)?;
+    if talk.phase != Phase::Joined {
+        return Ok(());
     }
-    if talk.phase == Phase::Joined {
-        end.send_all(pass, talk, wire)?;
-    }
-    Ok(())
+    end.send_all(pass, talk, wire)
 }
 
 /// Joins the other end of the link and tells it of this one's book, until the wire's end, a DISCONNECT, or a turn after
@@ -72,7 +90,9 @@ pub fn serve_link<N: BookName, R: Wait, C: Clock, W: Wire>(
     clock: &C,
     turns: &Turns,
     wire: &mut W,
-) -> Result<(), NodeError> {
+) -> Result<(), NodeError>
+    ensures { Goes pass.old.receipts pass.new.receipts }
+{
     let end = LinkEnd {
         rt,
         alloc,
