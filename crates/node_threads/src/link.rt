@@ -75,12 +75,13 @@ fn turn<N: BookName, R: Wait, C: Clock, W: Wire>(
 
 /// Joins the other end of the link and tells it of this one's book, until the wire's end, a DISCONNECT, or a turn after
 /// `Turns::end`, at which it says DISCONNECT itself. What it sent and took it knows by the receipts of its pass, which
-/// is the same for each connection.
+/// is the same for each connection. However it ends, receipts were added to the pass and none changed, and each message
+/// that was taken has a higher serial than those before.
 ///
 /// It ends sooner where the clock fails (`Net`), a read fails or brings what is no frame or not the frame that comes
-/// there (`Read`), a write fails (`Write`), a growth is refused (`Memory`), or the pass is a stranger to the book or the
-/// book has no room for a message that came (`Serve`): were that passed over, a later one would be taken in its place,
-/// and this one lost. Any other refusal of the book is passed over.
+/// there (`Read`), a write fails (`Write`), a growth is refused (`Memory`), or the pass is a stranger to the book or
+/// the book has no room for a message that came (`Serve`): were that passed over, a later one would be taken in its
+/// place, and this one lost. Any other refusal of the book is passed over.
 pub fn serve_link<N: BookName, R: Wait, C: Clock, W: Wire>(
     rt: &R,
     alloc: Global,

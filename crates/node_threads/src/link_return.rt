@@ -78,7 +78,8 @@ impl<'a, N: BookName, R: Wait, C: Clock> LinkEnd<'a, N, R, C> {
         Ok(())
     }
 
-    /// Sends what waits until no unit is marked: that all updates were sent, and the contact that answers the partner's.
+    /// Sends what waits until no unit is marked: that all updates were sent, and the contact that answers the
+    /// partner's.
     pub(crate) fn conclude<W: Wire>(
         &self,
         pass: &mut Pass<N>,

@@ -192,8 +192,8 @@ impl<'a, N: BookName, R: Wait, C: Clock> LinkEnd<'a, N, R, C> {
         Ok(())
     }
 
-    /// Ends the lowest lease that has ended, and sends what is to be sent. A turn in which there is nothing new costs one
-    /// look at the book.
+    /// Ends the lowest lease that has ended, and sends what is to be sent. A turn in which there is nothing new costs
+    /// one look at the book.
     #[tactic(auto, using(crate::proofs::Going::goes_on))]
     pub(crate) fn send_all<W: Wire>(
         &self,

@@ -44,10 +44,10 @@ fn answer_one<N: BookName, R: Wait, D: Datagrams, C: Clock>(
 }
 
 /// Receives datagrams while there are turns, answers each that is a client's message to the server `own`, and gives
-/// how many it received, at most 1,000,000. A turn is one datagram, answered or not. It ends sooner where a call of the
-/// datagrams or the clock fails (`Net`), where the buffer finds no memory (`Memory`), or where the pass is a stranger
-/// to the book (`Serve`); any other refusal leaves a message without an answer. Of a partner that is down a unit is taken
-/// over where no prefix is left.
+/// how many it received, at most 1,000,000. A turn is one datagram, answered or not. It ends sooner where a call of
+/// the datagrams or the clock fails (`Net`), where the buffer finds no memory (`Memory`), or where the pass is a
+/// stranger to the book (`Serve`); any other refusal leaves a message without an answer. Of a partner that is down a
+/// unit is taken over where no prefix is left.
 pub fn serve_datagrams<N: BookName, R: Wait, D: Datagrams, C: Clock>(
     rt: &R,
     alloc: Global,
