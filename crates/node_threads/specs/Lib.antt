@@ -1,1 +1,2 @@
-mod Messages
+pub mod Messages
+pub mod Receipts

@@ -2,8 +2,10 @@
 
 ghost use Rattle.std.specs.Prelude.{◌≡◌, ◌≤◌, length, IfOk, IfSome, IfErr};
 ghost use Rattle.server_book.specs.Answer.{IsRequest};
+ghost use Rattle.node_threads.specs.Receipts.{Goes, IsOther};
 
 use crate::error::NodeError;
+use crate::ordering::give;
 use crate::partner::Partner;
 use client_id::Duid;
 use dhcp6_pd::{ClientKind, ClientMessage, encode};
@@ -44,6 +46,7 @@ fn offered<N: BookName, R: Wait>(
     order: &Order,
 ) -> Result<Option<IaAnswer>, NodeError>
     requires { IsRequest order.now }
+    ensures { pass.new ≡ pass.old }
 {
     match shared.offer(rt, pass, now, order) {
         Ok((prefix, valid)) => Ok(Some(IaAnswer::Given { prefix, valid })),
@@ -58,8 +61,11 @@ fn served<N: BookName, R: Wait>(
     pass: &mut Pass<N>,
     now: Reading,
     order: &Order,
-) -> Result<Option<IaAnswer>, NodeError> {
-    match shared.serve(rt, pass, now, order) {
+) -> Result<Option<IaAnswer>, NodeError>
+    requires { IsOther order.now }
+    ensures { Goes pass.old.receipts pass.new.receipts }
+{
+    match give(rt, shared, pass, now, order) {
         Ok(receipt) => Ok(told_by(&receipt.reply)),
         Err(refusal) => told_of(refusal),
     }
@@ -73,7 +79,9 @@ fn ordered<N: BookName, R: Wait>(
     now: Reading,
     message: &ClientMessage,
     place: usize,
-) -> Result<Option<IaAnswer>, NodeError> {
+) -> Result<Option<IaAnswer>, NodeError>
+    ensures { Goes pass.old.receipts pass.new.receipts }
+{
     let Some(order) = order_of(message, place) else {
         return Ok(None);
     };
@@ -89,7 +97,9 @@ fn seizes<N: BookName, R: Wait>(
     shared: &SharedBook<N>,
     pass: &mut Pass<N>,
     now: Reading,
-) -> Result<bool, NodeError> {
+) -> Result<bool, NodeError>
+    ensures { Goes pass.old.receipts pass.new.receipts }
+{
     let found = match shared.work(rt, pass, now) {
         Ok(work) => work.seizable,
         Err(refusal) => return Err(NodeError::Serve(refusal)),
@@ -97,7 +107,7 @@ fn seizes<N: BookName, R: Wait>(
     let Some(prefix) = found else {
         return Ok(false);
     };
-    match shared.serve(rt, pass, now, &Order::Seize(prefix)) {
+    match give(rt, shared, pass, now, &Order::Seize(prefix)) {
         Ok(_) => Ok(true),
         Err(refusal) => match refusal {
             ServeError::Stranger { .. } => Err(NodeError::Serve(refusal)),
@@ -116,7 +126,9 @@ fn ended<N: BookName, R: Wait>(
     now: Reading,
     message: &ClientMessage,
     place: usize,
-) -> Result<Option<IaAnswer>, NodeError> {
+) -> Result<Option<IaAnswer>, NodeError>
+    ensures { Goes pass.old.receipts pass.new.receipts }
+{
     match (ordered(rt, shared, pass, now, message, place)?, partner) {
         (Some(IaAnswer::NoPrefix), Partner::Down) => {
             if seizes(rt, shared, pass, now)? {
@@ -139,7 +151,8 @@ fn all_ended<N: BookName, R: Wait>(
     now: Reading,
     message: &ClientMessage,
 ) -> Result<Option<Vec<IaAnswer>>, NodeError>
-    ensures { IfOk result (λ found. IfSome found (λ answers. length answers.items ≡ length message.now.ias)) }
+    ensures each { IfOk result (λ found. IfSome found (λ answers. length answers.items ≡ length message.now.ias)) }
+    ensures goes { Goes pass.old.receipts pass.new.receipts }
 {
     let mut answers = Vec::new(alloc);
     for place in 0..message.ias.as_slice().len() {
@@ -186,7 +199,9 @@ pub(crate) fn answer_to<N: BookName, R: Wait>(
     partner: Partner,
     now: Reading,
     message: &ClientMessage,
-) -> Result<Option<Vec<u8>>, NodeError> {
+) -> Result<Option<Vec<u8>>, NodeError>
+    ensures { Goes pass.old.receipts pass.new.receipts }
+{
     match all_ended(rt, alloc, shared, pass, partner, now, message)? {
         Some(answers) => Ok(written(alloc, own, message, &answers)),
         None => Ok(None),

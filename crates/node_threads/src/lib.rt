@@ -5,11 +5,14 @@
 //! client asks, and sends the answer. It goes over any [`Datagrams`] and any [`Clock`], so a test may hold them;
 //! [`UdpDatagrams`] and [`SystemClock`] are the system's. No lock is held but for one order.
 //!
-//! [`serve_link`] is one end of the link: over a [`Wire`], which [`TcpWire`] is by the system's streams, it joins the
-//! other end, takes its messages, ends leases that have ended, and sends replies and updates of the book.
+//! [`serve_all`] has several workers serve one book, and gives it back with their lines.
 //!
-//! What is ordered and answered is fixed by the contracts of `dhcp6_pd`, `server_book` and `locked_book`; what an
-//! engine adds is said where it stands. That datagrams arrive and go out is tested alone.
+//! [`serve_link`] is one end of the link: over a [`Wire`], which [`TcpWire`] is by the system's streams, it joins the
+//! other end, takes its messages, ends leases that have ended, shares units, and sends replies and updates of the book.
+//!
+//! What an engine does to its pass is in specs/Receipts: it adds receipts, and takes no message twice. What is
+//! ordered and answered is fixed by the contracts of `dhcp6_pd`, `server_book` and `locked_book`; what an engine adds
+//! is said where it stands. That datagrams arrive and go out is tested alone.
 #![tactic(auto)]
 
 mod answering;
@@ -23,6 +26,7 @@ mod link_sending;
 mod link_taking;
 mod memory;
 mod messages;
+mod ordering;
 mod partner;
 mod pool_sharing;
 mod serving_all;

@@ -1,5 +1,7 @@
 //! What one end of the link does.
 
+ghost use Rattle.node_threads.specs.Receipts.{Goes};
+
 use crate::clock::Clock;
 use crate::error::NodeError;
 use crate::link_end::LinkEnd;
@@ -28,7 +30,35 @@ fn fed(feed: &mut Feed, octets: &[u8]) -> Result<Vec<Frame>, NodeError> {
     }
 }
 
+/// One read, and what came by it.
+fn listen<N: BookName, R: Wait, C: Clock, W: Wire>(
+    end: &LinkEnd<'_, N, R, C>,
+    pass: &mut Pass<N>,
+    talk: &mut Talk,
+    feed: &mut Feed,
+    buffer: &mut [u8],
+    wire: &mut W,
+) -> Result<(), NodeError>
+    ensures { Goes pass.old.receipts pass.new.receipts }
+{
+    let Ok(got) = wire.read(buffer) else {
+        return Err(NodeError::Read);
+    };
+    match got {
+        Got::Octets(count) => {
+            let frames = fed(feed, &buffer[..count])?;
+            end.heed_all(pass, talk, &frames, wire)
+        }
+        Got::Idle => end.ask_if_needed(pass, talk, wire),
+        Got::End => {
+            talk.phase = Phase::Ended;
+            Ok(())
+        }
+    }
+}
+
 /// One read, what came by it, and then what is to be sent.
+#[tactic(auto, using(crate::proofs::Going::goes_on))]
 fn turn<N: BookName, R: Wait, C: Clock, W: Wire>(
     end: &LinkEnd<'_, N, R, C>,
     pass: &mut Pass<N>,
@@ -36,26 +66,14 @@ fn turn<N: BookName, R: Wait, C: Clock, W: Wire>(
     feed: &mut Feed,
     buffer: &mut [u8],
     wire: &mut W,
-) -> Result<(), NodeError> {
-    let Ok(got) = wire.read(buffer) else {
-        return Err(NodeError::Read);
-    };
-    match got {
-        Got::Octets(count) => {
-            let frames = fed(feed, &buffer[..count])?;
-            end.heed_all(pass, talk, &frames, wire)?;
-        }
-        Got::Idle => {
-            if talk.phase == Phase::Joined {
-                end.ask_if_needed(pass, talk, wire)?;
-            }
-        }
-        Got::End => talk.phase = Phase::Ended,
+) -> Result<(), NodeError>
+    ensures { Goes pass.old.receipts pass.new.receipts }
+{
+    listen(end, pass, talk, feed, buffer, wire)?;
+    if talk.phase != Phase::Joined {
+        return Ok(());
     }
-    if talk.phase == Phase::Joined {
-        end.send_all(pass, talk, wire)?;
-    }
-    Ok(())
+    end.send_all(pass, talk, wire)
 }
 
 /// Says DISCONNECT, and reads on until the other end has closed or is quiet. What still comes isn't taken: but a
@@ -73,12 +91,13 @@ fn disconnect<W: Wire>(alloc: Global, buffer: &mut [u8], wire: &mut W) -> Result
 
 /// Joins the other end of the link and tells it of this one's book, until the wire's end, a DISCONNECT, or a turn after
 /// `Turns::end`, at which it says DISCONNECT itself. What it sent and took it knows by the receipts of its pass, which
-/// is the same for each connection.
+/// is the same for each connection. However it ends, receipts were added to the pass and none changed, and each message
+/// that was taken has a higher serial than those before.
 ///
 /// It ends sooner where the clock fails (`Net`), a read fails or brings what is no frame or not the frame that comes
-/// there (`Read`), a write fails (`Write`), a growth is refused (`Memory`), or the pass is a stranger to the book or the
-/// book has no room for a message that came (`Serve`): were that passed over, a later one would be taken in its place,
-/// and this one lost. Any other refusal of the book is passed over.
+/// there (`Read`), a write fails (`Write`), a growth is refused (`Memory`), or the pass is a stranger to the book or
+/// the book has no room for a message that came (`Serve`): were that passed over, a later one would be taken in its
+/// place, and this one lost. Any other refusal of the book is passed over.
 pub fn serve_link<N: BookName, R: Wait, C: Clock, W: Wire>(
     rt: &R,
     alloc: Global,
@@ -88,7 +107,9 @@ pub fn serve_link<N: BookName, R: Wait, C: Clock, W: Wire>(
     clock: &C,
     turns: &Turns,
     wire: &mut W,
-) -> Result<(), NodeError> {
+) -> Result<(), NodeError>
+    ensures { Goes pass.old.receipts pass.new.receipts }
+{
     let end = LinkEnd {
         rt,
         alloc,

@@ -1,8 +1,12 @@
 //! One end of the link, and what it orders.
 
+ghost use Rattle.std.specs.Prelude.{◌≡◌, ◌<◌};
+ghost use Rattle.node_threads.specs.Receipts.{Goes, IsOther, last_taken};
+
 use crate::clock::Clock;
 use crate::error::NodeError;
 use crate::messages::write_message;
+use crate::ordering::{give, give_message};
 use crate::wire::Wire;
 use binding_rules::{Outcome, PartnerMessage, Role};
 use journal_lines::Event;
@@ -56,8 +60,11 @@ impl<'a, N: BookName, R: Wait, C: Clock> LinkEnd<'a, N, R, C> {
         pass: &mut Pass<N>,
         now: Reading,
         order: &Order,
-    ) -> Result<Fate, NodeError> {
-        match self.shared.serve(self.rt, pass, now, order) {
+    ) -> Result<Fate, NodeError>
+        requires { IsOther order.now }
+        ensures { Goes pass.old.receipts pass.new.receipts }
+    {
+        match give(self.rt, self.shared, pass, now, order) {
             Ok(_) => Ok(Fate::Done),
             Err(refusal) => fate_of(refusal),
         }
@@ -70,8 +77,11 @@ impl<'a, N: BookName, R: Wait, C: Clock> LinkEnd<'a, N, R, C> {
         now: Reading,
         order: &Order,
         wire: &mut W,
-    ) -> Result<Fate, NodeError> {
-        match self.shared.serve(self.rt, pass, now, order) {
+    ) -> Result<Fate, NodeError>
+        requires { IsOther order.now }
+        ensures { Goes pass.old.receipts pass.new.receipts }
+    {
+        match give(self.rt, self.shared, pass, now, order) {
             Ok(receipt) => {
                 if let Event::Send(message) = &receipt.line.event {
                     write_message(self.alloc, wire, message)?;
@@ -89,11 +99,11 @@ impl<'a, N: BookName, R: Wait, C: Clock> LinkEnd<'a, N, R, C> {
         pass: &mut Pass<N>,
         now: Reading,
         message: &PartnerMessage,
-    ) -> Result<bool, NodeError> {
-        match self
-            .shared
-            .serve(self.rt, pass, now, &Order::Take(*message))
-        {
+    ) -> Result<bool, NodeError>
+        requires { last_taken pass.old.receipts < message.now.serial }
+        ensures { Goes pass.old.receipts pass.new.receipts }
+    {
+        match give_message(self.rt, self.shared, pass, now, message) {
             Ok(receipt) => Ok(matches!(receipt.reply, Reply::Taken(Outcome::Accept))),
             Err(refusal) => Err(NodeError::Serve(refusal)),
         }
@@ -105,7 +115,9 @@ impl<'a, N: BookName, R: Wait, C: Clock> LinkEnd<'a, N, R, C> {
         pass: &mut Pass<N>,
         now: Reading,
         from: u128,
-    ) -> Result<Work, NodeError> {
+    ) -> Result<Work, NodeError>
+        ensures { pass.new ≡ pass.old }
+    {
         match self.shared.work_from(self.rt, pass, now, from) {
             Ok(work) => Ok(work),
             Err(refusal) => Err(NodeError::Serve(refusal)),
@@ -113,7 +125,9 @@ impl<'a, N: BookName, R: Wait, C: Clock> LinkEnd<'a, N, R, C> {
     }
 
     /// What the book has of a unit.
-    pub(crate) fn look(&self, pass: &mut Pass<N>, prefix: &Prefix) -> Result<Look, NodeError> {
+    pub(crate) fn look(&self, pass: &mut Pass<N>, prefix: &Prefix) -> Result<Look, NodeError>
+        ensures { pass.new ≡ pass.old }
+    {
         match self.shared.look(self.rt, pass, *prefix) {
             Ok(look) => Ok(look),
             Err(refusal) => Err(NodeError::Serve(refusal)),

@@ -1,5 +1,7 @@
 //! How the two ends come together again: after a restart, and after a time in which one took the other for down.
 
+ghost use Rattle.node_threads.specs.Receipts.{Goes};
+
 use crate::clock::Clock;
 use crate::error::NodeError;
 use crate::link_end::LinkEnd;
@@ -20,7 +22,9 @@ impl<'a, N: BookName, R: Wait, C: Clock> LinkEnd<'a, N, R, C> {
         pass: &mut Pass<N>,
         talk: &mut Talk,
         wire: &mut W,
-    ) -> Result<(), NodeError> {
+    ) -> Result<(), NodeError>
+        ensures { Goes pass.old.receipts pass.new.receipts }
+    {
         let now = self.clock.now()?;
         if self.work(pass, now, 0)?.waiting {
             write_word(self.alloc, wire, FrameKind::UpdateRequestAll)?;
@@ -37,38 +41,54 @@ impl<'a, N: BookName, R: Wait, C: Clock> LinkEnd<'a, N, R, C> {
         pass: &mut Pass<N>,
         now: Reading,
         wire: &mut W,
-    ) -> Result<(), NodeError> {
+    ) -> Result<(), NodeError>
+        ensures { Goes pass.old.receipts pass.new.receipts }
+    {
         if self.work(pass, now, 0)?.waiting {
             self.send(pass, now, &Order::SendContact, wire)?;
         }
         Ok(())
     }
 
+    /// Takes the partner for up again, if it was taken for down.
+    fn end_down(&self, pass: &mut Pass<N>, now: Reading) -> Result<(), NodeError>
+        ensures { Goes pass.old.receipts pass.new.receipts }
+    {
+        if self.work(pass, now, 0)?.down.is_some() {
+            self.order(pass, now, &Order::State(ServerState::Normal))?;
+        }
+        Ok(())
+    }
+
     /// What a partner's UPDREQALL begins: it is up again, and is told this server's term by a contact. All updates
     /// follow it.
+    #[tactic(auto, using(crate::proofs::Going::goes_on))]
     pub(crate) fn welcome<W: Wire>(
         &self,
         pass: &mut Pass<N>,
         talk: &mut Talk,
         wire: &mut W,
-    ) -> Result<(), NodeError> {
+    ) -> Result<(), NodeError>
+        ensures { Goes pass.old.receipts pass.new.receipts }
+    {
         let now = self.clock.now()?;
-        if self.work(pass, now, 0)?.down.is_some() {
-            self.order(pass, now, &Order::State(ServerState::Normal))?;
-        }
+        self.end_down(pass, now)?;
         self.send(pass, now, &Order::SendContact, wire)?;
         talk.again = Again::All;
         Ok(())
     }
 
-    /// Sends what waits until no unit is marked: that all updates were sent, and the contact that answers the partner's.
+    /// Sends what waits until no unit is marked: that all updates were sent, and the contact that answers the
+    /// partner's.
     pub(crate) fn conclude<W: Wire>(
         &self,
         pass: &mut Pass<N>,
         talk: &mut Talk,
         now: Reading,
         wire: &mut W,
-    ) -> Result<(), NodeError> {
+    ) -> Result<(), NodeError>
+        ensures { Goes pass.old.receipts pass.new.receipts }
+    {
         if !talk.owes_done && !talk.owes_contact {
             return Ok(());
         }

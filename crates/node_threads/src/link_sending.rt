@@ -1,5 +1,8 @@
 //! What an end of the link sends at each turn.
 
+ghost use Rattle.std.specs.Prelude.{◌≡◌};
+ghost use Rattle.node_threads.specs.Receipts.{Goes};
+
 use crate::clock::Clock;
 use crate::error::NodeError;
 use crate::link_end::{Fate, LinkEnd};
@@ -56,7 +59,9 @@ impl<'a, N: BookName, R: Wait, C: Clock> LinkEnd<'a, N, R, C> {
         talk: &mut Talk,
         matter: Matter,
         prefix: &Prefix,
-    ) -> Result<bool, NodeError> {
+    ) -> Result<bool, NodeError>
+        ensures { pass.new ≡ pass.old }
+    {
         let look = self.look(pass, prefix)?;
         let Some(unit) = &look.unit else {
             return Ok(false);
@@ -80,7 +85,9 @@ impl<'a, N: BookName, R: Wait, C: Clock> LinkEnd<'a, N, R, C> {
         matter: Matter,
         prefix: &Prefix,
         wire: &mut W,
-    ) -> Result<Fate, NodeError> {
+    ) -> Result<Fate, NodeError>
+        ensures { Goes pass.old.receipts pass.new.receipts }
+    {
         if matter == Matter::Reply {
             return self.send(pass, now, &Order::SendReply(*prefix), wire);
         }
@@ -91,6 +98,7 @@ impl<'a, N: BookName, R: Wait, C: Clock> LinkEnd<'a, N, R, C> {
     }
 
     /// Sends what there is to tell of each unit, the lowest first, from one on. False where there was no room for it.
+    #[tactic(auto, using(crate::proofs::Going::goes_on))]
     fn tell_each<W: Wire>(
         &self,
         pass: &mut Pass<N>,
@@ -99,7 +107,9 @@ impl<'a, N: BookName, R: Wait, C: Clock> LinkEnd<'a, N, R, C> {
         matter: Matter,
         first: Option<Prefix>,
         wire: &mut W,
-    ) -> Result<bool, NodeError> {
+    ) -> Result<bool, NodeError>
+        ensures { Goes pass.old.receipts pass.new.receipts }
+    {
         let mut next = first;
         for _unit in 0..MOST_UNITS {
             let Some(prefix) = next else {
@@ -117,6 +127,7 @@ impl<'a, N: BookName, R: Wait, C: Clock> LinkEnd<'a, N, R, C> {
     }
 
     /// Sends each pending reply, then each marked unit's update, then each due one. False where there was no room.
+    #[tactic(auto, using(crate::proofs::Going::goes_on))]
     fn tell_all<W: Wire>(
         &self,
         pass: &mut Pass<N>,
@@ -124,16 +135,22 @@ impl<'a, N: BookName, R: Wait, C: Clock> LinkEnd<'a, N, R, C> {
         now: Reading,
         work: &Work,
         wire: &mut W,
-    ) -> Result<bool, NodeError> {
-        Ok(
-            self.tell_each(pass, talk, now, Matter::Reply, work.reply, wire)?
-                && self.tell_each(pass, talk, now, Matter::Mark, work.mark, wire)?
-                && self.tell_each(pass, talk, now, Matter::Change, work.change, wire)?,
-        )
+    ) -> Result<bool, NodeError>
+        ensures { Goes pass.old.receipts pass.new.receipts }
+    {
+        if !self.tell_each(pass, talk, now, Matter::Reply, work.reply, wire)? {
+            return Ok(false);
+        }
+        if !self.tell_each(pass, talk, now, Matter::Mark, work.mark, wire)? {
+            return Ok(false);
+        }
+        self.tell_each(pass, talk, now, Matter::Change, work.change, wire)
     }
 
     /// What there is to do, once the lowest lease that has ended is ended.
-    fn work_left(&self, pass: &mut Pass<N>, now: Reading) -> Result<Work, NodeError> {
+    fn work_left(&self, pass: &mut Pass<N>, now: Reading) -> Result<Work, NodeError>
+        ensures { Goes pass.old.receipts pass.new.receipts }
+    {
         let work = self.work(pass, now, 0)?;
         let Some(prefix) = &work.expired else {
             return Ok(work);
@@ -153,21 +170,42 @@ impl<'a, N: BookName, R: Wait, C: Clock> LinkEnd<'a, N, R, C> {
         Ok(())
     }
 
-    /// Ends the lowest lease that has ended, and sends what is to be sent. While no line is added to the book, that is
-    /// looked for once.
+    /// Sends what is to be sent, unless no line was added to the book since that was done.
+    fn tell_news<W: Wire>(
+        &self,
+        pass: &mut Pass<N>,
+        talk: &mut Talk,
+        now: Reading,
+        work: &Work,
+        wire: &mut W,
+    ) -> Result<(), NodeError>
+        ensures { Goes pass.old.receipts pass.new.receipts }
+    {
+        let lines = lines_at(work, pass.receipts().len());
+        if talk.is_settled(&lines) {
+            return Ok(());
+        }
+        if self.tell_all(pass, talk, now, work, wire)? {
+            self.finish_again(talk, wire)?;
+            talk.settled = Some(lines.with_own(pass.receipts().len()));
+        }
+        Ok(())
+    }
+
+    /// Ends the lowest lease that has ended, and sends what is to be sent. A turn in which there is nothing new costs
+    /// one look at the book.
+    #[tactic(auto, using(crate::proofs::Going::goes_on))]
     pub(crate) fn send_all<W: Wire>(
         &self,
         pass: &mut Pass<N>,
         talk: &mut Talk,
         wire: &mut W,
-    ) -> Result<(), NodeError> {
+    ) -> Result<(), NodeError>
+        ensures { Goes pass.old.receipts pass.new.receipts }
+    {
         let now = self.clock.now()?;
         let work = self.work_left(pass, now)?;
-        let lines = lines_at(&work, pass.receipts().len());
-        if !talk.is_settled(&lines) && self.tell_all(pass, talk, now, &work, wire)? {
-            self.finish_again(talk, wire)?;
-            talk.settled = Some(lines.with_own(pass.receipts().len()));
-        }
+        self.tell_news(pass, talk, now, &work, wire)?;
         self.conclude(pass, talk, now, wire)
     }
 

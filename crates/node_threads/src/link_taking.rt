@@ -1,8 +1,11 @@
 //! What an end of the link makes of the frames that come.
 
+ghost use Rattle.node_threads.specs.Receipts.{Goes};
+
 use crate::clock::Clock;
 use crate::error::NodeError;
 use crate::link_end::LinkEnd;
+use crate::memory::last_taken;
 use crate::messages::{message_in, write_word};
 use crate::talk::{Again, Phase, Talk};
 use crate::wire::Wire;
@@ -25,7 +28,7 @@ impl<'a, N: BookName, R: Wait, C: Clock> LinkEnd<'a, N, R, C> {
         match self.role() {
             Role::Primary => {
                 let role = Role::Primary;
-                let last = talk.told.taken;
+                let last = last_taken(pass.receipts());
                 write_word(self.alloc, wire, FrameKind::Connect { role, last })
             }
             Role::Secondary => Ok(()),
@@ -40,7 +43,9 @@ impl<'a, N: BookName, R: Wait, C: Clock> LinkEnd<'a, N, R, C> {
         talk: &mut Talk,
         last: Counter,
         wire: &mut W,
-    ) -> Result<(), NodeError> {
+    ) -> Result<(), NodeError>
+        ensures { Goes pass.old.receipts pass.new.receipts }
+    {
         if last > talk.told.sent || last < talk.told.answered {
             return Err(NodeError::Read);
         }
@@ -56,7 +61,9 @@ impl<'a, N: BookName, R: Wait, C: Clock> LinkEnd<'a, N, R, C> {
         talk: &mut Talk,
         kind: &FrameKind,
         wire: &mut W,
-    ) -> Result<(), NodeError> {
+    ) -> Result<(), NodeError>
+        ensures { Goes pass.old.receipts pass.new.receipts }
+    {
         match (self.role(), kind) {
             (
                 Role::Secondary,
@@ -66,7 +73,7 @@ impl<'a, N: BookName, R: Wait, C: Clock> LinkEnd<'a, N, R, C> {
                 },
             ) => {
                 let role = Role::Secondary;
-                let taken = talk.told.taken;
+                let taken = last_taken(pass.receipts());
                 write_word(
                     self.alloc,
                     wire,
@@ -90,15 +97,17 @@ impl<'a, N: BookName, R: Wait, C: Clock> LinkEnd<'a, N, R, C> {
     }
 
     /// Takes a message, unless it was taken before.
+    #[tactic(auto, using(crate::proofs::Going::goes_on))]
     fn take<W: Wire>(
         &self,
         pass: &mut Pass<N>,
         talk: &mut Talk,
         message: &PartnerMessage,
         wire: &mut W,
-    ) -> Result<(), NodeError> {
-        talk.told.catch_up(pass.receipts())?;
-        if message.serial <= talk.told.taken {
+    ) -> Result<(), NodeError>
+        ensures { Goes pass.old.receipts pass.new.receipts }
+    {
+        if message.serial <= last_taken(pass.receipts()) {
             return Ok(());
         }
         let now = self.clock.now()?;
@@ -116,12 +125,9 @@ impl<'a, N: BookName, R: Wait, C: Clock> LinkEnd<'a, N, R, C> {
     }
 
     /// Asks for a unit back whose last change was its move to the secondary, where that rejects it.
-    fn ask_back(
-        &self,
-        pass: &mut Pass<N>,
-        now: Reading,
-        reply: &BindReply,
-    ) -> Result<(), NodeError> {
+    fn ask_back(&self, pass: &mut Pass<N>, now: Reading, reply: &BindReply) -> Result<(), NodeError>
+        ensures { Goes pass.old.receipts pass.new.receipts }
+    {
         if !matches!(
             (self.role(), reply.acknowledgement),
             (Role::Primary, Acknowledgement::Reject)
@@ -145,7 +151,9 @@ impl<'a, N: BookName, R: Wait, C: Clock> LinkEnd<'a, N, R, C> {
         talk: &mut Talk,
         kind: &FrameKind,
         wire: &mut W,
-    ) -> Result<(), NodeError> {
+    ) -> Result<(), NodeError>
+        ensures { Goes pass.old.receipts pass.new.receipts }
+    {
         match kind {
             FrameKind::Connect { .. } | FrameKind::ConnectReply { .. } => {
                 return Err(NodeError::Read);
@@ -171,7 +179,9 @@ impl<'a, N: BookName, R: Wait, C: Clock> LinkEnd<'a, N, R, C> {
         talk: &mut Talk,
         frame: &Frame,
         wire: &mut W,
-    ) -> Result<(), NodeError> {
+    ) -> Result<(), NodeError>
+        ensures { Goes pass.old.receipts pass.new.receipts }
+    {
         match (talk.phase, message_in(frame)) {
             (Phase::Greeting, _) => self.meet(pass, talk, &frame.kind, wire),
             (Phase::Joined, Some(message)) => self.take(pass, talk, &message, wire),
@@ -181,13 +191,16 @@ impl<'a, N: BookName, R: Wait, C: Clock> LinkEnd<'a, N, R, C> {
     }
 
     /// What the end does by frames, in their order.
+    #[tactic(auto, using(crate::proofs::Going::goes_on))]
     pub(crate) fn heed_all<W: Wire>(
         &self,
         pass: &mut Pass<N>,
         talk: &mut Talk,
         frames: &[Frame],
         wire: &mut W,
-    ) -> Result<(), NodeError> {
+    ) -> Result<(), NodeError>
+        ensures { Goes pass.old.receipts pass.new.receipts }
+    {
         for frame in frames {
             self.heed(pass, talk, frame, wire)?;
         }

@@ -1,11 +1,26 @@
 //! What a link's end knows by its pass's receipts.
 
+ghost use Rattle.std.specs.Prelude.{◌≡◌};
+ghost use Rattle.node_threads.specs.Receipts.{last_taken};
+
 use binding_rules::{BindReply, Body, Counter, PartnerMessage, Status, Update};
 use journal_lines::Event;
 use locked_book::Receipt;
 use prefix_range::Prefix;
 use std::alloc::{AllocError, Global};
 use std::collections::BTreeMap;
+
+/// The serial of the message that was taken last: 0 where none was. It looks at the receipts behind that one alone.
+pub(crate) fn last_taken(receipts: &[Receipt]) -> Counter
+    ensures { result ≡ last_taken receipts.now }
+{
+    for index in (0..receipts.len()).rev() {
+        if let Event::Take(message) = &receipts[index].line.event {
+            return message.serial;
+        }
+    }
+    Counter::ZERO
+}
 
 /// The last update of a unit that was sent.
 #[derive(Clone, Copy, Debug, PartialEq, Eq)]
@@ -22,8 +37,6 @@ struct Telling {
 pub(crate) struct Told {
     /// How many of the receipts were looked at.
     seen: usize,
-    /// The serial of the message that was taken last: 0 where none was.
-    pub taken: Counter,
     /// The serial of the message that was sent last: 0 where none was.
     pub sent: Counter,
     /// A serial that the partner has taken: the greatest of an update that it replied to. 0 where there is none.
@@ -37,7 +50,6 @@ impl Told {
     pub(crate) fn nothing(alloc: Global) -> Told {
         Told {
             seen: 0,
-            taken: Counter::ZERO,
             sent: Counter::ZERO,
             answered: Counter::ZERO,
             updates: BTreeMap::new(alloc),
@@ -79,7 +91,6 @@ impl Told {
     }
 
     fn note_taken(&mut self, message: &PartnerMessage) {
-        self.taken = message.serial;
         if let Body::Reply(reply) = &message.body {
             self.note_reply(reply);
         }

@@ -1,10 +1,13 @@
 //! How the secondary comes to units of its own (RFC 8156, section 4.2.2).
 
+ghost use Rattle.std.specs.Prelude.{◌≡◌};
+ghost use Rattle.node_threads.specs.Receipts.{Goes};
+
 use crate::clock::Clock;
 use crate::error::NodeError;
 use crate::link_end::{Fate, LinkEnd};
 use crate::messages::write_word;
-use crate::talk::Talk;
+use crate::talk::{Phase, Talk};
 use crate::wire::Wire;
 use binding_rules::{Role, Status};
 use book_rules::Pool;
@@ -21,7 +24,9 @@ const MOST_UNITS: u32 = 65_536;
 
 impl<'a, N: BookName, R: Wait, C: Clock> LinkEnd<'a, N, R, C> {
     /// Whether this server has a unit to give. It asks what it would give to a client of its own name, which has none.
-    fn has_unit(&self, pass: &mut Pass<N>) -> Result<bool, NodeError> {
+    fn has_unit(&self, pass: &mut Pass<N>) -> Result<bool, NodeError>
+        ensures { pass.new ≡ pass.old }
+    {
         let now = self.clock.now()?;
         let order = Order::Request(Asked {
             client: *self.settings.duid(),
@@ -54,8 +59,13 @@ impl<'a, N: BookName, R: Wait, C: Clock> LinkEnd<'a, N, R, C> {
         pass: &mut Pass<N>,
         talk: &mut Talk,
         wire: &mut W,
-    ) -> Result<(), NodeError> {
-        if self.role() == Role::Primary || talk.awaits_units || self.has_unit(pass)? {
+    ) -> Result<(), NodeError>
+        ensures { Goes pass.old.receipts pass.new.receipts }
+    {
+        if talk.phase != Phase::Joined || talk.awaits_units || self.role() == Role::Primary {
+            return Ok(());
+        }
+        if self.has_unit(pass)? {
             return Ok(());
         }
         self.ask_for_units(talk, wire)
@@ -67,7 +77,9 @@ impl<'a, N: BookName, R: Wait, C: Clock> LinkEnd<'a, N, R, C> {
         pass: &mut Pass<N>,
         pool: &Pool,
         units: &mut Vec<(Prefix, Status)>,
-    ) -> Result<(), NodeError> {
+    ) -> Result<(), NodeError>
+        ensures { pass.new ≡ pass.old }
+    {
         for index in 0..MOST_UNITS {
             let Some(prefix) = unit(&pool.prefix, pool.unit_length, index as u128) else {
                 return Ok(());
@@ -81,7 +93,9 @@ impl<'a, N: BookName, R: Wait, C: Clock> LinkEnd<'a, N, R, C> {
     }
 
     /// The units to move to the secondary.
-    fn chosen(&self, pass: &mut Pass<N>) -> Result<Vec<Prefix>, NodeError> {
+    fn chosen(&self, pass: &mut Pass<N>) -> Result<Vec<Prefix>, NodeError>
+        ensures { pass.new ≡ pass.old }
+    {
         let mut units = Vec::new(self.alloc);
         for pool in self.settings.pools() {
             self.add_units(pass, pool, &mut units)?;
@@ -92,14 +106,14 @@ impl<'a, N: BookName, R: Wait, C: Clock> LinkEnd<'a, N, R, C> {
         }
     }
 
-    /// Moves the units that the secondary lacks, and gives how many.
-    fn move_units(&self, pass: &mut Pass<N>) -> Result<u32, NodeError> {
-        if !self.has_unit(pass)? {
-            return Ok(0);
-        }
+    /// Moves units to the secondary, and gives how many.
+    #[tactic(auto, using(crate::proofs::Going::goes_on))]
+    fn move_each(&self, pass: &mut Pass<N>, units: &[Prefix]) -> Result<u32, NodeError>
+        ensures { Goes pass.old.receipts pass.new.receipts }
+    {
         let now = self.clock.now()?;
         let mut moved: u32 = 0;
-        for prefix in self.chosen(pass)?.as_slice() {
+        for prefix in units {
             if self.order(pass, now, &Order::Backup(*prefix))? == Fate::Done {
                 moved = moved.saturating_add(1);
             }
@@ -107,8 +121,21 @@ impl<'a, N: BookName, R: Wait, C: Clock> LinkEnd<'a, N, R, C> {
         Ok(moved)
     }
 
+    /// Moves the units that the secondary lacks, and gives how many.
+    fn move_units(&self, pass: &mut Pass<N>) -> Result<u32, NodeError>
+        ensures { Goes pass.old.receipts pass.new.receipts }
+    {
+        if !self.has_unit(pass)? {
+            return Ok(0);
+        }
+        let chosen = self.chosen(pass)?;
+        self.move_each(pass, &chosen)
+    }
+
     /// Answers the secondary's POOLREQ; the primary's is passed over.
-    pub(crate) fn share<W: Wire>(&self, pass: &mut Pass<N>, wire: &mut W) -> Result<(), NodeError> {
+    pub(crate) fn share<W: Wire>(&self, pass: &mut Pass<N>, wire: &mut W) -> Result<(), NodeError>
+        ensures { Goes pass.old.receipts pass.new.receipts }
+    {
         match self.role() {
             Role::Primary => {
                 let moved = self.move_units(pass)?;

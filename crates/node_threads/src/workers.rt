@@ -1,6 +1,7 @@
 //! What a worker does.
 
 ghost use Rattle.std.specs.Prelude.{◌≡◌, ◌≤◌, length, IfOk};
+ghost use Rattle.node_threads.specs.Receipts.{Goes};
 
 use crate::answering::answer_to;
 use crate::clock::Clock;
@@ -29,7 +30,9 @@ fn answer_one<N: BookName, R: Wait, D: Datagrams, C: Clock>(
     clock: &C,
     peer: &D::Peer,
     datagram: &[u8],
-) -> Result<(), NodeError> {
+) -> Result<(), NodeError>
+    ensures { Goes pass.old.receipts pass.new.receipts }
+{
     let Ok(message) = decode(alloc, datagram, own) else {
         return Ok(());
     };
@@ -41,10 +44,10 @@ fn answer_one<N: BookName, R: Wait, D: Datagrams, C: Clock>(
 }
 
 /// Receives datagrams while there are turns, answers each that is a client's message to the server `own`, and gives
-/// how many it received, at most 1,000,000. A turn is one datagram, answered or not. It ends sooner where a call of the
-/// datagrams or the clock fails (`Net`), where the buffer finds no memory (`Memory`), or where the pass is a stranger
-/// to the book (`Serve`); any other refusal leaves a message without an answer. Of a partner that is down a unit is taken
-/// over where no prefix is left.
+/// how many it received, at most 1,000,000. A turn is one datagram, answered or not. It ends sooner where a call of
+/// the datagrams or the clock fails (`Net`), where the buffer finds no memory (`Memory`), or where the pass is a
+/// stranger to the book (`Serve`); any other refusal leaves a message without an answer. Of a partner that is down a
+/// unit is taken over where no prefix is left.
 pub fn serve_datagrams<N: BookName, R: Wait, D: Datagrams, C: Clock>(
     rt: &R,
     alloc: Global,
@@ -56,7 +59,8 @@ pub fn serve_datagrams<N: BookName, R: Wait, D: Datagrams, C: Clock>(
     turns: &Turns,
     partner: Partner,
 ) -> Result<u32, NodeError>
-    ensures { IfOk result (λ received. received ≤ 1000000) }
+    ensures few { IfOk result (λ received. received ≤ 1000000) }
+    ensures goes { Goes pass.old.receipts pass.new.receipts }
 {
     let mut buffer = vec![in alloc; 0u8; LONGEST]?;
     for received in 0..MOST_TURNS {
