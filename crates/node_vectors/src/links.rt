@@ -7,7 +7,7 @@ use crate::books::{opened_by, settings_of};
 use crate::clocks::Still;
 use crate::frames::*;
 use crate::scripts::Script;
-use binding_rules::Role;
+use binding_rules::{Role, ServerState};
 use client_id::{Duid, Iaid};
 use journal_text::write;
 use lead_time::Reading;
@@ -35,23 +35,42 @@ enum First {
     Lease,
     /// The move of the first unit to the secondary.
     Move,
+    /// Leases of the first two units.
+    Leases,
+    /// The move of the first unit, which is seized in partner-down.
+    Seized,
+    /// A restart.
+    Restarted,
 }
 
-fn order_of(first: First) -> Option<Order> {
+fn lease(client: &[u8]) -> Option<Order> {
+    match Duid::from_hex(client) {
+        Ok(client) => Some(Order::Request(Asked {
+            client,
+            iaid: Iaid(1),
+            hint: None,
+        })),
+        Err(_) => None,
+    }
+}
+
+fn order_of(first: First) -> [Option<Order>; 3] {
+    let k1 = lease(b"00030001020000000001");
+    let k2 = lease(b"00030001020000000002");
+    let Ok(unit) = read_text(b"2001:db8::/56") else {
+        return [None, None, None];
+    };
     match first {
-        First::Nothing => None,
-        First::Lease => match Duid::from_hex(b"00030001020000000001") {
-            Ok(client) => Some(Order::Request(Asked {
-                client,
-                iaid: Iaid(1),
-                hint: None,
-            })),
-            Err(_) => None,
-        },
-        First::Move => match read_text(b"2001:db8::/56") {
-            Ok(prefix) => Some(Order::Backup(prefix)),
-            Err(_) => None,
-        },
+        First::Nothing => [None, None, None],
+        First::Lease => [k1, None, None],
+        First::Leases => [k1, k2, None],
+        First::Restarted => [Some(Order::Restart), None, None],
+        First::Move => [Some(Order::Backup(unit)), None, None],
+        First::Seized => [
+            Some(Order::Backup(unit)),
+            Some(Order::State(ServerState::Down)),
+            Some(Order::Seize(unit)),
+        ],
     }
 }
 
@@ -69,7 +88,7 @@ fn by_link<N: BookName, R: Wait>(
     blank: Blank,
     book: Book,
     settings: &Settings,
-    first: Option<Order>,
+    first: &[Option<Order>],
     turns: &Turns,
     now: Reading,
     wire: &mut Script<'_>,
@@ -83,8 +102,16 @@ fn by_link<N: BookName, R: Wait>(
         return None;
     };
     let mut pass = passes.pop()?;
-    if let Some(order) = &first {
-        shared.serve(rt, &mut pass, now, order).ok()?;
+    let late = Reading::new(5_000_000).ok()?;
+    for order in first {
+        if let Some(order) = order {
+            let at = if matches!(order, Order::Seize(_)) {
+                late
+            } else {
+                now
+            };
+            shared.serve(rt, &mut pass, at, order).ok()?;
+        }
     }
     let clock = Still::new(now);
     let mut ended = serve_link(rt, alloc, &shared, &mut pass, settings, &clock, turns, wire);
@@ -176,7 +203,7 @@ fn check(rt: &(impl Abort + Wait), alloc: Global, case: &Case<'_>) -> Result<(),
         blank,
         book,
         &settings,
-        first,
+        &first,
         &turns,
         at,
         &mut wire,
@@ -406,4 +433,139 @@ fn a_failing_read_ends_an_end(rt: HostRuntime) -> Result<(), Fail> {
         check_cut_off(&rt, alloc, reads, 100, written, NodeError::Read, B_OPENED)?;
     }
     check_cut_off(&rt, alloc, 4, 100, answered, NodeError::Read, B_ANSWERED)
+}
+
+#[test]
+fn an_unanswered_update_hides_none(rt: HostRuntime) -> Result<(), Fail> {
+    let told = Case::new(
+        Role::Primary,
+        &[CONNECT_REPLY],
+        &[CONNECT, UPDATE, SECOND_UPDATE],
+        A_TOLD_TWICE,
+    );
+    check(
+        &rt,
+        rt.alloc(),
+        &Case {
+            first: First::Leases,
+            ..told
+        },
+    )
+}
+
+#[test]
+fn what_is_due_is_told_again(rt: HostRuntime) -> Result<(), Fail> {
+    let told = Case::new(
+        Role::Primary,
+        &[CONNECT_REPLY, UPDREQ],
+        &[CONNECT, UPDATE, UPDATE_AGAIN, UPDDONE],
+        A_TOLD_AGAIN,
+    );
+    check(
+        &rt,
+        rt.alloc(),
+        &Case {
+            first: First::Lease,
+            step: 26,
+            ..told
+        },
+    )
+}
+
+#[test]
+fn a_reply_answers_the_first_sending(rt: HostRuntime) -> Result<(), Fail> {
+    let told = Case::new(
+        Role::Primary,
+        &[CONNECT_REPLY, UPDREQ, REPLY],
+        &[CONNECT, UPDATE, UPDATE_AGAIN, UPDDONE],
+        A_TOLD_AGAIN_ANSWERED,
+    );
+    let again: &[&[u8]] = &[CONNECT_REPLY_OF_ONE];
+    let written_again: &[&[u8]] = &[CONNECT_OF_ONE, UPDATE_AGAIN];
+    check(
+        &rt,
+        rt.alloc(),
+        &Case {
+            first: First::Lease,
+            step: 26,
+            again,
+            written_again,
+            ..told
+        },
+    )
+}
+
+#[test]
+fn a_seized_unit_comes_back(rt: HostRuntime) -> Result<(), Fail> {
+    let heard: &[&[u8]] = &[CONNECT_REPLY, UPDREQALL, ASKING, SEIZED_REPLY];
+    let written: &[&[u8]] = &[CONNECT, A_CONTACT, SEIZED, UPDDONE, ANSWERING];
+    let told = Case::new(Role::Primary, heard, written, A_RETURNED);
+    check(
+        &rt,
+        rt.alloc(),
+        &Case {
+            first: First::Seized,
+            step: 43,
+            ..told
+        },
+    )
+}
+
+#[test]
+fn a_server_that_waits_comes_back(rt: HostRuntime) -> Result<(), Fail> {
+    let heard: &[&[u8]] = &[CONNECT, A_CONTACT, SEIZED, UPDDONE, ANSWERING];
+    let written: &[&[u8]] = &[CONNECT_REPLY, UPDREQALL, POOL_REQUEST, ASKING, SEIZED_REPLY];
+    let told = Case::new(Role::Secondary, heard, written, B_RETURNED);
+    check(
+        &rt,
+        rt.alloc(),
+        &Case {
+            first: First::Restarted,
+            ..told
+        },
+    )
+}
+
+#[test]
+fn a_server_without_units_asks_again(rt: HostRuntime) -> Result<(), Fail> {
+    let heard: &[&[u8]] = &[CONNECT, POOL_RESPONSE];
+    let written: &[&[u8]] = &[CONNECT_REPLY, POOL_REQUEST, POOL_REQUEST];
+    check(
+        &rt,
+        rt.alloc(),
+        &Case::new(Role::Secondary, heard, written, B_OPENED),
+    )
+}
+
+#[test]
+fn the_primary_moves_half(rt: HostRuntime) -> Result<(), Fail> {
+    let alloc = rt.alloc();
+    let settings = settings_of(alloc, Role::Primary)?;
+    let book = opened_by(alloc, &settings)?;
+    let heard = joined(alloc, &[CONNECT_REPLY, POOL_REQUEST])?;
+    let mut wire = Script::new(alloc, &heard, 4096, 2, 1000, 1000);
+    let mut second = Script::new(alloc, &[], 4096, 2, 1000, 1000);
+    let turns = Turns::new(0);
+    let first = [None, None, None];
+    let done = by_link::<Brand, _>(
+        &rt,
+        alloc,
+        Blank::new(1),
+        book,
+        &settings,
+        &first,
+        &turns,
+        now()?,
+        &mut wire,
+        &mut second,
+    );
+    let Some(Done { ended, book }) = done else {
+        return Err(Fail::from("not closed"));
+    };
+    assert_eq!(rt; ended, Ok(()));
+    let first = joined(alloc, &[CONNECT, POOL_RESPONSE_OF_HALF])?;
+    assert!(rt; wire.written().starts_with(first.as_slice()));
+    assert_eq!(rt; wire.written().len(), 47 + 128 * 64);
+    assert_eq!(rt; book.journal().len(), 2 + 128 * 2);
+    Ok(())
 }
