@@ -31,9 +31,9 @@ def of_dhcp6():
 class Journal:
     """A server's lines as they come."""
 
-    def __init__(self, side):
+    def __init__(self, side, opened="open 2000 3600 3600"):
         self.side, self.lines = side, []
-        self.write(9000, "open 2000 3600 3600")
+        self.write(9000, opened)
         self.write(9000, f"pool {POOL}")
 
     def write(self, reading, event):
@@ -68,6 +68,16 @@ def renewals():
     close = 10_000 + 1000 * MOST_LINES
     text = certificate(12_000, 12_001, "piece A3 12000 12001 latest A3 earliest A3\n")
     return closed(primary, secondary, close), text, (12_000, close - 10_000)
+
+
+def brief():
+    """A unit renewed every five seconds for ten, till the journal is full: asked of all of that time."""
+    primary, secondary = Journal("A", "open 0 10 10"), Journal("B", "open 0 10 10")
+    for n in range(MOST_LINES - 3):
+        primary.write(10_000 + 5000 * n, event("grant", lasts=" 10"))
+    close = 10_000 + 5000 * MOST_LINES
+    text = certificate(12_000, 12_001, "piece A3 12000 12001 latest A3 earliest A3\n")
+    return closed(primary, secondary, close), text, (12_000, close - 20_000)
 
 
 def pieces(count, grants):
@@ -151,6 +161,7 @@ def datagrams(folder):
 def audits():
     cases = {
         "2^20 renewals of one unit": renewals(),
+        "2^20 renewals for ten seconds each": brief(),
         "1,000 pieces over 1,000 grants": pieces(1000, 1000),
         "65,000 pieces over 300 grants": pieces(65_000, 300),
         "30,000 leases of others, shuffled": foreign(30_000),
