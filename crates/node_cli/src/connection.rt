@@ -14,6 +14,9 @@ const MOST_SILENCE: u32 = 10;
 /// After how many seconds without an octet it is given up where a second connection comes.
 const LONG_SILENCE: u32 = 60;
 
+/// How many reads that bring octets are many.
+const MUCH: u32 = 10;
+
 /// The only connection to the partner while it stands: a second one to the same listener is closed at once. It is given
 /// up where nothing comes over it at first, and where a second one comes after a minute of silence: its other end may
 /// have lost it without a word.
@@ -21,8 +24,11 @@ const LONG_SILENCE: u32 = 60;
 pub struct Connection<'a, S: Read + Write + OpenStream + Drop, L: OpenListener> {
     wire: TcpWire<S>,
     listener: Option<&'a L>,
-    is_heard: bool,
+    /// How many reads brought octets.
+    heard: u32,
+    /// How many seconds brought none, since the last octet.
     silence: u32,
+    has_rested: bool,
     has_ended: bool,
     has_failed: bool,
     others: u32,
@@ -39,17 +45,18 @@ impl<'a, S: Read + Write + OpenStream + Drop, L: OpenListener> Connection<'a, S,
         Ok(Connection {
             wire: TcpWire::new(stream)?,
             listener,
-            is_heard: false,
+            heard: 0,
             silence: 0,
+            has_rested: false,
             has_ended: false,
             has_failed: false,
             others: 0,
         })
     }
 
-    /// Whether anything came over it.
-    pub fn is_heard(&self) -> bool {
-        self.is_heard
+    /// Whether it stood for a while: much came over it, or something and then nothing for a second.
+    pub fn has_stood(&self) -> bool {
+        self.has_rested || self.heard >= MUCH
     }
 
     /// Whether the partner closed it, or it was given up.
@@ -82,17 +89,16 @@ impl<'a, S: Read + Write + OpenStream + Drop, L: OpenListener> Connection<'a, S,
     /// Whether a second of silence is one too many.
     fn is_given_up(&mut self) -> bool {
         self.silence = self.silence.saturating_add(1);
-        let most = if self.is_heard {
-            LONG_SILENCE
-        } else {
-            MOST_SILENCE
-        };
         let has_come = self.turns_away();
-        self.silence >= most && (has_come || !self.is_heard)
+        if self.heard == 0 {
+            return self.silence >= MOST_SILENCE;
+        }
+        self.has_rested = true;
+        has_come && self.silence >= LONG_SILENCE
     }
 
     fn hear(&mut self) {
-        self.is_heard = true;
+        self.heard = self.heard.saturating_add(1);
         self.silence = 0;
     }
 }

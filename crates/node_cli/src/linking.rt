@@ -1,9 +1,9 @@
 //! The node's end of the link: which connection it has, when it has another, and what a person is told of it.
 
 use crate::connection::Connection;
-use crate::meeting::{Door, FIRST_PAUSE, LONGEST_PAUSE, door_of, next_stream, rests};
+use crate::meeting::{Door, FIRST_PAUSE, LATER_PAUSE, door_of, next_stream, rests};
 use binding_rules::Role;
-use locked_book::{BookName, Pass, SharedBook};
+use locked_book::{BookName, Pass, ServeError, SharedBook};
 use node_threads::{Clock, NodeError, Turns, serve_link};
 use server_book::Settings;
 use std::alloc::Global;
@@ -31,18 +31,10 @@ impl Ending {
     fn is_last(&self) -> bool {
         matches!(
             self,
-            Ending::Served | Ending::PartnerGone | Ending::Failed(NodeError::Serve(_))
+            Ending::Served
+                | Ending::PartnerGone
+                | Ending::Failed(NodeError::Serve(ServeError::Stranger { .. }))
         )
-    }
-
-    /// How many milliseconds the primary waits before it connects again: a second where this connection was heard, or
-    /// else as long as it would have waited.
-    fn pause(&self, is_heard: bool, pause: u64) -> u64 {
-        match self {
-            Ending::Refused => LONGEST_PAUSE,
-            _ if is_heard => FIRST_PAUSE,
-            _ => pause,
-        }
     }
 }
 
@@ -73,11 +65,16 @@ fn tell<P: Print>(notes: &P, peer: SocketAddr, ending: &Ending) {
         Ending::Refused => println!(notes;
             "node: refused {peer}: what it sent may not come there, or one of the two has lost its journal"
         ),
-        Ending::Failed(fault) => println!(notes; "node: ended the link: {fault}"),
+        Ending::Failed(NodeError::Serve(refusal)) => {
+            println!(notes; "node: ended the connection with {peer}: {refusal}")
+        }
+        Ending::Failed(fault) => {
+            println!(notes; "node: ended the connection with {peer}: {fault}")
+        }
     };
 }
 
-/// One connection, from its first frame to its end, which is told. Also whether anything came over it.
+/// One connection, from its first frame to its end, which is told. Also whether it stood for a while.
 fn served<N: BookName, R: Wait + Handle + Net, C: Clock, P: Print>(
     rt: &R,
     alloc: Global,
@@ -118,7 +115,7 @@ fn served<N: BookName, R: Wait + Handle + Net, C: Clock, P: Print>(
         turns.has_ended(rt),
     );
     tell(notes, peer, &ending);
-    (ending, connection.is_heard())
+    (ending, connection.has_stood())
 }
 
 /// Keeps the link to the partner until the workers have ended or the partner said DISCONNECT: the secondary listens at
@@ -147,17 +144,19 @@ pub fn keep_link<N: BookName, R: Wait + Handle + Net, C: Clock, P: Print>(
         let Some(stream) = next_stream(rt, &door, turns) else {
             return;
         };
-        let (ending, is_heard) = served(
+        let (ending, has_stood) = served(
             rt, alloc, shared, pass, settings, clock, turns, notes, stream, &door,
         );
         if ending.is_last() {
             return;
         }
-        pause = ending.pause(is_heard, pause);
+        if has_stood {
+            pause = FIRST_PAUSE;
+        }
         if door.listener().is_none() && !rests(rt, turns, pause) {
             return;
         }
-        pause = pause.saturating_mul(2).min(LONGEST_PAUSE);
+        pause = LATER_PAUSE;
     }
     unreachable!()
 }

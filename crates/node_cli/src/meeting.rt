@@ -10,10 +10,10 @@ use std::time::{Clock as Handle, Duration};
 /// How many milliseconds an end sleeps between two looks.
 const LOOK: u64 = 50;
 
-/// How many milliseconds an end waits before it tries again, at first and at most.
+/// How many milliseconds an end waits before it tries again at first, and each time later.
 pub const FIRST_PAUSE: u64 = 1_000;
 
-pub const LONGEST_PAUSE: u64 = 10_000;
+pub const LATER_PAUSE: u64 = 10_000;
 
 /// Where streams to the partner come from.
 #[derive(Drop)]
@@ -79,7 +79,7 @@ pub fn door_of<R: Wait + Handle + Net, P: Print>(
         if !rests(rt, turns, pause) {
             return None;
         }
-        pause = pause.saturating_mul(2).min(LONGEST_PAUSE);
+        pause = LATER_PAUSE;
     }
     unreachable!()
 }
@@ -115,7 +115,7 @@ pub fn next_stream<R: Wait + Handle + Net>(
             return None;
         }
         if let Door::Partner(_) = door {
-            pause = pause.saturating_mul(2).min(LONGEST_PAUSE);
+            pause = LATER_PAUSE;
         }
     }
     unreachable!()
