@@ -10,8 +10,8 @@ use Rattle.attribution.specs.VerdictText.{verdict_line}
 use Rattle.auditor.specs.Texts.{IsVerdictOfParsed}
 use Rattle.attribution_desk.specs.Answer.{first_text, text_behind, status_of}
 
--- The texts of certificates, one after another: each up to and with its first line that begins with `end`. A rest without
--- such a line is the last, and an empty rest is none.
+-- The texts of certificates, one after another: each up to and with its first line that begins with `end`. A rest
+-- without such a line is the last, and an empty rest is none.
 abbrev pub AreTexts : List ℕ → List (List ℕ) → Type 0
 AreTexts rest [] = rest ≡ []
 AreTexts rest (text ∷ texts) = (rest ≢ []) × (text ≡ first_text rest) × AreTexts (text_behind rest) texts
@@ -33,7 +33,8 @@ status_of_all (v ∷ vs) = if status_of v == 0 then status_of_all vs else 1
 -- the verdicts on the certificates behind two journals
 abbrev pub AreVerdicts : Result Journal JournalFault → Result Journal JournalFault → List ℕ → (skew transit : ℕ)
     → List Verdict → Type 0
-AreVerdicts a b rest skew transit vs = (texts : List (List ℕ)) × AreTexts rest texts × AreJudged a b skew transit texts vs
+AreVerdicts a b rest skew transit vs =
+    (texts : List (List ℕ)) × AreTexts rest texts × AreJudged a b skew transit texts vs
 
 -- their lines, and the status
 abbrev pub IsBatchOf : Result Journal JournalFault → Result Journal JournalFault → List ℕ → (skew transit : ℕ)

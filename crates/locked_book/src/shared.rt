@@ -175,7 +175,8 @@ impl<N: BookName> SharedBook<N> {
         order: &Order,
     ) -> Result<(Prefix, u32), ServeError>
         requires { IsRequest order.now }
-        ensures offered { (j : Journal) × IsLegal j × IsOffered j (last_receipt pass.old.receipts) now order.now result }
+        ensures offered { (j : Journal) × IsLegal j
+            × IsOffered j (last_receipt pass.old.receipts) now order.now result }
         ensures same { pass.new ≡ pass.old }
     {
         let last = pass.last();

@@ -3,7 +3,8 @@
 use crate::walks::{Tally, first_wrong_seed};
 use std::test::Fail;
 
-/// How many walks, of how many events each: under thirty seconds where the test is compiled with all checks and unproved.
+/// How many walks, of how many events each: under thirty seconds where the test is compiled with all checks and
+/// unproved.
 const WALKS: u64 = 400;
 
 const EVENTS: u64 = 250;

@@ -28,9 +28,9 @@ Heard sa ma nb = (4 ≤ sa) × (nb ≡ ma)
 abbrev pub Gone : (na sb mb n : ℕ) → Type 0
 Gone na sb mb n = (4 ≤ sb) × (na ≡ mb) × (n < mb)
 
--- Of one server's unit: s the status, m its count, n what it saw of the other's count, d the change that is due, D which
--- change may be due. U c m n: an update says c, with count m and seen count n. R p o: a reply of count p accepts the
--- change of count o.
+-- Of one server's unit: s the status, m its count, n what it saw of the other's count, d the change that is due, D
+-- which change may be due. U c m n: an update says c, with count m and seen count n. R p o: a reply of count p accepts
+-- the change of count o.
 pub record Own (D : ℕ → ℕ → Type 0) (s m n d : ℕ) (U : ℕ → ℕ → ℕ → Type 0) (R : ℕ → ℕ → Type 0) : Type 0 where
   -- the change that is due is one that the unit's status allows
   pub due : D s d

@@ -25,7 +25,9 @@ fn is_same(one: &PartnerMessage, other: &PartnerMessage) -> bool
 
 /// The message of this number among all that the lines sent, counted from 1.
 pub(crate) fn message_at(lines: &[Line], number: u64) -> Option<PartnerMessage>
-    ensures { MatchOption result ((m : MessageValue) → IsNumbered lines.now number m → ⊥) (IsNumbered lines.now number) }
+    ensures { MatchOption result
+        ((m : MessageValue) → IsNumbered lines.now number m → ⊥)
+        (IsNumbered lines.now number) }
 {
     let mut left = number;
     for line in lines {

@@ -1,7 +1,6 @@
 -- Moments as RFC 3339 writes them: milliseconds since 1970 UTC, on the calendar of the kit's `jiff`.
-use Rattle.std.specs.Prelude.{◌≡◌, ℕ, ◌<◌, ◌⊎◌, ◌==◌, Bool, List, ◌++◌, length, take, drop, codes, false, true, Some, Ok}
-use Rattle.std.specs.Prelude.{if◌then◌else◌, pos, ◌*ℤ◌}
-use Rattle.std.specs.Prelude.{get_or}
+use Rattle.std.specs.Prelude.{◌≡◌, ℕ, ◌<◌, ◌⊎◌, ◌==◌, Bool, List, ◌++◌, length, take, drop, codes, false, true}
+use Rattle.std.specs.Prelude.{Some, Ok, if◌then◌else◌, pos, ◌*ℤ◌, get_or}
 use Rattle.std.specs.Char.{is_ascii_digit, to_ascii_uppercase}
 use Rattle.std.specs.Fmt.{decimal}
 use Rattle.jiff.specs.Words.{IsTimestampNanos, civil_nanos, parse_timestamp, datetime_text}
