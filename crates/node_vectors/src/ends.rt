@@ -11,7 +11,7 @@ use client_id::{Duid, Iaid};
 use journal_text::write;
 use lead_time::Reading;
 use locked_book::{BookName, SharedBook};
-use node_threads::{NodeError, Turns, serve_link};
+use node_threads::{Clock, NodeError, Turns, serve_link};
 use prefix_range::read_text;
 use server_book::{Asked, Book, Order, Settings};
 use std::alloc::Global;
@@ -79,7 +79,7 @@ pub struct Done {
 }
 
 /// What becomes of a link's end over one wire after another.
-fn by_link<N: BookName, R: Wait>(
+fn by_link<N: BookName, R: Wait, C: Clock>(
     rt: &R,
     alloc: Global,
     blank: Blank,
@@ -87,7 +87,7 @@ fn by_link<N: BookName, R: Wait>(
     settings: &Settings,
     first: &[Option<Order>],
     turns: &Turns,
-    now: Reading,
+    clock: &C,
     wire: &mut Script<'_>,
     second: &mut Script<'_>,
 ) -> Option<Done>
@@ -111,11 +111,10 @@ fn by_link<N: BookName, R: Wait>(
             shared.serve(rt, &mut pass, at, order).ok()?;
         }
     }
-    let clock = Still::new(now);
-    let mut ended = serve_link(rt, alloc, &shared, &mut pass, settings, &clock, turns, wire);
+    let mut ended = serve_link(rt, alloc, &shared, &mut pass, settings, clock, turns, wire);
     if second.is_there() {
         ended = serve_link(
-            rt, alloc, &shared, &mut pass, settings, &clock, turns, second,
+            rt, alloc, &shared, &mut pass, settings, clock, turns, second,
         );
     }
     passes.push(pass).ok()?;
@@ -209,7 +208,29 @@ pub fn joined(alloc: Global, frames: &[&[u8]]) -> Result<Vec<u8>, Fail> {
     front(alloc, frames, frames.len())
 }
 
-/// Lets an end live its case over these wires, out of a book.
+/// Lets an end live its case over these wires and by this clock, out of a book.
+pub fn live_by<C: Clock>(
+    rt: &impl Wait,
+    alloc: Global,
+    case: &Case<'_>,
+    settings: &Settings,
+    book: Book,
+    clock: &C,
+    wire: &mut Script<'_>,
+    second: &mut Script<'_>,
+) -> Option<Done> {
+    let turns = Turns::new(0);
+    if case.is_over {
+        turns.end(rt);
+    }
+    let first = orders_of(case.first);
+    let blank = Blank::new(1);
+    by_link::<Brand, _, _>(
+        rt, alloc, blank, book, settings, &first, &turns, clock, wire, second,
+    )
+}
+
+/// The same, by a clock that shows what the case says.
 pub fn live(
     rt: &impl Wait,
     alloc: Global,
@@ -219,16 +240,8 @@ pub fn live(
     wire: &mut Script<'_>,
     second: &mut Script<'_>,
 ) -> Option<Done> {
-    let turns = Turns::new(0);
-    if case.is_over {
-        turns.end(rt);
-    }
-    let first = orders_of(case.first);
-    let now = Reading::new(case.at).ok()?;
-    let blank = Blank::new(1);
-    by_link::<Brand, _>(
-        rt, alloc, blank, book, settings, &first, &turns, now, wire, second,
-    )
+    let clock = Still::new(Reading::new(case.at).ok()?);
+    live_by(rt, alloc, case, settings, book, &clock, wire, second)
 }
 
 /// That all comes of a case which is to come of it.
