@@ -315,3 +315,18 @@ pub const A_SMALL: &[u8] = b"pd-journal 1 A
 5 10000 close
 end 5
 ";
+
+/// The primary's journal once it told of a seized unit and heard a contact of the term before.
+pub const A_SEIZED_BEFORE: &[u8] = b"pd-journal 1 A
+1 9000 open 2000 3600 3600
+2 9000 pool 2001:0db8:0000:0000:0000:0000:0000:0000/48 56
+3 10000 backup 2001:0db8:0000:0000:0000:0000:0000:0000/56
+4 10000 state down
+5 5000000 seize 2001:0db8:0000:0000:0000:0000:0000:0000/56
+6 5000000 state normal
+7 5000000 send 1 1 contact 0 0
+8 5000000 send 1 2 update seized 2001:0db8:0000:0000:0000:0000:0000:0000/56 2 0 0 00000000 -
+9 5000000 take 0 1 contact 0 0
+10 5000000 close
+end 10
+";

@@ -329,6 +329,22 @@ fn a_mark_is_told_again_where_it_is_asked_for(rt: HostRuntime) -> Result<(), Fai
     check(&rt, rt.alloc(), &later)
 }
 
+#[test]
+fn what_comes_in_a_term_before_is_no_cause_to_tell_again(rt: HostRuntime) -> Result<(), Fail> {
+    let heard: &[&[u8]] = &[CONNECT_REPLY, UPDREQALL, CONTACT];
+    let written: &[&[u8]] = &[CONNECT, A_CONTACT, SEIZED];
+    let case = Case::new(Role::Primary, heard, written, A_SEIZED_BEFORE);
+    check(
+        &rt,
+        rt.alloc(),
+        &Case {
+            first: First::Seized,
+            step: 43,
+            ..case
+        },
+    )
+}
+
 // The lease has ended once the clock shows 10000 + 3600 s + 2 x 2000 ms.
 #[test]
 fn a_lease_is_ended_and_told_in_one_turn(rt: HostRuntime) -> Result<(), Fail> {
