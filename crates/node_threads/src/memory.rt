@@ -3,10 +3,11 @@
 ghost use Rattle.std.specs.Prelude.{◌≡◌};
 ghost use Rattle.node_threads.specs.Receipts.{last_taken};
 
-use binding_rules::{BindReply, Body, Counter, PartnerMessage, Status, Update};
+use binding_rules::{BindReply, Body, Counter, Outcome, PartnerMessage, Status, Update};
 use journal_lines::Event;
 use locked_book::Receipt;
 use prefix_range::Prefix;
+use server_book::Reply;
 use std::alloc::{AllocError, Global};
 use std::collections::BTreeMap;
 
@@ -30,6 +31,8 @@ struct Telling {
     mine: Counter,
     /// The serial under which that change was told first.
     serial: Counter,
+    /// The term in which it was told last.
+    term: u32,
 }
 
 /// What the receipts tell, each of which is looked at once.
@@ -37,6 +40,8 @@ struct Telling {
 pub(crate) struct Told {
     /// How many of the receipts were looked at.
     seen: usize,
+    /// The term of the book's messages, as far as the receipts tell.
+    term: u32,
     /// The serial of the message that was sent last: 0 where none was.
     pub sent: Counter,
     /// A serial that the partner has taken: the greatest of an update that it replied to. 0 where there is none.
@@ -50,24 +55,27 @@ impl Told {
     pub(crate) fn nothing(alloc: Global) -> Told {
         Told {
             seen: 0,
+            term: 0,
             sent: Counter::ZERO,
             answered: Counter::ZERO,
             updates: BTreeMap::new(alloc),
         }
     }
 
-    /// An update that was sent under a serial. Where its change was told before, the first serial stays.
-    fn note_update(&mut self, serial: Counter, update: &Update) -> Result<(), AllocError> {
+    /// An update that was sent. Where its change was told before, the first serial stays.
+    fn note_update(&mut self, message: &PartnerMessage, update: &Update) -> Result<(), AllocError> {
         let address = update.prefix.first();
+        let mut serial = message.serial;
         if let Some(before) = self.updates.get(&address) {
             if before.status == update.status && before.mine == update.mine {
-                return Ok(());
+                serial = before.serial;
             }
         }
         let telling = Telling {
             status: update.status,
             mine: update.mine,
             serial,
+            term: message.term,
         };
         self.updates.insert(address, telling)?;
         Ok(())
@@ -84,13 +92,18 @@ impl Told {
 
     fn note_sent(&mut self, message: &PartnerMessage) -> Result<(), AllocError> {
         self.sent = message.serial;
+        self.term = message.term;
         match &message.body {
-            Body::Update(update) => self.note_update(message.serial, update),
+            Body::Update(update) => self.note_update(message, update),
             Body::Reply(_) | Body::Contact { .. } => Ok(()),
         }
     }
 
-    fn note_taken(&mut self, message: &PartnerMessage) {
+    /// A message that was taken. One that wasn't dropped has the book's term.
+    fn note_taken(&mut self, message: &PartnerMessage, reply: &Reply) {
+        if matches!(reply, Reply::Taken(Outcome::Accept | Outcome::Reject)) {
+            self.term = message.term;
+        }
         if let Body::Reply(reply) = &message.body {
             self.note_reply(reply);
         }
@@ -102,7 +115,7 @@ impl Told {
         for index in self.seen..receipts.len() {
             match &receipts[index].line.event {
                 Event::Send(message) => self.note_sent(message)?,
-                Event::Take(message) => self.note_taken(message),
+                Event::Take(message) => self.note_taken(message, &receipts[index].reply),
                 _ => {}
             }
         }
@@ -110,10 +123,13 @@ impl Told {
         Ok(())
     }
 
-    /// Whether the last update of a unit told this status and change.
+    /// Whether the last update of a unit told this status and change in the book's term: what was told in a term before
+    /// may have been passed over.
     pub(crate) fn was_sent(&self, prefix: &Prefix, status: Status, mine: Counter) -> bool {
         match self.updates.get(&prefix.first()) {
-            Some(telling) => telling.status == status && telling.mine == mine,
+            Some(telling) => {
+                telling.status == status && telling.mine == mine && telling.term == self.term
+            }
             None => false,
         }
     }

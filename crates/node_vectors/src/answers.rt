@@ -1,13 +1,13 @@
 //! What workers answer to datagrams, and the journal that they leave.
 
-use crate::books::{Left, by_workers, opened, opened_alone, own};
+use crate::books::{opened, opened_alone, own};
 use crate::clocks::Still;
 use crate::meetings::Met;
 use crate::post::Post;
 use client_id::Duid;
 use journal_text::write;
 use lead_time::Reading;
-use node_threads::{Clock, Datagrams, NodeError, Partner, Turns};
+use node_threads::{Clock, Datagrams, Left, NodeError, Partner, Turns, serve_all};
 use server_book::{Book, Order};
 use std::alloc::Global;
 use std::marker::Brand;
@@ -53,7 +53,8 @@ pub fn octets(alloc: Global, text: &[u8]) -> Result<Vec<u8>, Fail> {
     Ok(octets)
 }
 
-fn all_octets(alloc: Global, texts: &[&[u8]]) -> Result<Vec<Vec<u8>>, Fail> {
+/// The octets that each text spells.
+pub fn all_octets(alloc: Global, texts: &[&[u8]]) -> Result<Vec<Vec<u8>>, Fail> {
     let mut all = Vec::new(alloc);
     for text in texts {
         all.push(octets(alloc, text)?)?;
@@ -83,13 +84,14 @@ pub fn served<D: Datagrams + Sync, C: Clock + Sync>(
 ) -> Option<Left> {
     let turns = Turns::new(turns);
     let blank = Blank::new(workers as u64);
-    by_workers::<Brand, _, _, _>(
+    serve_all::<Brand, _, _, _>(
         rt, alloc, blank, book, workers, own, datagrams, clock, &turns, partner,
     )
+    .ok()
 }
 
 /// What workers of the server leave of so many turns.
-fn left<D: Datagrams + Sync, C: Clock + Sync>(
+pub fn left<D: Datagrams + Sync, C: Clock + Sync>(
     rt: &(impl Threads + Wait + Sync),
     alloc: Global,
     book: Book,

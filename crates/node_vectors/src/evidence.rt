@@ -17,10 +17,18 @@ use std::test::Fail;
 /// The skew of the pair's settings.
 const SKEW: u64 = 2000;
 
-/// Who holds the unit, and from when.
+/// Who holds the unit.
 const CLIENT: &[u8] = b"00030001020000000001";
 
-const FROM: u64 = 12_000;
+/// From when to when the client surely held the unit, by a lease of one side and then by one of the other, and a moment
+/// up to which it didn't.
+#[derive(Clone, Copy)]
+pub struct Held {
+    pub first: Role,
+    pub from: u64,
+    pub to: u64,
+    pub past: u64,
+}
 
 /// The first unit.
 pub fn unit() -> Result<Prefix, Fail> {
@@ -36,11 +44,12 @@ pub fn text_of(alloc: Global, book: Book, closed: u64) -> Result<Vec<u8>, Fail> 
     }
 }
 
-/// What a search of two journals finds for the client up to a moment.
+/// What a search of two journals finds for the client from one moment up to another.
 fn found(
     alloc: Global,
     primary: &[u8],
     secondary: &[u8],
+    from: u64,
     to: u64,
 ) -> Result<Result<Certificate, FindError>, Fail> {
     written_is_closed();
@@ -52,23 +61,22 @@ fn found(
         &source,
         Duid::from_hex(CLIENT)?,
         unit()?,
-        Reading::new(FROM)?,
+        Reading::new(from)?,
         Reading::new(to)?,
         Skew::new(SKEW)?,
         Transit::ZERO,
     ))
 }
 
-/// That the journals show who held the unit up to a moment, by a lease of each side, and not past another.
+/// That the journals show who held the unit, and no longer than that.
 pub fn check_shown(
     rt: &impl Abort,
     alloc: Global,
     primary: &[u8],
     secondary: &[u8],
-    to: u64,
-    past: u64,
+    held: &Held,
 ) -> Result<(), Fail> {
-    let certificate = match found(alloc, primary, secondary, to)? {
+    let certificate = match found(alloc, primary, secondary, held.from, held.to)? {
         Ok(certificate) => certificate,
         Err(_) => return Err(Fail::from("not found")),
     };
@@ -77,13 +85,13 @@ pub fn check_shown(
         .as_slice()
         .iter()
         .map(|piece| piece.grant.side);
-    assert!(rt; sides.next() == Some(Role::Primary));
-    assert!(rt; sides.next() == Some(Role::Secondary));
+    assert!(rt; sides.next() == Some(held.first));
+    assert!(rt; sides.next() == Some(held.first.partner()));
     assert!(rt; sides.next() == None);
     let claim = certificate::write(alloc, &certificate)?;
     let skew = Skew::new(SKEW)?;
     let verdict = audit_bytes(alloc, primary, secondary, &claim, skew, Transit::ZERO)?;
     assert!(rt; verdict == Verdict::Accepted);
-    assert!(rt; found(alloc, primary, secondary, past)?.is_err());
+    assert!(rt; found(alloc, primary, secondary, held.from, held.past)?.is_err());
     Ok(())
 }

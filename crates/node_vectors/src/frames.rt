@@ -136,7 +136,7 @@ pub const UPDATE_AGAIN: &[u8] =
 /// CONNECTREPLY of a secondary that took serial 1.
 pub const CONNECT_REPLY_OF_ONE: &[u8] = b"0000001609000000000000000000000000020000000000000001";
 
-/// The primary's contact in term 1, which asks and answers nothing.
+/// A contact of serial 1 in term 1, which asks and answers nothing.
 pub const A_CONTACT: &[u8] = b"0000001d0c00000001000000000000000100000000000000000000000000000000";
 
 /// The contact of a secondary that restarted once: it asks.
@@ -145,9 +145,31 @@ pub const ASKING: &[u8] = b"0000001d0c000000010000000000000001000000000000000100
 /// The primary's contact of serial 3, which answers that.
 pub const ANSWERING: &[u8] = b"0000001d0c00000001000000000000000300000000000000000000000000000001";
 
+/// The contact of serial 2 of a server that restarted once: it asks.
+pub const ASKING_LATER: &[u8] =
+    b"0000001d0c00000001000000000000000200000000000000010000000000000000";
+
+/// The move of the first unit again, as the third message and in term 1.
+pub const MOVE_AGAIN: &[u8] =
+    b"0000003c01000000010000000000000003043820010db80000000000000000000000000000000000000001000000000000000000000000000000000000000000";
+
+/// The first update: the first unit's lease, the second of its changes, has ended.
+pub const EXPIRED: &[u8] =
+    b"0000004601000000000000000000000001023820010db8000000000000000000000000000000000000000200000000000000000000000000000000000000010a00030001020000000001";
+
+/// STATE: the partner takes this server for up.
+pub const STATE_NORMAL: &[u8] = b"0000000e0b00000000000000000000000001";
+
+/// STATE: the partner takes this server for down.
+pub const STATE_DOWN: &[u8] = b"0000000e0b00000000000000000000000003";
+
 /// The second update: the first unit was seized.
 pub const SEIZED: &[u8] =
     b"0000003c01000000010000000000000002063820010db80000000000000000000000000000000000000002000000000000000000000000000000000000000000";
+
+/// The same as the third message.
+pub const SEIZED_AGAIN: &[u8] =
+    b"0000003c01000000010000000000000003063820010db80000000000000000000000000000000000000002000000000000000000000000000000000000000000";
 
 /// The second reply: it accepts that.
 pub const SEIZED_REPLY: &[u8] =
@@ -217,4 +239,94 @@ pub const B_RETURNED: &[u8] = b"pd-journal 1 B
 8 10000 send 1 2 reply accept 2001:0db8:0000:0000:0000:0000:0000:0000/56 2 1 2
 9 10000 close
 end 9
+";
+
+/// The primary's journal once it restarted and told of the move of a unit, in the term before and in the partner's.
+pub const A_MOVED_AGAIN: &[u8] = b"pd-journal 1 A
+1 9000 open 2000 3600 3600
+2 9000 pool 2001:0db8:0000:0000:0000:0000:0000:0000/48 56
+3 10000 backup 2001:0db8:0000:0000:0000:0000:0000:0000/56
+4 10000 restart 1
+5 10000 send 0 1 update backup 2001:0db8:0000:0000:0000:0000:0000:0000/56 1 0 0 00000000 -
+6 10000 take 1 1 contact 0 0
+7 10000 send 1 2 contact 1 0
+8 10000 send 1 3 update backup 2001:0db8:0000:0000:0000:0000:0000:0000/56 1 0 0 00000000 -
+9 10000 close
+end 9
+";
+
+/// The primary's journal once it told of its lease to a partner that began again.
+pub const A_WELCOMING: &[u8] = b"pd-journal 1 A
+1 9000 open 2000 3600 3600
+2 9000 pool 2001:0db8:0000:0000:0000:0000:0000:0000/48 56
+3 10000 grant 00030001020000000001 00000001 2001:0db8:0000:0000:0000:0000:0000:0000/56 3600
+4 10000 send 0 1 contact 0 0
+5 10000 send 0 2 update active 2001:0db8:0000:0000:0000:0000:0000:0000/56 1 0 7210000 00000001 00030001020000000001
+6 10000 close
+end 6
+";
+
+/// The primary's journal once it told of a seized unit.
+pub const A_SEIZED: &[u8] = b"pd-journal 1 A
+1 9000 open 2000 3600 3600
+2 9000 pool 2001:0db8:0000:0000:0000:0000:0000:0000/48 56
+3 10000 backup 2001:0db8:0000:0000:0000:0000:0000:0000/56
+4 10000 state down
+5 5000000 seize 2001:0db8:0000:0000:0000:0000:0000:0000/56
+6 5000000 state normal
+7 5000000 send 1 1 contact 0 0
+8 5000000 send 1 2 update seized 2001:0db8:0000:0000:0000:0000:0000:0000/56 2 0 0 00000000 -
+9 5000000 close
+end 9
+";
+
+/// The same once it told of that again.
+pub const A_SEIZED_AGAIN: &[u8] = b"pd-journal 1 A
+1 9000 open 2000 3600 3600
+2 9000 pool 2001:0db8:0000:0000:0000:0000:0000:0000/48 56
+3 10000 backup 2001:0db8:0000:0000:0000:0000:0000:0000/56
+4 10000 state down
+5 5000000 seize 2001:0db8:0000:0000:0000:0000:0000:0000/56
+6 5000000 state normal
+7 5000000 send 1 1 contact 0 0
+8 5000000 send 1 2 update seized 2001:0db8:0000:0000:0000:0000:0000:0000/56 2 0 0 00000000 -
+9 5000000 send 1 3 update seized 2001:0db8:0000:0000:0000:0000:0000:0000/56 2 0 0 00000000 -
+10 5000000 close
+end 10
+";
+
+/// The primary's journal once it ended its lease.
+pub const A_EXPIRED: &[u8] = b"pd-journal 1 A
+1 9000 open 2000 3600 3600
+2 9000 pool 2001:0db8:0000:0000:0000:0000:0000:0000/48 56
+3 10000 grant 00030001020000000001 00000001 2001:0db8:0000:0000:0000:0000:0000:0000/56 3600
+4 3614000 expire 2001:0db8:0000:0000:0000:0000:0000:0000/56
+5 3614000 send 0 1 update expired 2001:0db8:0000:0000:0000:0000:0000:0000/56 2 0 0 00000001 00030001020000000001
+6 3614000 close
+end 6
+";
+
+/// The journal of a primary of one unit once it told of its lease.
+pub const A_SMALL: &[u8] = b"pd-journal 1 A
+1 9000 open 2000 3600 3600
+2 9000 pool 2001:0db8:0000:0000:0000:0000:0000:0000/56 56
+3 10000 grant 00030001020000000001 00000001 2001:0db8:0000:0000:0000:0000:0000:0000/56 3600
+4 10000 send 0 1 update active 2001:0db8:0000:0000:0000:0000:0000:0000/56 1 0 7210000 00000001 00030001020000000001
+5 10000 close
+end 5
+";
+
+/// The primary's journal once it told of a seized unit and heard a contact of the term before.
+pub const A_SEIZED_BEFORE: &[u8] = b"pd-journal 1 A
+1 9000 open 2000 3600 3600
+2 9000 pool 2001:0db8:0000:0000:0000:0000:0000:0000/48 56
+3 10000 backup 2001:0db8:0000:0000:0000:0000:0000:0000/56
+4 10000 state down
+5 5000000 seize 2001:0db8:0000:0000:0000:0000:0000:0000/56
+6 5000000 state normal
+7 5000000 send 1 1 contact 0 0
+8 5000000 send 1 2 update seized 2001:0db8:0000:0000:0000:0000:0000:0000/56 2 0 0 00000000 -
+9 5000000 take 0 1 contact 0 0
+10 5000000 close
+end 10
 ";

@@ -3,8 +3,8 @@
 use crate::moments::{Moment, wait_until};
 use crate::post::Post;
 use binding_rules::{Counter, Status, Unit};
-use locked_book::{BookName, Pass, SharedBook};
-use node_threads::{Datagrams, NetFault};
+use locked_book::{BookName, Look, Pass, SharedBook};
+use node_threads::{Clock, Datagrams, NetFault};
 use prefix_range::Prefix;
 use std::sync::atomic::{AtomicUsize, Ordering};
 use std::sync::{Mutex, Wait};
@@ -15,7 +15,7 @@ use std::time::Clock as Handle;
 pub enum When {
     /// Nothing.
     AtOnce,
-    /// That the server takes the unit for active.
+    /// That the server takes the unit for active, and doesn't wait for its partner.
     Known,
     /// That the partner has acknowledged this server's own lease.
     Settled,
@@ -23,6 +23,8 @@ pub enum When {
     Over,
     /// That so many datagrams have come, to both servers.
     After(usize),
+    /// The same, and that this server has nothing left to tell its partner.
+    Quiet(usize),
 }
 
 /// A datagram as digits, when it comes and at which moment, and the answer that it should get, if it gets one.
@@ -38,13 +40,16 @@ fn is_active(unit: &Unit) -> bool {
     matches!(unit.status.status(), Status::Active)
 }
 
-/// Whether a server that has this unit knows enough.
-fn is_so(when: When, unit: &Unit) -> bool {
+/// Whether a server that sees this unit knows enough.
+fn is_so(when: When, look: &Look) -> bool {
+    let Some(unit) = &look.unit else {
+        return false;
+    };
     match when {
-        When::Known => is_active(unit),
+        When::Known => is_active(unit) && !look.waiting,
         When::Settled => unit.due.is_none() && unit.mine > Counter::ZERO,
         When::Over => unit.due.is_none() && !is_active(unit),
-        When::AtOnce | When::After(_) => true,
+        When::AtOnce | When::After(_) | When::Quiet(_) => true,
     }
 }
 
@@ -68,18 +73,33 @@ impl<'a, N: BookName, R: Wait + Handle> Letters<'a, N, R> {
         watch.into_inner()
     }
 
-    /// Whether what a letter waits for is so.
-    fn has_come(&self, when: When) -> bool {
-        if let When::After(count) = when {
-            return self.moment.happened() >= count;
+    /// Whether no change and no reply is to be told.
+    fn is_quiet(&self) -> bool {
+        let Ok(now) = self.moment.now() else {
+            return false;
+        };
+        let mut watch = self.watch.lock(self.handle);
+        match self.shared.work(self.handle, &mut watch, now) {
+            Ok(work) => work.change.is_none() && work.reply.is_none(),
+            Err(_) => false,
         }
+    }
+
+    /// Whether the server's look at the unit shows enough.
+    fn is_seen(&self, when: When) -> bool {
         let mut watch = self.watch.lock(self.handle);
         match self.shared.look(self.handle, &mut watch, self.unit) {
-            Ok(look) => match &look.unit {
-                Some(unit) => is_so(when, unit),
-                None => false,
-            },
+            Ok(look) => is_so(when, &look),
             Err(_) => false,
+        }
+    }
+
+    /// Whether what a letter waits for is so.
+    fn has_come(&self, when: When) -> bool {
+        match when {
+            When::After(count) => self.moment.happened() >= count,
+            When::Quiet(count) => self.moment.happened() >= count && self.is_quiet(),
+            _ => self.is_seen(when),
         }
     }
 }

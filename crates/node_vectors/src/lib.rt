@@ -10,9 +10,15 @@ mod cables;
 #[cfg(test)]
 mod clocks;
 #[cfg(test)]
+mod ends;
+#[cfg(test)]
 mod evidence;
 #[cfg(test)]
+mod faults;
+#[cfg(test)]
 mod frames;
+#[cfg(test)]
+mod full_books;
 #[cfg(test)]
 mod letters;
 #[cfg(test)]
@@ -21,6 +27,8 @@ mod links;
 mod meetings;
 #[cfg(test)]
 mod moments;
+#[cfg(test)]
+mod node_settings;
 #[cfg(test)]
 mod nodes;
 #[cfg(test)]

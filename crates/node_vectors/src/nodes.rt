@@ -17,9 +17,6 @@ use std::thread;
 use std::thread::Threads;
 use std::time::Clock as Handle;
 
-/// From when on the servers are joined.
-const JOINED: u64 = 10_001;
-
 /// What a node leaves: its book, what became of its worker and of its link, and how many answers were sent, if each
 /// was the one wanted.
 #[derive(Drop)]
@@ -30,7 +27,7 @@ pub struct Node {
     pub sent: Option<usize>,
 }
 
-/// The link's end over one wire after another.
+/// The link's end from a moment on, over one wire after another.
 fn linked<N: BookName, R: Wait + Handle, W: Wire + Drop>(
     rt: &R,
     alloc: Global,
@@ -39,11 +36,12 @@ fn linked<N: BookName, R: Wait + Handle, W: Wire + Drop>(
     settings: &Settings,
     moment: &Moment,
     turns: &Turns,
+    joined: u64,
     wires: Vec<W>,
 ) -> (Pass<N>, Result<(), NodeError>) {
     let mut pass = pass;
     let mut ended = Ok(());
-    if wait_until(rt, &|| moment.has_come(JOINED)) {
+    if wait_until(rt, &|| moment.has_come(joined)) {
         for wire in wires {
             let mut wire = wire;
             ended = serve_link(
@@ -107,7 +105,7 @@ fn worked<N: BookName, R: Wait + Handle>(
     }
 }
 
-/// A node out of the book: a worker that answers letters, and the link's end over these wires.
+/// A node out of the book: a worker that answers letters, and from a moment on the link's end over these wires.
 pub fn by_node<N: BookName + Send + Sync, R: Threads + Wait + Handle + Sync, W: Wire + Drop + Send>(
     rt: &R,
     alloc: Global,
@@ -119,6 +117,7 @@ pub fn by_node<N: BookName + Send + Sync, R: Threads + Wait + Handle + Sync, W: 
     unit: Prefix,
     moment: &Moment,
     turns: &Turns,
+    joined: u64,
     wires: Vec<W>,
 ) -> Option<Node>
     requires name { blank.name ≡ N.name }
@@ -134,7 +133,9 @@ pub fn by_node<N: BookName + Send + Sync, R: Threads + Wait + Handle + Sync, W: 
     let lent = &shared;
     let ((link, ended), done) = thread::join(
         rt,
-        move || linked(rt, alloc, lent, link, settings, moment, turns, wires),
+        move || linked(
+            rt, alloc, lent, link, settings, moment, turns, joined, wires,
+        ),
         move || worked(
             rt, alloc, lent, pass, watch, settings, post, letters, unit, moment, turns,
         ),

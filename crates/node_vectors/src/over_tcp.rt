@@ -1,6 +1,5 @@
 //! Two whole nodes joined over the loopback address.
 
-use crate::letters::Letter;
 use crate::moments::Moment;
 use crate::nodes::Node;
 use crate::pairs::{Begin, begun, check_lived, live};
@@ -21,7 +20,6 @@ fn live_by_stream<R: Threads + Wait + Handle + Sync, S: Read + Write + OpenStrea
     rt: &R,
     alloc: Global,
     begin: Begin,
-    letters: &[Letter],
     moment: &Moment,
     stream: S,
 ) -> Option<Node> {
@@ -30,7 +28,7 @@ fn live_by_stream<R: Threads + Wait + Handle + Sync, S: Read + Write + OpenStrea
     };
     let mut wires = Vec::new(alloc);
     wires.push(wire).ok()?;
-    live(rt, alloc, begin, letters, moment, wires)
+    live(rt, alloc, begin, moment, wires)
 }
 
 #[test]
@@ -40,13 +38,13 @@ fn a_lease_is_renewed_over_tcp(rt: HostRuntime) -> Result<(), Fail> {
     let outward = TcpStream::connect(&rt, listener.local_addr()?)?;
     let (inward, _) = listener.accept()?;
     let moment = Moment::new(9000);
-    let first = begun(alloc, Role::Primary, RENEWED.primary)?;
-    let second = begun(alloc, Role::Secondary, RENEWED.secondary)?;
+    let first = begun(alloc, Role::Primary, RENEWED)?;
+    let second = begun(alloc, Role::Secondary, RENEWED)?;
     let (handle, time) = (&rt, &moment);
     let (primary, secondary) = thread::join(
         &rt,
-        move || live_by_stream(handle, alloc, first, RENEWED.primary, time, outward),
-        move || live_by_stream(handle, alloc, second, RENEWED.secondary, time, inward),
+        move || live_by_stream(handle, alloc, first, time, outward),
+        move || live_by_stream(handle, alloc, second, time, inward),
     );
     check_lived(&rt, alloc, RENEWED, primary, secondary)
 }

@@ -1,8 +1,8 @@
 //! Workers and a client over the loopback address.
 
 use crate::answers::served;
-use crate::books::{Left, opened, own};
-use node_threads::{Partner, SystemClock, UdpDatagrams};
+use crate::books::{opened, own};
+use node_threads::{Left, Partner, SystemClock, UdpDatagrams};
 use std::net::{Ipv4Addr, SocketAddr, UdpSocket};
 use std::test::Fail;
 use std::thread;

@@ -1,18 +1,19 @@
 //! Two whole nodes beside each other, and what their journals show.
 
 use crate::answers::octets;
-use crate::books::{opened_by, settings_of};
+use crate::books::{FOUR, opened_by, settings_of};
 use crate::cables::{Cable, CableEnd};
 use crate::evidence::{check_shown, text_of, unit};
 use crate::letters::Letter;
 use crate::moments::Moment;
 use crate::nodes::{Node, by_node};
 use crate::post::Post;
-use crate::stories::{ENDED, RENEWED, Story};
-use binding_rules::Role;
+use crate::stories::{ENDED, RENEWED, RETURNED, Story};
+use binding_rules::{Role, ServerState, UnitStatus};
+use lead_time::Reading;
 use node_threads::{Turns, Wire};
-use prefix_range::Prefix;
-use server_book::{Book, Settings};
+use prefix_range::{Prefix, read_text};
+use server_book::{Book, Order, Settings};
 use std::alloc::Global;
 use std::marker::Brand;
 use std::process::Abort;
@@ -28,14 +29,35 @@ use std::time::Clock as Handle;
 pub struct Begin {
     settings: Settings,
     book: Book,
+    letters: &'static [Letter],
     datagrams: Vec<Vec<u8>>,
     answers: Vec<Vec<u8>>,
     unit: Prefix,
+    joined: u64,
 }
 
-pub fn begun(alloc: Global, role: Role, letters: &[Letter]) -> Result<Begin, Fail> {
-    let settings = settings_of(alloc, role)?;
-    let book = opened_by(alloc, &settings)?;
+/// Orders something of a book.
+fn ordered(book: &mut Book, at: u64, order: &Order) -> Result<(), Fail> {
+    match book.apply(Reading::new(at)?, order) {
+        Ok(_) => Ok(()),
+        Err(_) => Err(Fail::from("not ordered")),
+    }
+}
+
+/// What a side's node begins with.
+pub fn begun(alloc: Global, role: Role, story: Story) -> Result<Begin, Fail> {
+    let settings = settings_of(alloc, role, FOUR)?;
+    let mut book = opened_by(alloc, &settings)?;
+    let unit = unit()?;
+    match (story.parted, role) {
+        (false, _) => {}
+        (true, Role::Primary) => ordered(&mut book, story.begun, &Order::Restart)?,
+        (true, Role::Secondary) => {
+            ordered(&mut book, 9000, &Order::State(ServerState::Down))?;
+            ordered(&mut book, story.begun, &Order::Seize(unit))?;
+        }
+    }
+    let letters = story.letters(role);
     let mut datagrams = Vec::new(alloc);
     let mut answers = Vec::new(alloc);
     for letter in letters {
@@ -45,9 +67,11 @@ pub fn begun(alloc: Global, role: Role, letters: &[Letter]) -> Result<Begin, Fai
     Ok(Begin {
         settings,
         book,
+        letters,
         datagrams,
         answers,
-        unit: unit()?,
+        unit,
+        joined: story.begun.saturating_add(1),
     })
 }
 
@@ -56,22 +80,23 @@ pub fn live<R: Threads + Wait + Handle + Sync, W: Wire + Drop + Send>(
     rt: &R,
     alloc: Global,
     begin: Begin,
-    letters: &[Letter],
     moment: &Moment,
     wires: Vec<W>,
 ) -> Option<Node> {
     let Begin {
         settings,
         book,
+        letters,
         datagrams,
         answers,
         unit,
+        joined,
     } = begin;
     let post = Post::new(&datagrams, &answers);
     let turns = Turns::new(u32::try_from(letters.len()).ok()?);
     let blank = Blank::new(3);
     by_node::<Brand, _, _>(
-        rt, alloc, blank, book, &settings, &post, letters, unit, moment, &turns, wires,
+        rt, alloc, blank, book, &settings, &post, letters, unit, moment, &turns, joined, wires,
     )
 }
 
@@ -81,7 +106,6 @@ fn live_by_cables<R: Threads + Wait + Handle + Sync>(
     alloc: Global,
     role: Role,
     begin: Begin,
-    letters: &[Letter],
     moment: &Moment,
     cables: &[Cable],
 ) -> Option<Node> {
@@ -89,7 +113,7 @@ fn live_by_cables<R: Threads + Wait + Handle + Sync>(
     for cable in cables {
         wires.push(CableEnd::new(rt, cable, role)).ok()?;
     }
-    live(rt, alloc, begin, letters, moment, wires)
+    live(rt, alloc, begin, moment, wires)
 }
 
 /// The text of a node's journal, where all went well.
@@ -118,8 +142,18 @@ fn journal_of(
     text_of(alloc, book, closed)
 }
 
-/// That all went well at both nodes, and that their journals show who held the unit until the second lease may have
-/// ended, and no longer.
+/// Whether the secondary has the last unit to give.
+fn has_last_unit(secondary: &Option<Node>) -> bool {
+    let (Some(node), Ok(last)) = (secondary, read_text(b"2001:db8:0:300::/56")) else {
+        return false;
+    };
+    match &node.book.unit(last) {
+        Some(unit) => unit.status == UnitStatus::FreeBackup,
+        None => false,
+    }
+}
+
+/// That all went well at both nodes, and that their journals show who held the unit, and no longer than that.
 pub fn check_lived(
     rt: &impl Abort,
     alloc: Global,
@@ -127,9 +161,10 @@ pub fn check_lived(
     primary: Option<Node>,
     secondary: Option<Node>,
 ) -> Result<(), Fail> {
+    assert!(rt; has_last_unit(&secondary));
     let primary = journal_of(rt, alloc, primary, story.primary, story.closed)?;
     let secondary = journal_of(rt, alloc, secondary, story.secondary, story.closed)?;
-    check_shown(rt, alloc, &primary, &secondary, 4_990_000, 5_599_000)
+    check_shown(rt, alloc, &primary, &secondary, &story.held)
 }
 
 /// Lets both nodes live the story over a wire that is cut behind so many frames, and then over another.
@@ -141,14 +176,13 @@ fn check_cut(
 ) -> Result<(), Fail> {
     let cables = [Cable::new(alloc, most), Cable::new(alloc, usize::MAX)];
     let moment = Moment::new(9000);
-    let (here, there) = (story.primary, story.secondary);
-    let first = begun(alloc, Role::Primary, here)?;
-    let second = begun(alloc, Role::Secondary, there)?;
+    let first = begun(alloc, Role::Primary, story)?;
+    let second = begun(alloc, Role::Secondary, story)?;
     let (ways, time) = (&cables, &moment);
     let (primary, secondary) = thread::join(
         rt,
-        move || live_by_cables(rt, alloc, Role::Primary, first, here, time, ways),
-        move || live_by_cables(rt, alloc, Role::Secondary, second, there, time, ways),
+        move || live_by_cables(rt, alloc, Role::Primary, first, time, ways),
+        move || live_by_cables(rt, alloc, Role::Secondary, second, time, ways),
     );
     check_lived(rt, alloc, story, primary, secondary)
 }
@@ -158,10 +192,11 @@ fn a_lease_is_renewed_by_the_partner(rt: HostRuntime) -> Result<(), Fail> {
     check_cut(&rt, rt.alloc(), RENEWED, usize::MAX)
 }
 
-// CONNECT and CONNECTREPLY, an update and its reply each way, and DISCONNECT are seven.
+// CONNECT and CONNECTREPLY, POOLREQ and POOLRESP, DISCONNECT, and an update and its reply of the lease, of the renewal
+// and of the unit that moves are eleven.
 #[test]
 fn the_wire_is_cut_behind_each_frame(rt: HostRuntime) -> Result<(), Fail> {
-    for most in 0..7 {
+    for most in 0..11 {
         check_cut(&rt, rt.alloc(), RENEWED, most)?;
     }
     Ok(())
@@ -170,4 +205,9 @@ fn the_wire_is_cut_behind_each_frame(rt: HostRuntime) -> Result<(), Fail> {
 #[test]
 fn a_lease_ends_at_both(rt: HostRuntime) -> Result<(), Fail> {
     check_cut(&rt, rt.alloc(), ENDED, usize::MAX)
+}
+
+#[test]
+fn a_partner_that_was_down_returns(rt: HostRuntime) -> Result<(), Fail> {
+    check_cut(&rt, rt.alloc(), RETURNED, usize::MAX)
 }

@@ -17,25 +17,23 @@ pub struct Script<'a> {
 }
 
 impl<'a> Script<'a> {
-    /// A wire whose reads bring `step` octets at most, which is idle `idles` times, and lets `reads` reads and `writes`
-    /// writes succeed.
-    pub fn new(
-        alloc: Global,
-        octets: &'a [u8],
-        step: usize,
-        idles: usize,
-        reads: usize,
-        writes: usize,
-    ) -> Script<'a> {
+    /// A wire whose reads bring `step` octets at most, and which is idle twice. No call fails.
+    pub fn new(alloc: Global, octets: &'a [u8], step: usize) -> Script<'a> {
         Script {
             octets,
             place: 0,
             step,
-            idles,
-            reads,
-            writes,
+            idles: 2,
+            reads: usize::MAX,
+            writes: usize::MAX,
             written: Vec::new(alloc),
         }
+    }
+
+    /// Lets so many reads and so many writes succeed, and no more.
+    pub fn cut(&mut self, reads: usize, writes: usize) {
+        self.reads = reads;
+        self.writes = writes;
     }
 
     /// All that was written.
