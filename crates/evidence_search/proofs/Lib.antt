@@ -10,3 +10,5 @@ pub mod Reasons
 pub mod Complete
 pub mod Holders
 pub mod Widened
+pub mod Collecting
+pub mod Halving

@@ -19,6 +19,7 @@
 
 mod asking;
 mod bounds;
+mod collected;
 mod error;
 mod evidence;
 mod finding;
@@ -32,8 +33,10 @@ mod ordering;
 mod pieces;
 mod query;
 mod reach;
+mod recent;
 mod releases;
 mod sweep;
+mod walking;
 mod widening;
 
 pub use error::FindError;
