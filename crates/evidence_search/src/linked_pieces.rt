@@ -123,6 +123,30 @@ fn candidate_at<S: LineSource>(
     Some((candidate, begin))
 }
 
+/// The line as a grant with the moments of the query that it carries, as chains show them.
+pub fn linked_reach_at<S: LineSource>(
+    alloc: Global,
+    source: &S,
+    messages: &Messages,
+    recent: &mut Recent,
+    query: &Query,
+    grant: Ref,
+) -> Result<Option<Reach>, AllocError>
+    requires { IsRecent (S.journals source.now) recent.old }
+    ensures { OnOk result (IsRecent (S.journals source.now) recent.new) }
+{
+    let Some((candidate, begin)) = candidate_at(source, messages, query, grant) else {
+        return Ok(None);
+    };
+    let skew = query.skew;
+    let limit = lease_limit(query, &candidate);
+    let kept = kept_limit(alloc, source, messages, recent, &candidate, skew, limit)?;
+    match less_skew(kept, skew) {
+        Some(end) => Ok(Some(Reach { grant, begin, end })),
+        None => Ok(None),
+    }
+}
+
 /// The grants that carry moments of the query, the first that does first.
 fn reaches<S: LineSource>(
     alloc: Global,
@@ -136,23 +160,9 @@ fn reaches<S: LineSource>(
     let mut recent = Recent::new(alloc);
     let mut walk = source.overlaps(&query.prefix);
     while let Some(at) = source.next_overlap(&query.prefix, &mut walk) {
-        let Some((candidate, begin)) = candidate_at(source, messages, query, at) else {
-            continue;
-        };
-        let limit = lease_limit(query, &candidate);
-        let skew = query.skew;
-        let kept = kept_limit(
-            alloc,
-            source,
-            messages,
-            &mut recent,
-            &candidate,
-            skew,
-            limit,
-        )?;
-        if let Some(end) = less_skew(kept, skew) {
-            let grant = candidate.grant;
-            reaches.push(Reach { grant, begin, end })?;
+        let found = linked_reach_at(alloc, source, messages, &mut recent, query, at)?;
+        if let Some(reach) = found {
+            reaches.push(reach)?;
         }
     }
     sort(&mut reaches)?;

@@ -136,7 +136,7 @@ fn end_of<S: LineSource>(
 }
 
 /// The line as a grant with the moments of the query that it carries, where there are any.
-fn reach_at<S: LineSource>(
+pub fn reach_at<S: LineSource>(
     alloc: Global,
     source: &S,
     recent: &mut Recent,

@@ -1,6 +1,6 @@
 use Rattle.std.proofs.Common.{ap, Err, subst, IfSome}
 use Rattle.evidence_search.specs.Claim.{held_by, HasNoPlainEvidence}
-use Rattle.evidence_search.proofs.Holders.{none_asked, asked_on, no_client, asked_client, all_asked}
+use Rattle.evidence_search.proofs.Holders.{none_asked, asked_on, names_none, asked_client, all_asked}
 use Rattle.evidence_search.proofs.holder.holder_over.Goals as goal
 
 pub loop-at-init : goal.loop-at-init
