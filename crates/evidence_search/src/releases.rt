@@ -146,6 +146,10 @@ pub fn returning<S: LineSource>(
         (λ j. GivesBack (S.journals source.now) j delegation.now
         × IsReturnedBy (S.journals source.now) query.now at j)) }
 {
+    let walk = source.releases(delegation);
+    if walking::are_few(source, delegation, walk) {
+        return Ok(walking::returning(source, query, at, delegation, walk));
+    }
     let place = recent.place_for(alloc, source, delegation)?;
     let releases = &recent.collected[place];
     let reading = reading_at(source, at);
@@ -159,7 +163,7 @@ pub fn returning<S: LineSource>(
                 None => Ok(None),
             }
         }
-        _ => Ok(walking::returning(source, query, at, delegation)),
+        _ => Ok(walking::returning(source, query, at, delegation, walk)),
     }
 }
 
