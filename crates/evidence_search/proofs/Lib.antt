@@ -12,3 +12,4 @@ pub mod Holders
 pub mod Widened
 pub mod Collecting
 pub mod Halving
+pub mod Passing

@@ -24,6 +24,7 @@ mod error;
 mod evidence;
 mod finding;
 mod foreign;
+mod guessing;
 mod holder;
 mod linked_foreign;
 mod linked_pieces;

@@ -79,14 +79,12 @@ pub fn kept_limit<S: LineSource>(
     }
 }
 
-/// The first of these releases that is plainly after the line, where it is by the query's beginning.
-fn first_return(releases: &[Dated], query: &Query, line: &Dated) -> Option<Dated>
+/// The first of these releases that is plainly after the line.
+fn first_after(releases: &[Dated], line: &Dated, skew: Skew) -> Option<Dated>
     requires { AreRising releases.now }
-    ensures { MatchOption result
-        ((x : DatedValue) → Has releases.now x → IsReturn query.now line.now x → ⊥)
-        (λ x. Has releases.now x × IsReturn query.now line.now x) }
+    ensures { MatchOption result (NoneFails (λ x. not (shows_before skew line.now x)) releases.now)
+        (IsFirstFailing (λ x. not (shows_before skew line.now x)) releases.now) }
 {
-    let skew = query.skew;
     let place = releases.partition_point(
         |release|
             ensures { result ≡ not (shows_before skew line.entry.now release.now) }
@@ -95,8 +93,20 @@ fn first_return(releases: &[Dated], query: &Query, line: &Dated) -> Option<Dated
     if place == releases.len() {
         return None;
     }
-    let release = releases[place];
-    if release.reading.milliseconds() + skew.milliseconds() > query.from.milliseconds() {
+    Some(releases[place])
+}
+
+/// The first of these releases that is plainly after the line, where it is by the query's beginning.
+fn first_return(releases: &[Dated], query: &Query, line: &Dated) -> Option<Dated>
+    requires { AreRising releases.now }
+    ensures { MatchOption result
+        ((x : DatedValue) → Has releases.now x → IsReturn query.now line.now x → ⊥)
+        (λ x. Has releases.now x × IsReturn query.now line.now x) }
+{
+    let Some(release) = first_after(releases, line, query.skew) else {
+        return None;
+    };
+    if release.reading.milliseconds() + query.skew.milliseconds() > query.from.milliseconds() {
         return None;
     }
     Some(release)
@@ -136,6 +146,10 @@ pub fn returning<S: LineSource>(
         (λ j. GivesBack (S.journals source.now) j delegation.now
         × IsReturnedBy (S.journals source.now) query.now at j)) }
 {
+    let walk = source.releases(delegation);
+    if walking::are_few(source, delegation, walk) {
+        return Ok(walking::returning(source, query, at, delegation, walk));
+    }
     let place = recent.place_for(alloc, source, delegation)?;
     let releases = &recent.collected[place];
     let reading = reading_at(source, at);
@@ -149,6 +163,32 @@ pub fn returning<S: LineSource>(
                 None => Ok(None),
             }
         }
-        _ => Ok(walking::returning(source, query, at, delegation)),
+        _ => Ok(walking::returning(source, query, at, delegation, walk)),
+    }
+}
+
+/// The first line that gives back what this line tells of, plainly after it; none where such lines don't rise.
+pub fn first_returning<S: LineSource>(
+    alloc: Global,
+    source: &S,
+    recent: &mut Recent,
+    skew: Skew,
+    at: Ref,
+    delegation: &Delegation,
+) -> Result<Option<Dated>, AllocError>
+    requires { IsRecent (S.journals source.now) recent.old }
+    ensures { OnOk result (IsRecent (S.journals source.now) recent.new) }
+{
+    let place = recent.place_for(alloc, source, delegation)?;
+    let releases = &recent.collected[place];
+    let reading = reading_at(source, at);
+    match reading {
+        Some(reading) if releases.are_rising => {
+            let line = Dated { at, reading };
+            let primary = first_after(&releases.primary, &line, skew);
+            let secondary = first_after(&releases.secondary, &line, skew);
+            Ok(first_read(primary, secondary))
+        }
+        _ => Ok(None),
     }
 }

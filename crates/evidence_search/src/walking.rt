@@ -1,8 +1,9 @@
-//! What releases leave of a grant, where their readings don't rise: each is looked at.
+//! What releases leave of a grant, each looked at: where they are few, or their readings don't rise.
 
 ghost use Rattle.std.specs.Prelude.{◌≡◌, ◌↔◌, ℕ, ◌+◌, ◌≤◌, IsTrue, MatchOption};
 ghost use Rattle.claims.specs.declared.reference.Ref.{Ref as RefValue};
 ghost use Rattle.attribution.specs.Acceptance.{GivesBack};
+ghost use Rattle.auditor.specs.Walks.{AreReleases};
 ghost use Rattle.evidence_search.specs.Search.{IsReadAt, IsPlainlyBefore, AreKeptTo, IsReturnedBy};
 
 use crate::asking::reading_at;
@@ -10,7 +11,7 @@ use crate::ordering::is_plainly_before;
 use crate::query::Query;
 use crate::reach::Candidate;
 use attribution::Delegation;
-use auditor::LineSource;
+use auditor::{LineSource, Walk};
 use causal_order::{Lines, Ref};
 use lead_time::{Reading, Skew};
 
@@ -61,18 +62,34 @@ pub fn returning<S: LineSource>(
     query: &Query,
     at: Ref,
     delegation: &Delegation,
+    walk: Walk,
 ) -> Option<Ref>
+    requires { AreReleases (S.journals source.now) delegation.now (S.returned source.now delegation.now walk) }
     ensures { MatchOption result
         ((j : RefValue) → GivesBack (S.journals source.now) j delegation.now
         → IsReturnedBy (S.journals source.now) query.now at j → ⊥)
         (λ j. GivesBack (S.journals source.now) j delegation.now
         × IsReturnedBy (S.journals source.now) query.now at j) }
 {
-    let mut walk = source.releases(delegation);
+    let mut walk = walk;
     while let Some(release) = source.next_release(delegation, &mut walk) {
         if is_returned_by(source, query, at, release) {
             return Some(release);
         }
     }
     None
+}
+
+/// How many releases are few.
+const FEW: usize = 16;
+
+/// Whether the walk has no more than a few releases to give.
+pub fn are_few<S: LineSource>(source: &S, delegation: &Delegation, walk: Walk) -> bool {
+    let mut walk = walk;
+    for _index in 0..FEW {
+        if source.next_release(delegation, &mut walk).is_none() {
+            return true;
+        }
+    }
+    false
 }

@@ -1,35 +1,16 @@
-use Rattle.std.proofs.Common.{arith, rules, refl, not}
-use Rattle.std.proofs.lemmas.List.Sorted.{IsPartitionPoint-from_clause}
-use Rattle.std.proofs.lemmas.Option.{slice_get_read, get_or_from_slice_get}
-use Rattle.evidence_search.specs.declared.collected.Dated.{Dated}
-use Rattle.evidence_search.specs.Collected.{shows_before}
-use Rattle.evidence_search.proofs.Halving.{parted_after, none_fails, first_fails, none_return, late_return, one_return}
+use Rattle.std.proofs.Common.{arith}
+use Rattle.evidence_search.proofs.Halving.{none_return, late_return, one_return}
 use Rattle.evidence_search.proofs.releases.first_return.Goals as goal
 
-pub returns-then-place-releases : goal.returns-then-place-releases
-returns-then-place-releases c =
-    let xs = c.args.releases.now in
-    let q = c.args.query.now in
-    let parted = parted_after q.skew xs c.requires c.args.line.now in
-    let point = IsPartitionPoint-from_clause (λ (x : Dated). not (shows_before q.skew c.args.line.now x)) _ _ c.partition_point-place.ensures.partitioned parted (λ a r q k. search rules) in
-    none_return q c.args.line.now xs (none_fails (λ (x : Dated). not (shows_before q.skew c.args.line.now x)) xs c.partition_point-place.result point (omega arith))
+pub returns-in_default : goal.returns-in_default
+returns-in_default c = none_return c.args.query.now c.args.line.now c.args.releases.now c.in_default.ensures
 
 pub returns-then-milliseconds : goal.returns-then-milliseconds
 returns-then-milliseconds c =
-    let xs = c.args.releases.now in
-    let q = c.args.query.now in
-    let parted = parted_after q.skew xs c.requires c.args.line.now in
-    let point = IsPartitionPoint-from_clause (λ (x : Dated). not (shows_before q.skew c.args.line.now x)) _ _ c.partition_point-place.ensures.partitioned parted (λ a r q k. search rules) in
-    let first = first_fails (λ (x : Dated). not (shows_before q.skew c.args.line.now x)) xs c.partition_point-place.result point c.requires c.index-releases-place.result (let bound = c.partition_point-place.ensures.bound in omega arith)
-    (λ d. get_or_from_slice_get xs c.partition_point-place.result c.index-releases-place.result d (slice_get_read xs _ c.partition_point-place.result c.index-releases-place.result refl (let bound = c.partition_point-place.ensures.bound in omega arith) c.index-releases-place.is)) in
-    late_return q c.args.line.now xs c.index-releases-place.result first (let a = c.if-milliseconds.true in let b = c.milliseconds.ensures.value in let d = c.milliseconds-2.ensures.value in let e = c.milliseconds-3.ensures.value in omega arith)
+    late_return c.args.query.now c.args.line.now c.args.releases.now c.in-Some.release c.in-Some.ensures
+    (let a = c.if-milliseconds.true in let b = c.milliseconds.ensures.value in let d = c.milliseconds-2.ensures.value in let e = c.milliseconds-3.ensures.value in omega arith)
 
 pub returns : goal.returns
 returns c =
-    let xs = c.args.releases.now in
-    let q = c.args.query.now in
-    let parted = parted_after q.skew xs c.requires c.args.line.now in
-    let point = IsPartitionPoint-from_clause (λ (x : Dated). not (shows_before q.skew c.args.line.now x)) _ _ c.partition_point-place.ensures.partitioned parted (λ a r q k. search rules) in
-    let first = first_fails (λ (x : Dated). not (shows_before q.skew c.args.line.now x)) xs c.partition_point-place.result point c.requires c.index-releases-place.result (let bound = c.partition_point-place.ensures.bound in omega arith)
-    (λ d. get_or_from_slice_get xs c.partition_point-place.result c.index-releases-place.result d (slice_get_read xs _ c.partition_point-place.result c.index-releases-place.result refl (let bound = c.partition_point-place.ensures.bound in omega arith) c.index-releases-place.is)) in
-    one_return q c.args.line.now xs c.index-releases-place.result first (let a = c.if-milliseconds.false in let b = c.milliseconds.ensures.value in let d = c.milliseconds-2.ensures.value in let e = c.milliseconds-3.ensures.value in omega arith)
+    one_return c.args.query.now c.args.line.now c.args.releases.now c.in-Some.release c.in-Some.ensures
+    (let a = c.if-milliseconds.false in let b = c.milliseconds.ensures.value in let d = c.milliseconds-2.ensures.value in let e = c.milliseconds-3.ensures.value in omega arith)
