@@ -21,7 +21,7 @@ use Rattle.evidence_search.proofs.Orders.{one_reading, not_both}
 module _ (js : Journals) (q : Query) where
   -- ---- which line is one
 
-  grants_at : (c : Candidate) (r : Ref) → c.grant ≡ r → IsCandidate js q c → Grants js r c.lease
+  pub grants_at : (c : Candidate) (r : Ref) → c.grant ≡ r → IsCandidate js q c → Grants js r c.lease
   grants_at c r is h = subst (λ (x : Ref). Grants js x c.lease) is h.grants
 
   read_at : (c : Candidate) (r : Ref) → c.grant ≡ r → IsCandidate js q c → IsReadAt js r c.reading

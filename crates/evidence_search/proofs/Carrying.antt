@@ -39,7 +39,7 @@ has_address : (p : Prefix) → IsPrefix p → (a : ℕ) × HasAddress p a
 has_address p h = (p.address, (h.address, refl))
 
 module _ (js : Journals) (q : Query) where
-  carried_listed : (left : List Ref) → IsListing js q.prefix left → IsPrefix q.prefix → (r : Ref) → Carries js q r → Has left r
+  pub carried_listed : (left : List Ref) → IsListing js q.prefix left → IsPrefix q.prefix → (r : Ref) → Carries js q r → Has left r
   carried_listed left listed prefix r h =
       let c = h.2.0 in
       let of = h.2.2 in

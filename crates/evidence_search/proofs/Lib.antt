@@ -10,3 +10,6 @@ pub mod Reasons
 pub mod Complete
 pub mod Holders
 pub mod Widened
+pub mod Collecting
+pub mod Halving
+pub mod Passing

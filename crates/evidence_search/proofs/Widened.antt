@@ -53,13 +53,13 @@ module _ (js : Journals) (q : Query) where
 
 -- ---- of one client
 
-module _ (js : Journals) (q : HolderQuery) (holder : List ℕ) (next : ℕ) (is : next ≡ q.at + 1) where
+module _ (js : Journals) (q : HolderQuery) (holder : List ℕ) where
   abbrev Held : Query
-  Held = asked holder q.prefix q.at next q.skew q.transit
+  Held = held_by q holder
 
   pub round_of : (r : Result Certificate FindError) → IfOk r (IsShownRound js Held) → IfOk r (IsRound q)
   round_of (Err e) h = tt
-  round_of (Ok c) h = record { prefix = h.prefix; from = h.from; to = (let to = h.to in omega (arith, is)) }
+  round_of (Ok c) h = record { prefix = h.prefix; from = h.from; to = (let to = h.to in omega arith) }
 
   pub accepted_of : (r : Result Certificate FindError) → IfOk r (IsShownRound js Held) → IfOk r (IsAcceptedOf js q)
   accepted_of (Err e) h = tt
@@ -69,16 +69,14 @@ module _ (js : Journals) (q : HolderQuery) (holder : List ℕ) (next : ℕ) (is 
   true_of (Err e) h = tt
   true_of (Ok c) h = h.headline
 
-  none_before : (c : Certificate) (m : ℕ) → c.holder ≡ holder → HasNoPlainEvidence js (between Held m next) → HasNoPlainEvidence js (between (held_by q c.holder) m (q.at + 1))
-  none_before c m of none =
-      subst (λ (h : List ℕ). HasNoPlainEvidence js (asked h q.prefix m (q.at + 1) q.skew q.transit)) (sym of)
-      (subst (λ (n : ℕ). HasNoPlainEvidence js (asked holder q.prefix m n q.skew q.transit)) is none)
+  none_before : (c : Certificate) (m : ℕ) → c.holder ≡ holder → HasNoPlainEvidence js (between Held m (q.at + 1)) → HasNoPlainEvidence js (between (held_by q c.holder) m (q.at + 1))
+  none_before c m of none = subst (λ (h : List ℕ). HasNoPlainEvidence js (asked h q.prefix m (q.at + 1) q.skew q.transit)) (sym of) none
 
   none_behind : (c : Certificate) → c.holder ≡ holder → HasNoPlainEvidence js (between Held c.from (c.to + 1)) → HasNoPlainEvidence js (between (held_by q c.holder) c.from (c.to + 1))
   none_behind c of none = subst (λ (h : List ℕ). HasNoPlainEvidence js (asked h q.prefix c.from (c.to + 1) q.skew q.transit)) (sym of) none
 
   pub widest_of : (r : Result Certificate FindError) → IfOk r (IsShownRound js Held)
-      → IfOk r (λ c. (m : ℕ) → m + 1 ≡ c.from → HasNoPlainEvidence js (between Held m next))
+      → IfOk r (λ c. (m : ℕ) → m + 1 ≡ c.from → HasNoPlainEvidence js (between Held m (q.at + 1)))
       → IfOk r (λ c. HasNoPlainEvidence js (between Held c.from (c.to + 1)))
       → IfOk r (IsWidest js q)
   widest_of (Err e) h before behind = tt

@@ -1,5 +1,5 @@
 -- For bodies only: what single lines show, and what a search makes of them.
-use Rattle.std.specs.Prelude.{◌≡◌, ◌≢◌, ℕ, ◌+◌, ◌*◌, ◌<◌, ◌≤◌, ◌⊎◌, ◌↔◌, ◌==◌, min, List, [], ◌∷◌, Some, All}
+use Rattle.std.specs.Prelude.{◌≡◌, ◌≢◌, ℕ, ◌+◌, ◌*◌, ◌<◌, ◌≤◌, ◌⊎◌, ◌↔◌, ◌==◌, min, List, [], ◌∷◌, Option, Some, All}
 use Rattle.std.specs.Prelude.{if◌then◌else◌, length, slice_get, Contains as Has}
 use Rattle.std.specs.List.Sorted.{IsNonDecreasingBy}
 use Rattle.prefix_range.specs.Prefix.{Contains, Overlaps}
@@ -30,7 +30,7 @@ use Rattle.evidence_search.specs.declared.reach.Candidate.{Candidate}
 use Rattle.evidence_search.specs.declared.reach.Reach.{Reach}
 use Rattle.evidence_search.specs.declared.sweep.Passed.{Passed}
 use Rattle.evidence_search.specs.Plain.{IsPlainReason}
-use Rattle.evidence_search.specs.Claim.{IsShown}
+use Rattle.evidence_search.specs.Claim.{IsShown, held_by}
 
 -- ---- two lines
 
@@ -267,16 +267,10 @@ pub record IsShownRound (js : Journals) (q : Query) (c : Certificate) : Type 0 w
   pub shown : IsShown js q c
   pub headline : IsTrueInEveryRun IsLegal js q.skew q.transit c
 
--- a lease that was granted at this reading may last at the moment, as far as clocks go
-abbrev pub MayLast : Lease → ℕ → HolderQuery → Type 0
-MayLast g x q = (x ≤ q.at + q.skew) × ((g.valid ≡ infinity) ⊎ (q.at < x + q.skew + 1000 * g.valid))
+-- there is a grant, and it carries the moment
+abbrev pub HasMoment : Option Reach → ℕ → Type 0
+HasMoment found m = (x : Reach) × (found ≡ Some x) × (x.begin ≤ m) × (m < x.end)
 
--- the line grants this client such a lease of a prefix round the one asked of
-pub record IsClientAt (js : Journals) (q : HolderQuery) (r : Ref) (holder : List ℕ) : Type 0 where
-  pub lease : Lease
-  pub reading : ℕ
-  pub grants : Grants js r lease
-  pub read : IsReadAt js r reading
-  pub round : Contains lease.prefix q.prefix
-  pub lasts : MayLast lease reading q
-  pub client : lease.client ≡ holder
+-- the line grants this client what carries the moment
+abbrev pub IsClientAt : Journals → HolderQuery → Ref → List ℕ → Type 0
+IsClientAt js q r holder = CarriesAt js (held_by q holder) q.at r

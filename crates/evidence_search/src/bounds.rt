@@ -1,5 +1,9 @@
 //! What chains show of when a line was written.
 
+ghost use Rattle.std.specs.Prelude.{◌≡◌, IfSome};
+ghost use Rattle.evidence_search.specs.Passages.{send_of, take_of};
+ghost use Rattle.evidence_search.specs.Chains.{IsReadAtEnd, IsReadAtBeginning};
+
 use crate::asking::reading_at;
 use crate::messages::{Messages, Passage};
 use causal_order::{Chain, Lines, Ref};
@@ -14,7 +18,10 @@ pub struct Bound {
 }
 
 /// The lines that send and take a message of the server at `from`.
-pub fn ends_of(from: Ref, passage: Passage) -> (Ref, Ref) {
+pub fn ends_of(from: Ref, passage: Passage) -> (Ref, Ref)
+    ensures send { result.0 ≡ send_of from.side passage }
+    ensures take { result.1 ≡ take_of from.side passage }
+{
     let send = Ref {
         side: from.side,
         number: passage.send,
@@ -38,7 +45,9 @@ pub fn chain_of(alloc: Global, refs: &[Ref]) -> Result<Chain, AllocError> {
 }
 
 /// The least reading that a chain from the line can end in.
-pub fn latest<L: Lines>(lines: &L, messages: &Messages, at: Ref) -> Option<Bound> {
+pub fn latest<L: Lines>(lines: &L, messages: &Messages, at: Ref) -> Option<Bound>
+    ensures { IfSome result (IsReadAtEnd (L.journals lines.now) at) }
+{
     let reading = reading_at(lines, at)?;
     let alone = Bound {
         reading,
@@ -59,7 +68,9 @@ pub fn latest<L: Lines>(lines: &L, messages: &Messages, at: Ref) -> Option<Bound
 }
 
 /// What the last message shows that was taken at the line or before it.
-pub fn over_message<L: Lines>(lines: &L, messages: &Messages, at: Ref) -> Option<Bound> {
+pub fn over_message<L: Lines>(lines: &L, messages: &Messages, at: Ref) -> Option<Bound>
+    ensures { IfSome result (IsReadAtBeginning (L.journals lines.now) at) }
+{
     let passage = messages.taken_before(at)?;
     let send = Ref {
         side: at.side.partner(),
@@ -73,7 +84,9 @@ pub fn over_message<L: Lines>(lines: &L, messages: &Messages, at: Ref) -> Option
 }
 
 /// The greatest reading that a chain to the line can begin in.
-pub fn earliest<L: Lines>(lines: &L, messages: &Messages, at: Ref) -> Option<Bound> {
+pub fn earliest<L: Lines>(lines: &L, messages: &Messages, at: Ref) -> Option<Bound>
+    ensures { IfSome result (IsReadAtBeginning (L.journals lines.now) at) }
+{
     let reading = reading_at(lines, at)?;
     match over_message(lines, messages, at) {
         Some(bound) if bound.reading > reading => Some(bound),

@@ -1,8 +1,8 @@
 //! What a search puts together.
 
-ghost use Rattle.std.specs.Prelude.{IfOk, IsErrOf, ◌<◌};
+ghost use Rattle.std.specs.Prelude.{◌≡◌, IfOk, IsErrOf, ◌<◌};
 ghost use Rattle.evidence_search.specs.Claim.{Claims, HasNoPlainEvidence};
-ghost use Rattle.evidence_search.specs.Search.{IsPutTogether};
+ghost use Rattle.evidence_search.specs.Search.{certificate_with, IsPutTogether};
 
 use crate::error::FindError;
 use crate::foreign::foreign_entries;
@@ -12,8 +12,22 @@ use crate::messages::Messages;
 use crate::pieces::pieces;
 use crate::query::Query;
 use auditor::LineSource;
-use claims::Certificate;
+use claims::{Certificate, ForeignList, PieceList};
 use std::alloc::Global;
+
+/// A certificate of the query with these pieces and entries.
+fn certificate_with(query: &Query, pieces: PieceList, foreign: ForeignList) -> Certificate
+    ensures { result ≡ certificate_with query.now pieces foreign }
+{
+    Certificate {
+        holder: query.holder,
+        prefix: query.prefix,
+        from: query.from,
+        to: query.to,
+        pieces,
+        foreign,
+    }
+}
 
 /// The certificate that the lines make for the query. `NoneFound` where a moment is carried by no grant, or another
 /// client's delegation is in the way.
@@ -30,14 +44,7 @@ pub fn evidence<S: LineSource>(
 {
     let foreign = foreign_entries(alloc, source, query)?;
     let pieces = pieces(alloc, source, query)?;
-    Ok(Certificate {
-        holder: query.holder,
-        prefix: query.prefix,
-        from: query.from,
-        to: query.to,
-        pieces,
-        foreign,
-    })
+    Ok(certificate_with(query, pieces, foreign))
 }
 
 /// The most lines of a certificate's text.
@@ -69,14 +76,7 @@ pub fn linked_evidence<S: LineSource>(
 {
     let foreign = linked_foreign(alloc, source, messages, query)?;
     let pieces = linked_pieces(alloc, source, messages, query)?;
-    let certificate = Certificate {
-        holder: query.holder,
-        prefix: query.prefix,
-        from: query.from,
-        to: query.to,
-        pieces,
-        foreign,
-    };
+    let certificate = certificate_with(query, pieces, foreign);
     if !is_short(&certificate) {
         return Err(FindError::NoneFound);
     }

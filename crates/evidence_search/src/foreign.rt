@@ -1,14 +1,16 @@
 //! Why other clients' delegations stay out of the interval.
 
-ghost use Rattle.std.specs.Prelude.{◌≡◌, ◌↔◌, ◌+◌, ◌≤◌, IsTrue, MatchOption, IfOk, IsErrOf};
+ghost use Rattle.std.specs.Prelude.{◌≡◌, ◌↔◌, ◌+◌, ◌≤◌, IsTrue, MatchOption, IfOk, IsErrOf, OnOk};
 ghost use Rattle.attribution.specs.declared.delegation.Delegation.{Delegation as DelegationValue};
 ghost use Rattle.attribution.specs.Acceptance.{EndsBy, IsNew};
+ghost use Rattle.evidence_search.specs.Collected.{IsRecent};
 ghost use Rattle.evidence_search.specs.Search.{IsOthersAt, IsAnothers, IsAside, HasNoReason, AreForeign, IsInTheWay};
 
 use crate::asking::{delegation_at, reading_at};
 use crate::error::FindError;
 use crate::ordering::{plain_order, single};
 use crate::query::Query;
+use crate::recent::Recent;
 use crate::releases::returning;
 use attribution::{Delegation, Lasting};
 use auditor::LineSource;
@@ -50,10 +52,13 @@ pub fn begins_late(query: &Query, lasting: Lasting, told: Reading) -> bool
 fn reason_of<S: LineSource>(
     alloc: Global,
     source: &S,
+    recent: &mut Recent,
     query: &Query,
     at: Ref,
     delegation: &Delegation,
 ) -> Result<Reason, FindError>
+    requires { IsRecent (S.journals source.now) recent.old }
+    ensures recent { OnOk result (IsRecent (S.journals source.now) recent.new) }
     ensures holds { IfOk result (IsAside (S.journals source.now) query.now at delegation.now) }
     ensures none { IsErrOf result FindError.NoneFound
         → HasNoReason (S.journals source.now) query.now at delegation.now }
@@ -67,7 +72,8 @@ fn reason_of<S: LineSource>(
     if begins_late(query, delegation.lasting, told) {
         return Ok(Reason::Late(single(alloc, at)?));
     }
-    let Some(release) = returning(source, query, at, delegation) else {
+    let found = returning(alloc, source, recent, query, at, delegation)?;
+    let Some(release) = found else {
         return Err(FindError::NoneFound);
     };
     let order = plain_order(alloc, at, release)?;
@@ -109,10 +115,11 @@ pub fn foreign_entries<S: LineSource>(
     ensures none { IsErrOf result FindError.NoneFound → IsInTheWay (S.journals source.now) query.now }
 {
     let mut entries = ForeignList::new(alloc);
+    let mut recent = Recent::new(alloc);
     let mut walk = source.overlaps(&query.prefix);
     while let Some(grant) = source.next_overlap(&query.prefix, &mut walk) {
         if let Some(delegation) = others_at(source, query, grant) {
-            let reason = reason_of(alloc, source, query, grant, &delegation)?;
+            let reason = reason_of(alloc, source, &mut recent, query, grant, &delegation)?;
             entries.push(Foreign { grant, reason })?;
         }
     }

@@ -1,53 +1,87 @@
 //! Who held a prefix at a moment.
 
-ghost use Rattle.std.specs.Prelude.{◌≡◌, ◌↔◌, ◌+◌, List, ℕ, IsTrue, IfOk, IsErrOf, MatchOption, Some};
+ghost use Rattle.std.specs.Prelude.{◌≡◌, ◌↔◌, ◌+◌, List, ℕ, IsTrue, IfOk, IsErrOf, MatchOption, OnOk, Some};
 ghost use Rattle.attribution.specs.Acceptance.{IsTrueInEveryRun};
 ghost use Rattle.book_rules.specs.NextHead.{IsLegal};
 ghost use Rattle.evidence_search.specs.Claim.{held_by, HasNoPlainEvidence, IsRound, IsAcceptedOf, IsWidest};
 ghost use Rattle.evidence_search.specs.Claim.{HasNoPlainHolder};
-ghost use Rattle.evidence_search.specs.Search.{MayLast, IsClientAt};
+ghost use Rattle.evidence_search.specs.Collected.{IsRecent};
+ghost use Rattle.evidence_search.specs.Search.{HasMoment, IsClientAt};
 
-use crate::asking::{lease_at, reading_at};
+use crate::asking::lease_at;
 use crate::error::FindError;
+use crate::linked_pieces::linked_reach_at;
 use crate::messages::Messages;
 use crate::query::{HolderQuery, Query};
+use crate::reach::{Reach, reach_at};
+use crate::recent::Recent;
 use crate::widening::widest;
 use auditor::LineSource;
 use binding_rules::Role;
-use causal_order::{Lines, Ref};
+use causal_order::Ref;
 use claims::Certificate;
 use client_id::Duid;
-use journal_lines::Lease;
 use lead_time::Reading;
-use std::alloc::Global;
+use std::alloc::{AllocError, Global};
 
-/// Whether a lease that was granted at this reading may last at the moment, as far as clocks go.
-fn may_last(lease: &Lease, reading: Reading, query: &HolderQuery) -> bool
-    ensures { IsTrue result ↔ MayLast lease.now reading query.now }
+/// Whether this client held the prefix from the moment to the next.
+fn held_by(query: &HolderQuery, holder: Duid, next: Reading) -> Query
+    requires { next ≡ query.now.at + 1 }
+    ensures { result ≡ held_by query.now holder }
 {
-    let at = query.at.milliseconds();
-    let skew = query.skew.milliseconds();
-    let granted = reading.milliseconds();
-    let valid = u64::from(lease.valid);
-    granted <= at + skew && (lease.valid == Lease::INFINITE || at < granted + skew + 1000 * valid)
+    Query {
+        holder,
+        prefix: query.prefix,
+        from: query.at,
+        to: next,
+        skew: query.skew,
+        transit: query.transit,
+    }
 }
 
-/// The client to which the line grants a prefix round the one asked of, by a lease that may last at the moment.
-#[tactic(auto, using(crate::proofs::Holders::client_found, crate::proofs::Holders::no_client_lease, crate::proofs::Holders::no_client_reading, crate::proofs::Holders::not_round, crate::proofs::Holders::not_lasting))]
-fn client_at<L: Lines>(lines: &L, query: &HolderQuery, at: Ref) -> Option<Duid>
-    ensures { MatchOption result
-        ((holder : List ℕ) → IsClientAt (L.journals lines.now) query.now at holder → ⊥)
-        (IsClientAt (L.journals lines.now) query.now at) }
+/// Whether there is a grant, and it carries the moment.
+fn carries(reach: &Option<Reach>, moment: Reading) -> bool
+    ensures { IsTrue result ↔ HasMoment reach.now moment }
 {
-    let lease = lease_at(lines, at)?;
-    let reading = reading_at(lines, at)?;
-    if !lease.prefix.contains(&query.prefix) {
-        return None;
+    match reach {
+        Some(reach) => reach.begin <= moment && moment < reach.end,
+        None => false,
     }
-    if !may_last(&lease, reading, query) {
-        return None;
+}
+
+/// The client to which the line grants what carries the moment, as single lines show it, or these messages.
+fn client_at<S: LineSource>(
+    alloc: Global,
+    source: &S,
+    messages: Option<&Messages>,
+    recent: &mut Recent,
+    query: &HolderQuery,
+    next: Reading,
+    at: Ref,
+) -> Result<Option<Duid>, AllocError>
+    requires next { next ≡ query.now.at + 1 }
+    requires recent { IsRecent (S.journals source.now) recent.old }
+    ensures recent { OnOk result (IsRecent (S.journals source.now) recent.new) }
+    ensures client { IfOk result (λ found. MatchOption found
+        ((holder : List ℕ) → IsClientAt (S.journals source.now) query.now at holder → ⊥)
+        (λ client. (holder : List ℕ) → IsClientAt (S.journals source.now) query.now at holder → holder ≡ client)) }
+{
+    let Some(lease) = lease_at(source, at) else {
+        return Ok(None);
+    };
+    let held = held_by(query, lease.client, next);
+    let plain = reach_at(alloc, source, recent, &held, at)?;
+    if carries(&plain, query.at) {
+        return Ok(Some(lease.client));
     }
-    Some(lease.client)
+    let Some(messages) = messages else {
+        return Ok(None);
+    };
+    let linked = linked_reach_at(alloc, source, messages, recent, &held, at)?;
+    if carries(&linked, query.at) {
+        return Ok(Some(lease.client));
+    }
+    Ok(None)
 }
 
 /// Whether this client is the last that was asked about.
@@ -78,14 +112,7 @@ fn widest_of<S: LineSource>(
     ensures none { IsErrOf result FindError.NoneFound
         → HasNoPlainEvidence (S.journals source.now) (held_by query.now holder) }
 {
-    let held = Query {
-        holder,
-        prefix: query.prefix,
-        from: query.at,
-        to: next,
-        skew: query.skew,
-        transit: query.transit,
-    };
+    let held = held_by(query, holder, next);
     widest(alloc, source, messages, &held)
 }
 
@@ -107,9 +134,11 @@ fn holder_over<S: LineSource>(
 {
     let _bits = query.prefix.len();
     let mut last = None;
+    let mut recent = Recent::new(alloc);
     let mut walk = source.overlaps(&query.prefix);
     while let Some(at) = source.next_overlap(&query.prefix, &mut walk) {
-        let Some(client) = client_at(source, query, at) else {
+        let found = client_at(alloc, source, messages, &mut recent, query, next, at)?;
+        let Some(client) = found else {
             continue;
         };
         if is_last(&last, &client) {

@@ -19,10 +19,12 @@
 
 mod asking;
 mod bounds;
+mod collected;
 mod error;
 mod evidence;
 mod finding;
 mod foreign;
+mod guessing;
 mod holder;
 mod linked_foreign;
 mod linked_pieces;
@@ -32,8 +34,10 @@ mod ordering;
 mod pieces;
 mod query;
 mod reach;
+mod recent;
 mod releases;
 mod sweep;
+mod walking;
 mod widening;
 
 pub use error::FindError;

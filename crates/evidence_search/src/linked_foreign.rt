@@ -1,47 +1,60 @@
 //! Why other clients' delegations stay out of the interval, by chains through both journals.
 
+ghost use Rattle.std.specs.Prelude.{OnOk};
+ghost use Rattle.evidence_search.specs.Collected.{IsRecent};
+
 use crate::bounds::{earliest, earliest_chain, latest, latest_chain};
+use crate::collected::Dated;
 use crate::error::FindError;
 use crate::foreign::{begins_late, has_ended, others_at};
 use crate::linking::{is_before, order};
 use crate::messages::Messages;
 use crate::query::Query;
+use crate::recent::Recent;
+use crate::releases::first_read;
 use attribution::Delegation;
 use auditor::LineSource;
 use causal_order::{Lines, Ref};
 use claims::{Foreign, ForeignList, Reason};
-use std::alloc::Global;
+use std::alloc::{AllocError, Global};
 
-/// Whether the release was shown to be written after the line, and by the query's beginning.
-fn is_returned_by<L: Lines>(
+/// The first of a server's releases that was shown to be written after the line, where it was by the query's beginning.
+fn first_return<L: Lines>(
     lines: &L,
     messages: &Messages,
     query: &Query,
     at: Ref,
-    release: Ref,
-) -> bool {
-    let Some(bound) = latest(lines, messages, release) else {
-        return false;
-    };
-    bound.reading.milliseconds() + query.skew.milliseconds() <= query.from.milliseconds()
-        && is_before(lines, messages, at, release, query.skew)
+    releases: &[Dated],
+) -> Option<Dated> {
+    let place = releases.partition_point(|release| !is_before(
+        lines, messages, at, release.at, query.skew,
+    ));
+    let release = *releases.get(place)?;
+    let bound = latest(lines, messages, release.at)?;
+    if bound.reading.milliseconds() + query.skew.milliseconds() > query.from.milliseconds() {
+        return None;
+    }
+    Some(release)
 }
 
 /// A line that gives back what this line tells of, after it and by the query's beginning.
 fn returning<S: LineSource>(
+    alloc: Global,
     source: &S,
     messages: &Messages,
+    recent: &mut Recent,
     query: &Query,
     at: Ref,
     delegation: &Delegation,
-) -> Option<Ref> {
-    let mut walk = source.releases(delegation);
-    while let Some(release) = source.next_release(delegation, &mut walk) {
-        if is_returned_by(source, messages, query, at, release) {
-            return Some(release);
-        }
-    }
-    None
+) -> Result<Option<Dated>, AllocError>
+    requires { IsRecent (S.journals source.now) recent.old }
+    ensures { OnOk result (IsRecent (S.journals source.now) recent.new) }
+{
+    let place = recent.place_for(alloc, source, delegation)?;
+    let releases = &recent.collected[place];
+    let primary = first_return(source, messages, query, at, &releases.primary);
+    let secondary = first_return(source, messages, query, at, &releases.secondary);
+    Ok(first_read(primary, secondary))
 }
 
 /// The reason that such a line gives.
@@ -51,11 +64,8 @@ fn returned<S: LineSource>(
     messages: &Messages,
     query: &Query,
     at: Ref,
-    delegation: &Delegation,
+    release: Ref,
 ) -> Result<Reason, FindError> {
-    let Some(release) = returning(source, messages, query, at, delegation) else {
-        return Err(FindError::NoneFound);
-    };
     let Some(bound) = latest(source, messages, release) else {
         return Err(FindError::NoneFound);
     };
@@ -73,10 +83,14 @@ fn reason_of<S: LineSource>(
     alloc: Global,
     source: &S,
     messages: &Messages,
+    recent: &mut Recent,
     query: &Query,
     at: Ref,
     delegation: &Delegation,
-) -> Result<Reason, FindError> {
+) -> Result<Reason, FindError>
+    requires { IsRecent (S.journals source.now) recent.old }
+    ensures { OnOk result (IsRecent (S.journals source.now) recent.new) }
+{
     let (Some(told), Some(since)) = (latest(source, messages, at), earliest(source, messages, at))
     else {
         return Err(FindError::NoneFound);
@@ -87,7 +101,11 @@ fn reason_of<S: LineSource>(
     if begins_late(query, delegation.lasting, since.reading) {
         return Ok(Reason::Late(earliest_chain(alloc, at, &since)?));
     }
-    returned(alloc, source, messages, query, at, delegation)
+    let found = returning(alloc, source, messages, recent, query, at, delegation)?;
+    let Some(release) = found else {
+        return Err(FindError::NoneFound);
+    };
+    returned(alloc, source, messages, query, at, release.at)
 }
 
 /// An entry for each line that tells of such a delegation. `NoneFound` where one is in the way.
@@ -98,10 +116,12 @@ pub fn linked_foreign<S: LineSource>(
     query: &Query,
 ) -> Result<ForeignList, FindError> {
     let mut entries = ForeignList::new(alloc);
+    let mut recent = Recent::new(alloc);
     let mut walk = source.overlaps(&query.prefix);
     while let Some(grant) = source.next_overlap(&query.prefix, &mut walk) {
         if let Some(delegation) = others_at(source, query, grant) {
-            let reason = reason_of(alloc, source, messages, query, grant, &delegation)?;
+            let recent = &mut recent;
+            let reason = reason_of(alloc, source, messages, recent, query, grant, &delegation)?;
             entries.push(Foreign { grant, reason })?;
         }
     }

@@ -1,16 +1,19 @@
 //! The pieces that carry an interval, by chains through both journals.
 
-ghost use Rattle.std.specs.Prelude.{IfOk};
+ghost use Rattle.std.specs.Prelude.{IfOk, OnOk};
+ghost use Rattle.evidence_search.specs.Collected.{IsRecent};
 ghost use Rattle.evidence_search.specs.Search.{AreInOrder};
 
 use crate::asking::{lease_at, reading_at};
 use crate::bounds::{Bound, earliest, earliest_chain, latest, latest_chain, over_message};
+use crate::collected::Dated;
 use crate::error::FindError;
 use crate::linking::{is_before, order};
 use crate::messages::Messages;
 use crate::ordering::are_apart;
 use crate::query::Query;
 use crate::reach::{Candidate, Reach, begin_of, is_holders, lease_limit, less_skew};
+use crate::recent::Recent;
 use crate::sweep::{Passed, farthest, pass, sort};
 use attribution::Delegation;
 use auditor::LineSource;
@@ -49,58 +52,99 @@ fn granted_from<S: LineSource>(
     over_message(source, messages, at)
 }
 
-/// What releases leave of this reading, up to which a lease lasts.
-fn kept_limit<S: LineSource>(
-    source: &S,
+/// What a server's releases leave of this reading, up to which a lease lasts: the first that isn't before the grant.
+fn kept_by<L: Lines>(
+    lines: &L,
     messages: &Messages,
-    candidate: &Candidate,
+    releases: &[Dated],
+    grant: Ref,
     skew: Skew,
     limit: u64,
 ) -> u64 {
-    let delegation = Delegation::of_lease(&candidate.lease);
-    let mut kept = limit;
-    let mut walk = source.releases(&delegation);
-    while let Some(release) = source.next_release(&delegation, &mut walk) {
-        if is_before(source, messages, release, candidate.grant, skew) {
-            continue;
-        }
-        if let Some(bound) = earliest(source, messages, release) {
-            kept = kept.min(bound.reading.milliseconds());
-        }
+    let place = releases.partition_point(|release| is_before(
+        lines, messages, release.at, grant, skew,
+    ));
+    let Some(release) = releases.get(place) else {
+        return limit;
+    };
+    match earliest(lines, messages, release.at) {
+        Some(bound) => limit.min(bound.reading.milliseconds()),
+        None => limit,
     }
-    kept
 }
 
-/// The line as a grant with the moments of the query that it carries, where there are any.
-fn reach_at<S: LineSource>(
+/// What releases leave of this reading, up to which a lease lasts.
+fn kept_limit<S: LineSource>(
+    alloc: Global,
+    source: &S,
+    messages: &Messages,
+    recent: &mut Recent,
+    candidate: &Candidate,
+    skew: Skew,
+    limit: u64,
+) -> Result<u64, AllocError>
+    requires { IsRecent (S.journals source.now) recent.old }
+    ensures { OnOk result (IsRecent (S.journals source.now) recent.new) }
+{
+    let delegation = Delegation::of_lease(&candidate.lease);
+    let place = recent.place_for(alloc, source, &delegation)?;
+    let releases = &recent.collected[place];
+    let grant = candidate.grant;
+    let kept = kept_by(source, messages, &releases.primary, grant, skew, limit);
+    Ok(kept_by(source, messages, &releases.secondary, grant, skew, kept))
+}
+
+/// The line as a grant that may carry pieces, as chains show when it was written, and from when on it does.
+fn candidate_at<S: LineSource>(
     source: &S,
     messages: &Messages,
     query: &Query,
     grant: Ref,
-) -> Option<Reach> {
+) -> Option<(Candidate, Reading)> {
     let lease = lease_at(source, grant)?;
     if !is_holders(&lease, query) {
         return None;
     }
-    let reached = latest(source, messages, grant)?;
+    let reading = latest(source, messages, grant)?.reading;
     let begin = begin_of(
         query,
         &Candidate {
             grant,
             lease,
-            reading: reached.reading,
+            reading,
         },
     )?;
-    let granted = granted_from(source, messages, grant, query.skew)?;
+    let reading = granted_from(source, messages, grant, query.skew)?.reading;
     let candidate = Candidate {
         grant,
         lease,
-        reading: granted.reading,
+        reading,
     };
+    Some((candidate, begin))
+}
+
+/// The line as a grant with the moments of the query that it carries, as chains show them.
+pub fn linked_reach_at<S: LineSource>(
+    alloc: Global,
+    source: &S,
+    messages: &Messages,
+    recent: &mut Recent,
+    query: &Query,
+    grant: Ref,
+) -> Result<Option<Reach>, AllocError>
+    requires { IsRecent (S.journals source.now) recent.old }
+    ensures { OnOk result (IsRecent (S.journals source.now) recent.new) }
+{
+    let Some((candidate, begin)) = candidate_at(source, messages, query, grant) else {
+        return Ok(None);
+    };
+    let skew = query.skew;
     let limit = lease_limit(query, &candidate);
-    let kept = kept_limit(source, messages, &candidate, query.skew, limit);
-    let end = less_skew(kept, query.skew)?;
-    Some(Reach { grant, begin, end })
+    let kept = kept_limit(alloc, source, messages, recent, &candidate, skew, limit)?;
+    match less_skew(kept, skew) {
+        Some(end) => Ok(Some(Reach { grant, begin, end })),
+        None => Ok(None),
+    }
 }
 
 /// The grants that carry moments of the query, the first that does first.
@@ -113,9 +157,11 @@ fn reaches<S: LineSource>(
     ensures { IfOk result (λ xs. AreInOrder xs.items) }
 {
     let mut reaches = Vec::new(alloc);
+    let mut recent = Recent::new(alloc);
     let mut walk = source.overlaps(&query.prefix);
     while let Some(at) = source.next_overlap(&query.prefix, &mut walk) {
-        if let Some(reach) = reach_at(source, messages, query, at) {
+        let found = linked_reach_at(alloc, source, messages, &mut recent, query, at)?;
+        if let Some(reach) = found {
             reaches.push(reach)?;
         }
     }

@@ -1,5 +1,8 @@
 //! The order of two lines, as chains through both journals show it.
 
+ghost use Rattle.std.specs.Prelude.{IfSome};
+ghost use Rattle.evidence_search.specs.Chains.{IsLinking};
+
 use crate::bounds::{chain_of, earliest, earliest_chain, ends_of, latest, latest_chain};
 use crate::messages::{Messages, Passage};
 use crate::ordering::{are_apart, is_plainly_before, plain_order};
@@ -8,7 +11,9 @@ use lead_time::Skew;
 use std::alloc::{AllocError, Global};
 
 /// The message that leads from the first line to the second.
-fn linking(messages: &Messages, first: Ref, second: Ref) -> Option<Passage> {
+fn linking(messages: &Messages, first: Ref, second: Ref) -> Option<Passage>
+    ensures { IfSome result (IsLinking messages.now first second) }
+{
     if first.side == second.side {
         return None;
     }

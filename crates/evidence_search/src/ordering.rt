@@ -2,9 +2,11 @@
 
 ghost use Rattle.std.specs.Prelude.{◌≡◌, ◌↔◌, ◌+◌, ◌<◌, [], ◌∷◌, IsTrue, IfOk};
 ghost use Rattle.causal_order.specs.Tests.{is_later};
+ghost use Rattle.evidence_search.specs.Collected.{shows_before};
 ghost use Rattle.evidence_search.specs.Search.{IsPlainlyBefore, plain_order};
 
 use crate::asking::reading_at;
+use crate::collected::Dated;
 use causal_order::{Chain, Lines, Precedes, Ref};
 use lead_time::{Reading, Skew};
 use std::alloc::{AllocError, Global};
@@ -21,6 +23,14 @@ pub fn are_apart(earlier: Reading, later: Reading, skew: Skew) -> bool
     ensures { IsTrue result ↔ (earlier + skew + skew < later) }
 {
     earlier.milliseconds() + 2 * skew.milliseconds() < later.milliseconds()
+}
+
+/// Whether two lines and their readings show that the first was written before the second.
+pub fn shows_before(first: &Dated, second: &Dated, skew: Skew) -> bool
+    ensures { result ≡ shows_before skew first.now second.now }
+{
+    is_later(first.at, second.at)
+        || first.reading.milliseconds() + 2 * skew.milliseconds() < second.reading.milliseconds()
 }
 
 /// Whether the two lines alone show that the first was written before the second: by their journal, or by their clocks.

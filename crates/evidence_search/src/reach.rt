@@ -1,12 +1,15 @@
 //! The moments that the holder's grants carry.
 
 ghost use Rattle.std.specs.Prelude.{◌≡◌, ◌↔◌, ℕ, ◌+◌, ◌^◌, ◌<◌, ◌≤◌, ◌⊎◌, All, IsTrue, MatchOption, IfOk};
+ghost use Rattle.std.specs.Prelude.{OnOk};
+ghost use Rattle.evidence_search.specs.Collected.{IsRecent};
 ghost use Rattle.evidence_search.specs.Search.{IsPastPartners, IsHolders, NoCandidateAt, IsCandidate, CarriesTo};
 ghost use Rattle.evidence_search.specs.Search.{begin_of, lease_limit, CarriesAt, IsReach, AreAllReaches, AreInOrder};
 
 use crate::asking::{lease_at, reading_at};
 use crate::ordering::are_apart;
 use crate::query::Query;
+use crate::recent::Recent;
 use crate::releases::kept_limit;
 use crate::sweep::sort;
 use auditor::LineSource;
@@ -111,33 +114,56 @@ pub fn less_skew(reading: u64, skew: Skew) -> Option<Reading>
 }
 
 /// Up to when the grant may carry a piece. `None` where that isn't past the query's beginning.
-fn end_of<S: LineSource>(source: &S, query: &Query, candidate: &Candidate) -> Option<Reading>
-    ensures { MatchOption result
+fn end_of<S: LineSource>(
+    alloc: Global,
+    source: &S,
+    recent: &mut Recent,
+    query: &Query,
+    candidate: &Candidate,
+) -> Result<Option<Reading>, AllocError>
+    requires { IsRecent (S.journals source.now) recent.old }
+    ensures recent { OnOk result (IsRecent (S.journals source.now) recent.new) }
+    ensures end { IfOk result (λ found. MatchOption found
         ((m : ℕ) → query.now.from ≤ m → CarriesTo (S.journals source.now) query.now candidate.now (m + 1) → ⊥)
-        (λ end. (to : ℕ) → CarriesTo (S.journals source.now) query.now candidate.now to ↔ to ≤ end) }
+        (λ end. (to : ℕ) → CarriesTo (S.journals source.now) query.now candidate.now to ↔ to ≤ end)) }
 {
     let limit = lease_limit(query, candidate);
     if limit <= query.from.milliseconds() + query.skew.milliseconds() {
-        return None;
+        return Ok(None);
     }
-    let kept = kept_limit(source, candidate, query.skew, limit);
-    less_skew(kept, query.skew)
+    let kept = kept_limit(alloc, source, recent, candidate, query.skew, limit)?;
+    Ok(less_skew(kept, query.skew))
 }
 
 /// The line as a grant with the moments of the query that it carries, where there are any.
-fn reach_at<S: LineSource>(source: &S, query: &Query, at: Ref) -> Option<Reach>
-    ensures { MatchOption result
+pub fn reach_at<S: LineSource>(
+    alloc: Global,
+    source: &S,
+    recent: &mut Recent,
+    query: &Query,
+    at: Ref,
+) -> Result<Option<Reach>, AllocError>
+    requires { IsRecent (S.journals source.now) recent.old }
+    ensures recent { OnOk result (IsRecent (S.journals source.now) recent.new) }
+    ensures reach { IfOk result (λ found. MatchOption found
         ((m : ℕ) → query.now.from ≤ m → CarriesAt (S.journals source.now) query.now m at → ⊥)
-        (λ x. (x.grant ≡ at) × IsReach (S.journals source.now) query.now x) }
+        (λ x. (x.grant ≡ at) × IsReach (S.journals source.now) query.now x)) }
 {
-    let candidate = candidate_at(source, query, at)?;
-    let begin = begin_of(query, &candidate)?;
-    let end = end_of(source, query, &candidate)?;
-    Some(Reach {
-        grant: at,
-        begin,
-        end,
-    })
+    let Some(candidate) = candidate_at(source, query, at) else {
+        return Ok(None);
+    };
+    let Some(begin) = begin_of(query, &candidate) else {
+        return Ok(None);
+    };
+    let end = end_of(alloc, source, recent, query, &candidate)?;
+    match end {
+        Some(end) => Ok(Some(Reach {
+            grant: at,
+            begin,
+            end,
+        })),
+        None => Ok(None),
+    }
 }
 
 /// The grants that carry moments of the query, in the order in which the source gives their lines.
@@ -151,9 +177,11 @@ fn found_reaches<S: LineSource>(
 {
     let _bits = query.prefix.len();
     let mut reaches = Vec::new(alloc);
+    let mut recent = Recent::new(alloc);
     let mut walk = source.overlaps(&query.prefix);
     while let Some(at) = source.next_overlap(&query.prefix, &mut walk) {
-        if let Some(reach) = reach_at(source, query, at) {
+        let found = reach_at(alloc, source, &mut recent, query, at)?;
+        if let Some(reach) = found {
             reaches.push(reach)?;
         }
     }

@@ -9,6 +9,7 @@ ghost use Rattle.evidence_search.specs.Search.{IsShownRound};
 
 use crate::error::FindError;
 use crate::finding::search_over;
+use crate::guessing::guess_round;
 use crate::messages::Messages;
 use crate::query::Query;
 use crate::reach::less_skew;
@@ -29,13 +30,22 @@ fn moment(milliseconds: u64, latest: Reading) -> Reading
     }
 }
 
-/// The certificate of the earliest beginning that is shown, found by halving.
+/// How far to go from what is shown to what isn't: so far, but a millisecond at least and no farther than there.
+fn stride(step: u64, room: u64) -> u64
+    requires { 0 < room }
+    ensures { (0 < result) × (result ≤ room) }
+{
+    step.max(1).min(room)
+}
+
+/// The certificate of the earliest beginning that is shown. The guess is tried first, and the millisecond before it.
 fn from_earliest<S: LineSource>(
     alloc: Global,
     source: &S,
     messages: Option<&Messages>,
     query: &Query,
     found: Certificate,
+    guess: u64,
 ) -> Result<Certificate, FindError>
     requires round { IsShownRound (S.journals source.now) query.now found }
     requires to { found.to ≡ query.now.to }
@@ -45,14 +55,24 @@ fn from_earliest<S: LineSource>(
         → HasNoPlainEvidence (S.journals source.now) (between query.now m query.now.to)) }
     ensures found { IsErrOf result FindError.NoneFound → ⊥ }
 {
+    let mut step = found.from.milliseconds().saturating_sub(guess);
+    let mut growth = 0;
     let mut found = found;
     let mut low = 0;
     while low < found.from.milliseconds() {
-        let from = moment(low + (found.from.milliseconds() - low) / 2, found.from);
+        let shown = found.from.milliseconds();
+        let from = moment(shown - stride(step, shown - low), found.from);
         let wider = Query { from, ..*query };
         match search_over(alloc, source, messages, &wider) {
-            Ok(certificate) => found = certificate,
-            Err(FindError::NoneFound) => low = from.milliseconds() + 1,
+            Ok(certificate) => {
+                found = certificate;
+                step = step.saturating_mul(growth).max(1);
+                growth = 2;
+            }
+            Err(FindError::NoneFound) => {
+                low = from.milliseconds() + 1;
+                step = (shown - from.milliseconds()) / 2;
+            }
             Err(FindError::Memory) => return Err(FindError::Memory),
         }
     }
@@ -75,13 +95,15 @@ fn last_shown<S: LineSource>(source: &S, skew: Skew, least: Reading) -> Reading
     }
 }
 
-/// The certificate of the latest end that is shown from the same beginning, found by halving.
+/// The certificate of the latest end that is shown from the same beginning. The guess is tried first, and the
+/// millisecond behind it.
 fn to_latest<S: LineSource>(
     alloc: Global,
     source: &S,
     messages: Option<&Messages>,
     query: &Query,
     found: Certificate,
+    guess: u64,
 ) -> Result<Certificate, FindError>
     requires round { IsShownRound (S.journals source.now) query.now found }
     ensures round { IfOk result (IsShownRound (S.journals source.now) query.now) }
@@ -91,15 +113,24 @@ fn to_latest<S: LineSource>(
     ensures found { IsErrOf result FindError.NoneFound → ⊥ }
 {
     let from = found.from;
+    let mut step = guess.saturating_sub(found.to.milliseconds());
+    let mut growth = 0;
     let mut found = found;
     let mut high = last_shown(source, query.skew, found.to);
-    while found.to < high {
-        let half = (high.milliseconds() - found.to.milliseconds()) / 2;
-        let to = moment(high.milliseconds() - half, high);
+    while found.to.milliseconds() < high.milliseconds() {
+        let shown = found.to.milliseconds();
+        let to = moment(shown + stride(step, high.milliseconds() - shown), high);
         let wider = Query { from, to, ..*query };
         match search_over(alloc, source, messages, &wider) {
-            Ok(certificate) => found = certificate,
-            Err(FindError::NoneFound) => high = moment(to.milliseconds() - 1, to),
+            Ok(certificate) => {
+                found = certificate;
+                step = step.saturating_mul(growth).max(1);
+                growth = 2;
+            }
+            Err(FindError::NoneFound) => {
+                high = moment(to.milliseconds() - 1, to);
+                step = (to.milliseconds() - shown) / 2;
+            }
             Err(FindError::Memory) => return Err(FindError::Memory),
         }
     }
@@ -122,6 +153,12 @@ pub fn widest<S: LineSource>(
     ensures none { IsErrOf result FindError.NoneFound → HasNoPlainEvidence (S.journals source.now) query.now }
 {
     let found = search_over(alloc, source, messages, query)?;
-    let found = from_earliest(alloc, source, messages, query, found)?;
-    to_latest(alloc, source, messages, query, found)
+    let wide = Query {
+        from: moment(0, query.from),
+        to: last_shown(source, query.skew, query.to),
+        ..*query
+    };
+    let guess = guess_round(alloc, source, query, &wide)?;
+    let found = from_earliest(alloc, source, messages, query, found, guess.from)?;
+    to_latest(alloc, source, messages, query, found, guess.to)
 }

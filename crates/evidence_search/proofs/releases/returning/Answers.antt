@@ -1,8 +1,17 @@
-use Rattle.evidence_search.proofs.Kept.{not_returned, all_passed}
+use Rattle.evidence_search.proofs.Collecting.{placed}
+use Rattle.evidence_search.proofs.Halving.{some_returns, neither_returns}
 use Rattle.evidence_search.proofs.releases.returning.Goals as goal
 
-pub loop-release-preserved : goal.loop-release-preserved
-loop-release-preserved g c = not_returned _ _ _ _ _ _ _ c.in-Some.ensures (λ h. let t = c.is_returned_by.ensures.1 h in absurd (cc)) c.loop-release.invariant
+pub returns-in-Some-first_read-clause-returning : goal.returns-in-Some-first_read-clause-returning
+returns-in-Some-first_read-clause-returning g c =
+    let js = g.S.Lines.journals c.args.source.now in
+    let found = placed js c.place_for.new.self c.args.delegation.now c.in_ok-place.place c.index-releases.result.now c.in_ok-place.ensures.recent c.in_ok-place.ensures.place c.index-releases.ensures in
+    some_returns js c.args.delegation.now c.index-releases.result.now found.0 found.1 c.args.query.now (record { at = c.args.at; reading = c.in-Some.reading }) c.in-Some.ensures
+    _ _ c.deref.ensures.value c.deref-in-Some.ensures.value _ _ c.first_return-primary.ensures c.first_return-secondary.ensures c.in-Some-first_read.release c.in-Some-first_read.ensures
 
-pub returns : goal.returns
-returns g c = all_passed _ _ _ _ _ c.in_default.ensures c.loop-release.invariant
+pub returns-in-None-clause-returning : goal.returns-in-None-clause-returning
+returns-in-None-clause-returning g c =
+    let js = g.S.Lines.journals c.args.source.now in
+    let found = placed js c.place_for.new.self c.args.delegation.now c.in_ok-place.place c.index-releases.result.now c.in_ok-place.ensures.recent c.in_ok-place.ensures.place c.index-releases.ensures in
+    neither_returns js c.args.delegation.now c.index-releases.result.now found.0 found.1 c.args.query.now (record { at = c.args.at; reading = c.in-Some.reading }) c.in-Some.ensures
+    _ _ c.deref.ensures.value c.deref-in-Some.ensures.value _ _ c.first_return-primary.ensures c.first_return-secondary.ensures c.in-None.ensures

@@ -1,6 +1,6 @@
 use Rattle.std.proofs.Common.{length}
 use Rattle.evidence_search.proofs.Kept.{IsKept}
-use Rattle.evidence_search.proofs.releases.kept_limit.Given as goal
+use Rattle.evidence_search.proofs.walking.kept_limit.Given as goal
 
 abbrev pub invariant-loop-release : goal.invariant-loop-release
 invariant-loop-release g l = IsKept (g.S.Lines.journals l.source) l.skew l.candidate l.delegation l.limit (g.S.LineSource.returned l.source l.delegation l.walk) l.kept

@@ -1,0 +1,137 @@
+//! How far round a query evidence may reach: guesses, which a search is asked about like any other interval.
+
+ghost use Rattle.std.specs.Prelude.{OnOk};
+ghost use Rattle.evidence_search.specs.Collected.{IsRecent};
+
+use crate::asking::reading_at;
+use crate::foreign::{begins_late, others_at};
+use crate::query::Query;
+use crate::reach::{Reach, reaches};
+use crate::recent::Recent;
+use crate::releases::first_returning;
+use attribution::{Delegation, Lasting};
+use auditor::LineSource;
+use binding_rules::Role;
+use causal_order::Ref;
+use journal_lines::Lease;
+use lead_time::Reading;
+use std::alloc::{AllocError, Global};
+
+/// From when to when, in milliseconds.
+#[derive(Clone, Copy, Debug)]
+pub struct Guess {
+    pub from: u64,
+    pub to: u64,
+}
+
+impl Guess {
+    fn not_before(self, from: u64) -> Guess {
+        Guess {
+            from: self.from.max(from),
+            to: self.to,
+        }
+    }
+
+    fn not_behind(self, to: u64) -> Guess {
+        Guess {
+            from: self.from,
+            to: self.to.min(to),
+        }
+    }
+}
+
+/// What grants carry end to end round the moment. They stand in the order in which they begin.
+fn carried_round(reaches: &[Reach], moment: Reading) -> Guess {
+    let mut carried = Guess { from: 0, to: 0 };
+    for reach in reaches {
+        let begin = reach.begin.milliseconds();
+        if begin > carried.to {
+            if carried.to > moment.milliseconds() {
+                return carried;
+            }
+            carried.from = begin;
+        }
+        carried.to = carried.to.max(reach.end.milliseconds());
+    }
+    carried
+}
+
+/// When what was told of at this reading has surely ended.
+fn ended(query: &Query, lasting: Lasting, told: Reading) -> u64 {
+    let late = query.skew.milliseconds() + query.transit.milliseconds();
+    match lasting {
+        Lasting::For(seconds) => {
+            if seconds == Lease::INFINITE {
+                return u64::MAX;
+            }
+            told.milliseconds() + late + 1000 * u64::from(seconds)
+        }
+        Lasting::Until(end) => end.milliseconds() + late,
+    }
+}
+
+/// What another client's delegation leaves of the guess.
+fn beside<S: LineSource>(
+    alloc: Global,
+    source: &S,
+    recent: &mut Recent,
+    query: &Query,
+    at: Ref,
+    delegation: &Delegation,
+    guess: Guess,
+) -> Result<Guess, AllocError>
+    requires { IsRecent (S.journals source.now) recent.old }
+    ensures { OnOk result (IsRecent (S.journals source.now) recent.new) }
+{
+    let Some(told) = reading_at(source, at) else {
+        return Ok(guess);
+    };
+    let skew = query.skew.milliseconds();
+    if begins_late(query, delegation.lasting, told) {
+        return Ok(guess.not_behind(told.milliseconds().saturating_sub(skew)));
+    }
+    let over = ended(query, delegation.lasting, told);
+    let release = first_returning(alloc, source, recent, query.skew, at, delegation)?;
+    let over = match release {
+        Some(release) => over.min(release.reading.milliseconds() + skew),
+        None => over,
+    };
+    Ok(guess.not_before(over))
+}
+
+/// What the side's journal leaves of the guess: where it has earlier volumes, and where it was closed.
+fn shown_by<S: LineSource>(source: &S, query: &Query, side: Role, guess: Guess) -> Guess {
+    let skew = query.skew.milliseconds();
+    let closed = source.close_reading(side).milliseconds();
+    let guess = guess.not_behind(closed.saturating_sub(skew));
+    if source.volume(side) <= 1 {
+        return guess;
+    }
+    match reading_at(source, Ref { side, number: 1 }) {
+        Some(opened) => {
+            guess.not_before(opened.milliseconds() + skew + query.transit.milliseconds())
+        }
+        None => guess,
+    }
+}
+
+/// The widest interval round the query's that single lines seem to show.
+pub fn guess_round<S: LineSource>(
+    alloc: Global,
+    source: &S,
+    query: &Query,
+    wide: &Query,
+) -> Result<Guess, AllocError> {
+    let reaches = reaches(alloc, source, wide)?;
+    let mut guess = carried_round(&reaches, query.from);
+    guess = shown_by(source, query, Role::Primary, guess);
+    guess = shown_by(source, query, Role::Secondary, guess);
+    let mut recent = Recent::new(alloc);
+    let mut walk = source.overlaps(&query.prefix);
+    while let Some(at) = source.next_overlap(&query.prefix, &mut walk) {
+        if let Some(delegation) = others_at(source, query, at) {
+            guess = beside(alloc, source, &mut recent, query, at, &delegation, guess)?;
+        }
+    }
+    Ok(guess)
+}
