@@ -176,6 +176,13 @@ fn what_does_not_come_there_is_refused(rt: HostRuntime) -> Result<(), Fail> {
 }
 
 #[test]
+fn a_second_connect_is_refused(rt: HostRuntime) -> Result<(), Fail> {
+    let written: &[&[u8]] = &[CONNECT_REPLY, POOL_REQUEST];
+    let heard: &[&[u8]] = &[CONNECT, CONNECT, CONTACT];
+    check_refused(&rt, rt.alloc(), Role::Secondary, heard, written, B_OPENED)
+}
+
+#[test]
 fn an_unanswered_update_hides_none(rt: HostRuntime) -> Result<(), Fail> {
     let told = Case::new(
         Role::Primary,
