@@ -12,7 +12,7 @@ mod words;
 
 use fault::Fault;
 use node_threads::NodeSettings;
-use running::run_node;
+use running::{Run, run_node};
 use server_book::OpenError;
 use std::alloc::Global;
 use std::io::{Read, Write};
@@ -34,42 +34,79 @@ fn units_of(settings: &NodeSettings) -> usize {
     units
 }
 
-/// What a command writes, and the status.
+/// What a command writes, and the status, or the fault that its run ended by.
+#[derive(Drop)]
+struct Outcome {
+    octets: Vec<u8>,
+    status: Result<u8, Fault>,
+}
+
+impl Outcome {
+    fn of(octets: Vec<u8>, status: u8) -> Outcome {
+        Outcome {
+            octets,
+            status: Ok(status),
+        }
+    }
+
+    fn of_run(run: Run) -> Outcome {
+        Outcome {
+            octets: run.journal,
+            status: match run.received {
+                Ok(_) => Ok(0),
+                Err(why) => Err(Fault::Node(why)),
+            },
+        }
+    }
+}
+
+/// What a command comes to.
 fn answer<R: Threads + Wait + Sync + Net + Clock, P: Print + Sync>(
     rt: &R,
     alloc: Global,
     command: Command,
     text: &[u8],
     notes: &P,
-) -> Result<(Vec<u8>, u8), Fault>
+) -> Result<Outcome, Fault>
 where
     R::Stream: Send + Drop,
     R::Listener: Send + Drop,
 {
     match (command, NodeSettings::read(alloc, text)) {
         (_, Err(OpenError::Memory)) => Err(Fault::Memory),
-        (_, Err(refusal)) => Ok((format!(in alloc; "{refusal}\n")?.into_bytes(), 1)),
+        (_, Err(refusal)) => {
+            let line = format!(in alloc; "{refusal}\n")?;
+            Ok(Outcome::of(line.into_bytes(), 1))
+        }
         (Command::Check, Ok(settings)) => {
             let units = units_of(&settings);
-            Ok((format!(in alloc; "ok {units}\n")?.into_bytes(), 0))
+            let line = format!(in alloc; "ok {units}\n")?;
+            Ok(Outcome::of(line.into_bytes(), 0))
         }
         (Command::Run { count, partner }, Ok(settings)) => {
-            Ok((run_node(rt, alloc, &settings, count, partner, notes)?, 0))
+            match run_node(rt, alloc, &settings, count, partner, notes) {
+                Ok(run) => Ok(Outcome::of_run(run)),
+                Err(fault) => Err(fault),
+            }
         }
     }
 }
 
 /// The words of the command line; `Usage` where one isn't text.
 fn words_given(rt: &HostRuntime) -> Result<Vec<String>, Fault> {
-    let words = env::args(rt).map_err(usage_fault)?;
+    let words = match env::args(rt) {
+        Ok(words) => words,
+        Err(error) => return Err(memory_or(error, Fault::Usage)),
+    };
     words.collect(rt.alloc()).map_err(|_| Fault::Memory)
 }
 
-fn usage_fault(error: io::Error) -> Fault {
+/// What ends the program where its words or its input didn't come: want of memory, or the fault.
+fn memory_or(error: io::Error, fault: Fault) -> Fault {
     if error.kind() == io::ErrorKind::OutOfMemory {
         Fault::Memory
     } else {
-        Fault::Usage
+        fault
     }
 }
 
@@ -84,12 +121,15 @@ where
     let words = words_given(rt)?;
     let command = command_of(rt.alloc(), &words)?;
     let mut text = Vec::new(rt.alloc());
-    if rt.stdin().read_to_end(&mut text).is_err() {
-        return Err(Fault::Read);
+    if let Err(error) = rt.stdin().read_to_end(&mut text) {
+        return Err(memory_or(error, Fault::Read));
     }
-    let (octets, status) = answer(handles, rt.alloc(), command, &text, &rt.stderr())?;
-    match rt.stdout().write_all(&octets) {
-        Ok(()) => Ok(status),
+    let outcome = match answer(handles, rt.alloc(), command, &text, &rt.stderr()) {
+        Ok(outcome) => outcome,
+        Err(fault) => return Err(fault),
+    };
+    match rt.stdout().write_all(&outcome.octets) {
+        Ok(()) => outcome.status,
         Err(_) => Err(Fault::Write),
     }
 }

@@ -27,6 +27,13 @@ struct Done<N: BookName> {
     received: Result<u32, NodeError>,
 }
 
+/// What a node leaves: the text of its closed journal, and how many datagrams it received or why a worker ended.
+#[derive(Drop)]
+pub struct Run {
+    pub journal: Vec<u8>,
+    pub received: Result<u32, NodeError>,
+}
+
 /// What both have received, or why one ended.
 fn added(one: Result<u32, NodeError>, other: Result<u32, NodeError>) -> Result<u32, NodeError> {
     match (one, other) {
@@ -88,8 +95,8 @@ fn link_address<P: Print>(
     }
 }
 
-/// Shares a book among so many workers and the link's end, and closes it once no turn is left. Gives the book, and how
-/// many datagrams were received.
+/// Shares a book among so many workers and the link's end, and closes it once no worker goes on. Gives the book, and how
+/// many datagrams were received or why a worker ended.
 fn serve<
     N: BookName + Send + Sync,
     R: Threads + Wait + Sync + Net + Handle,
@@ -108,7 +115,7 @@ fn serve<
     turns: &Turns,
     partner: Partner,
     notes: &P,
-) -> Result<(Book, u32), Fault>
+) -> Result<(Book, Result<u32, NodeError>), Fault>
 where
     R::Stream: Send + Drop,
     R::Listener: Send + Drop,
@@ -153,7 +160,6 @@ where
     else {
         return Err(Fault::Memory);
     };
-    let received = received?;
     passes.push(link)?;
     match shared.close(passes) {
         Ok(book) => Ok((book, received)),
@@ -195,8 +201,8 @@ fn opened<C: Clock>(
 }
 
 /// Answers so many datagrams that come where the settings say, beside the link to the partner, and gives the text of
-/// the closed journal. Where it listens, what becomes of the link and how many datagrams came is said in notes, a line
-/// each.
+/// the closed journal, also where a worker has failed. Where it listens, what becomes of the link and how many datagrams
+/// came is said in notes, a line each.
 pub fn run_node<R: Threads + Wait + Sync + Net + Handle, P: Print + Sync>(
     rt: &R,
     alloc: Global,
@@ -204,7 +210,7 @@ pub fn run_node<R: Threads + Wait + Sync + Net + Handle, P: Print + Sync>(
     count: u32,
     partner: Partner,
     notes: &P,
-) -> Result<Vec<u8>, Fault>
+) -> Result<Run, Fault>
 where
     R::Stream: Send + Drop,
     R::Listener: Send + Drop,
@@ -219,7 +225,7 @@ where
     let turns = Turns::new(count);
     let book = opened(alloc, settings, partner, &clock)?;
     let passes = settings.ways.workers() + 1;
-    let (mut book, received) = serve::<Brand, _, _, _, _>(
+    let served = serve::<Brand, _, _, _, _>(
         rt,
         alloc,
         Blank::new(passes as u64),
@@ -231,11 +237,17 @@ where
         &turns,
         partner,
         notes,
-    )?;
-    let _ = println!(notes; "node: received {received} datagrams");
+    );
+    let (mut book, received) = match served {
+        Ok(served) => served,
+        Err(fault) => return Err(fault),
+    };
+    if let Ok(received) = received {
+        let _ = println!(notes; "node: received {received} datagrams");
+    }
     closes(&mut book, &clock)?;
     match write(alloc, book.role(), book.head(), book.journal()) {
-        Ok(text) => Ok(text),
+        Ok(journal) => Ok(Run { journal, received }),
         Err(_) => Err(Fault::Memory),
     }
 }
