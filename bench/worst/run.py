@@ -174,6 +174,8 @@ def audits():
         words = ["find", "--skew-ms", "2000", "--holder", HOLDER, "--prefix", UNIT, "--from", str(begin), "--to", str(end)]
         seconds, answer = took(words, journals)
         yield f"a search over {name}: {answer}", seconds, 60
+        seconds, answer = took(["who", "--skew-ms", "2000", "--prefix", UNIT, "--at", str(begin)], journals)
+        yield f"who over {name}: {answer}", seconds, 60
 
 
 def main():
