@@ -46,8 +46,8 @@ fn ending_of(
     is_over: bool,
 ) -> Ending {
     match ended {
-        Ok(()) if has_ended => Ending::Lost,
         Ok(()) if is_over => Ending::Served,
+        Ok(()) if has_ended => Ending::Lost,
         Ok(()) => Ending::PartnerGone,
         Err(NodeError::Read) if has_failed => Ending::Lost,
         Err(NodeError::Read) => Ending::Refused,
