@@ -12,7 +12,7 @@ use node_threads::{
     serve_datagrams,
 };
 use server_book::{Book, Order};
-use std::alloc::Global;
+use std::alloc::{AllocError, Global};
 use std::marker::Brand;
 use std::net::{Net, SocketAddr, UdpSocket};
 use std::sync::Wait;
@@ -20,6 +20,13 @@ use std::sync::ledger::Blank;
 use std::thread;
 use std::thread::Threads;
 use std::time::Clock as Handle;
+
+/// A worker: its pass, and how many datagrams it received or why it ended.
+#[derive(Drop)]
+struct Seat<N: BookName> {
+    pass: Pass<N>,
+    received: Result<u32, NodeError>,
+}
 
 /// What the workers leave: their passes, and how many datagrams they received in all or why one of them ended.
 struct Done<N: BookName> {
@@ -42,7 +49,18 @@ fn added(one: Result<u32, NodeError>, other: Result<u32, NodeError>) -> Result<u
     }
 }
 
-/// Lets a worker for each pass answer datagrams while there are turns. `None` where a growth was refused.
+/// A seat for each worker.
+fn seated<N: BookName>(alloc: Global, passes: Vec<Pass<N>>) -> Result<Vec<Seat<N>>, AllocError> {
+    let mut seats = Vec::with_capacity(alloc, passes.len())?;
+    for pass in passes {
+        let received = Ok(0);
+        seats.push(Seat { pass, received })?;
+    }
+    Ok(seats)
+}
+
+/// Lets a worker for each pass answer datagrams while there are turns. `None` where a growth was refused, before any did:
+/// what they leave has its room already, and room for the link's pass.
 fn by_workers<
     N: BookName + Send + Sync,
     R: Threads + Wait + Sync,
@@ -60,23 +78,36 @@ fn by_workers<
     partner: Partner,
 ) -> Option<Done<N>> {
     let own = settings.server.duid();
-    let done = thread::map_vec(
+    let workers = passes.len().max(1);
+    let mut left = Vec::with_capacity(alloc, workers + 1).ok()?;
+    let mut seats = seated(alloc, passes).ok()?;
+    thread::for_each_mut(
         rt,
-        passes,
-        &|mut pass| {
-            let ended = serve_datagrams(
-                rt, alloc, shared, &mut pass, own, datagrams, clock, turns, partner,
+        &mut seats,
+        workers,
+        &|_place, seat: &mut Seat<N>| {
+            seat.received = serve_datagrams(
+                rt,
+                alloc,
+                shared,
+                &mut seat.pass,
+                own,
+                datagrams,
+                clock,
+                turns,
+                partner,
             );
-            (ended, pass)
         },
     );
     let mut received = Ok(0);
-    let mut passes = Vec::new(alloc);
-    for (ended, pass) in done.ok()? {
-        received = added(received, ended);
-        passes.push(pass).ok()?;
+    for seat in seats {
+        received = added(received, seat.received);
+        left.push(seat.pass).ok()?;
     }
-    Some(Done { passes, received })
+    Some(Done {
+        passes: left,
+        received,
+    })
 }
 
 /// Where the link is, unless the partner is down: then that is said.
