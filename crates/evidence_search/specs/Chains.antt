@@ -1,5 +1,5 @@
 -- For bodies only: what messages show of the lines of two journals.
-use Rattle.std.specs.Prelude.{◌≢◌, ◌≤◌, List, All, Option, Some, None, Contains as Has}
+use Rattle.std.specs.Prelude.{◌≢◌, ◌≤◌, ◌<◌, ℕ, List, All, Option, Some, None, Contains as Has}
 use Rattle.binding_rules.specs.declared.role.Role.{Role}
 use Rattle.binding_rules.specs.declared.role.Role.TheVariants.{Primary, Secondary}
 use Rattle.binding_rules.specs.Role.{partner_of}
@@ -37,6 +37,18 @@ IsReadAtEnd js at b = IsReadAt js (end_over at b.over) b.reading
 abbrev pub IsReadAtBeginning : Journals → Ref → Bound → Type 0
 IsReadAtBeginning js at b = IsReadAt js (begin_over at b.over) b.reading
 
+-- no message was taken at the line or before it
+abbrev pub IsBeforeTakes : Messages → Ref → Type 0
+IsBeforeTakes m at = All (λ p. at.number < p.take) (messages_of m (partner_of at.side))
+
+-- a bound of the line that is no worse than its own reading: where a chain from it ends, or one to it begins
+abbrev pub IsEndBound : Journals → Ref → Bound → Type 0
+IsEndBound js at b = IsReadAtEnd js at b × ((own : ℕ) → IsReadAt js at own → b.reading ≤ own)
+
+abbrev pub IsBeginBound : Journals → Ref → Bound → Type 0
+IsBeginBound js at b = IsReadAtBeginning js at b × ((own : ℕ) → IsReadAt js at own → own ≤ b.reading)
+
 -- it was sent at the one line or behind it, and taken at the other or before it, in the partner's journal
 abbrev pub IsLinking : Messages → (first second : Ref) → Passage → Type 0
-IsLinking m first second p = (first.side ≢ second.side) × Has (messages_of m first.side) p × (first.number ≤ p.send) × (p.take ≤ second.number)
+IsLinking m first second p =
+    (first.side ≢ second.side) × Has (messages_of m first.side) p × (first.number ≤ p.send) × (p.take ≤ second.number)

@@ -1,5 +1,6 @@
 -- For bodies only: the releases of a delegation, collected once.
-use Rattle.std.specs.Prelude.{◌≡◌, ℕ, ◌+◌, ◌*◌, ◌<◌, ◌≤◌, ◌||◌, Bool, true, false, IsTrue, List, All, Some, length, nat_lt, slice_get, slice_index_or}
+use Rattle.std.specs.Prelude.{◌≡◌, ℕ, ◌+◌, ◌*◌, ◌<◌, ◌≤◌, ◌||◌, Bool, true, false, IsTrue, List, All, Some, length}
+use Rattle.std.specs.Prelude.{nat_lt, slice_get, slice_index_or}
 use Rattle.std.specs.Prelude.{Contains as Has}
 use Rattle.binding_rules.specs.declared.role.Role.{Role}
 use Rattle.binding_rules.specs.declared.role.Role.TheVariants.{Primary, Secondary}
@@ -32,7 +33,8 @@ abbrev pub IsFollowedBy : Dated → Dated → Type 0
 IsFollowedBy x z = (x.at.side ≡ z.at.side) × (x.at.number ≤ z.at.number) × (x.reading ≤ z.reading)
 
 abbrev pub AreRising : List Dated → Type 0
-AreRising xs = (i k : ℕ) (d : Dated) → i ≤ k → k < length xs → IsFollowedBy (slice_index_or xs i d) (slice_index_or xs k d)
+AreRising xs = (i k : ℕ) (d : Dated) → i ≤ k → k < length xs
+  → IsFollowedBy (slice_index_or xs i d) (slice_index_or xs k d)
 
 -- the releases of a delegation
 pub record AreReleases (js : Journals) (c : Releases) : Type 0 where

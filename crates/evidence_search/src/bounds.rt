@@ -1,8 +1,10 @@
 //! What chains show of when a line was written.
 
-ghost use Rattle.std.specs.Prelude.{◌≡◌, IfSome};
+ghost use Rattle.std.specs.Prelude.{◌≡◌, None, IfSome, MatchOption};
+ghost use Rattle.causal_order.specs.Bounds.{reading_of};
 ghost use Rattle.evidence_search.specs.Passages.{send_of, take_of};
-ghost use Rattle.evidence_search.specs.Chains.{IsReadAtEnd, IsReadAtBeginning};
+ghost use Rattle.evidence_search.specs.Chains.{IsReadAtEnd, IsReadAtBeginning, IsEndBound, IsBeginBound};
+ghost use Rattle.evidence_search.specs.Chains.{AreMessages, IsBeforeTakes};
 
 use crate::asking::reading_at;
 use crate::messages::{Messages, Passage};
@@ -44,32 +46,38 @@ pub fn chain_of(alloc: Global, refs: &[Ref]) -> Result<Chain, AllocError> {
     Ok(Chain::new(chain))
 }
 
-/// The least reading that a chain from the line can end in.
-pub fn latest<L: Lines>(lines: &L, messages: &Messages, at: Ref) -> Option<Bound>
+/// What the first message shows that was sent at the line or behind it.
+fn over_next<L: Lines>(lines: &L, messages: &Messages, at: Ref) -> Option<Bound>
     ensures { IfSome result (IsReadAtEnd (L.journals lines.now) at) }
 {
-    let reading = reading_at(lines, at)?;
-    let alone = Bound {
-        reading,
-        over: None,
-    };
-    let Some(passage) = messages.sent_behind(at) else {
-        return Some(alone);
-    };
+    let passage = messages.sent_behind(at)?;
     let (_, take) = ends_of(at, passage);
-    let taken = reading_at(lines, take)?;
-    if taken >= reading {
-        return Some(alone);
-    }
+    let reading = reading_at(lines, take)?;
     Some(Bound {
-        reading: taken,
+        reading,
         over: Some(passage),
     })
 }
 
+/// The least reading that a chain from the line can end in: its own, or an earlier one of the partner's.
+pub fn latest<L: Lines>(lines: &L, messages: &Messages, at: Ref) -> Option<Bound>
+    ensures { MatchOption result (reading_of (L.journals lines.now) at ≡ None)
+        (IsEndBound (L.journals lines.now) at) }
+{
+    let reading = reading_at(lines, at)?;
+    match over_next(lines, messages, at) {
+        Some(bound) if bound.reading < reading => Some(bound),
+        _ => Some(Bound {
+            reading,
+            over: None,
+        }),
+    }
+}
+
 /// What the last message shows that was taken at the line or before it.
 pub fn over_message<L: Lines>(lines: &L, messages: &Messages, at: Ref) -> Option<Bound>
-    ensures { IfSome result (IsReadAtBeginning (L.journals lines.now) at) }
+    ensures read { IfSome result (IsReadAtBeginning (L.journals lines.now) at) }
+    ensures none { result ≡ None → AreMessages (L.journals lines.now) messages.now → IsBeforeTakes messages.now at }
 {
     let passage = messages.taken_before(at)?;
     let send = Ref {
@@ -83,9 +91,10 @@ pub fn over_message<L: Lines>(lines: &L, messages: &Messages, at: Ref) -> Option
     })
 }
 
-/// The greatest reading that a chain to the line can begin in.
+/// The greatest reading that a chain to the line can begin in: its own, or a later one of the partner's.
 pub fn earliest<L: Lines>(lines: &L, messages: &Messages, at: Ref) -> Option<Bound>
-    ensures { IfSome result (IsReadAtBeginning (L.journals lines.now) at) }
+    ensures { MatchOption result (reading_of (L.journals lines.now) at ≡ None)
+        (IsBeginBound (L.journals lines.now) at) }
 {
     let reading = reading_at(lines, at)?;
     match over_message(lines, messages, at) {

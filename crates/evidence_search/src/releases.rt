@@ -1,6 +1,6 @@
 //! What releases leave of a grant, found in as many steps as halving them takes.
 
-ghost use Rattle.std.specs.Prelude.{◌≡◌, ◌↔◌, ℕ, ◌⊎◌, ◌≤◌, None, Some, MatchOption, IfOk, OnOk, not};
+ghost use Rattle.std.specs.Prelude.{◌≡◌, ◌↔◌, ℕ, ◌⊎◌, ◌≤◌, ◌<◌, None, Some, MatchOption, IfOk, IfSome, OnOk, not};
 ghost use Rattle.std.specs.Prelude.{Contains as Has};
 ghost use Rattle.claims.specs.declared.reference.Ref.{Ref as RefValue};
 ghost use Rattle.attribution.specs.Acceptance.{GivesBack};
@@ -112,9 +112,11 @@ fn first_return(releases: &[Dated], query: &Query, line: &Dated) -> Option<Dated
     Some(release)
 }
 
-/// The one of two lines that was read first, where there is one.
+/// The one of two lines that was read first, where there is one: the former where both were at once.
 pub fn first_read(one: Option<Dated>, other: Option<Dated>) -> Option<Dated>
-    ensures { MatchOption result ((one ≡ None) × (other ≡ None)) (λ x. (one ≡ Some x) ⊎ (other ≡ Some x)) }
+    ensures found { MatchOption result ((one ≡ None) × (other ≡ None)) (λ x. (one ≡ Some x) ⊎ (other ≡ Some x)) }
+    ensures first { IfSome one (λ x. IfSome other (λ y. ((y.reading < x.reading) × (result ≡ Some y))
+        ⊎ ((x.reading ≤ y.reading) × (result ≡ Some x)))) }
 {
     match (one, other) {
         (Some(first), Some(second)) => {

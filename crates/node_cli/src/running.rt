@@ -9,10 +9,10 @@ use journal_text::write;
 use locked_book::{BookName, Pass, SharedBook};
 use node_threads::{
     Clock, Datagrams, NodeError, NodeSettings, Partner, SystemClock, Turns, UdpDatagrams,
-    serve_datagrams,
+    leave_seats, seats_of, serve_seats,
 };
 use server_book::{Book, Order};
-use std::alloc::{AllocError, Global};
+use std::alloc::Global;
 use std::marker::Brand;
 use std::net::{Net, SocketAddr, UdpSocket};
 use std::sync::Wait;
@@ -20,13 +20,6 @@ use std::sync::ledger::Blank;
 use std::thread;
 use std::thread::Threads;
 use std::time::Clock as Handle;
-
-/// A worker: its pass, and how many datagrams it received or why it ended.
-#[derive(Drop)]
-struct Seat<N: BookName> {
-    pass: Pass<N>,
-    received: Result<u32, NodeError>,
-}
 
 /// What the workers leave: their passes, and how many datagrams they received in all or why one of them ended.
 struct Done<N: BookName> {
@@ -41,160 +34,132 @@ pub struct Run {
     pub received: Result<u32, NodeError>,
 }
 
-/// What both have received, or why one ended.
-fn added(one: Result<u32, NodeError>, other: Result<u32, NodeError>) -> Result<u32, NodeError> {
-    match (one, other) {
-        (Ok(one), Ok(other)) => Ok(one.saturating_add(other)),
-        (Err(why), _) | (Ok(_), Err(why)) => Err(why),
-    }
-}
-
-/// A seat for each worker.
-fn seated<N: BookName>(alloc: Global, passes: Vec<Pass<N>>) -> Result<Vec<Seat<N>>, AllocError> {
-    let mut seats = Vec::with_capacity(alloc, passes.len())?;
-    for pass in passes {
-        let received = Ok(0);
-        seats.push(Seat { pass, received })?;
-    }
-    Ok(seats)
-}
-
-/// Lets a worker for each pass answer datagrams while there are turns. `None` where a growth was refused, before any did:
-/// what they leave has its room already, and room for the link's pass.
-fn by_workers<
-    N: BookName + Send + Sync,
-    R: Threads + Wait + Sync,
-    D: Datagrams + Sync,
-    C: Clock + Sync,
->(
-    rt: &R,
+/// What the workers of a node and its end of the link have in common.
+#[derive(Drop)]
+struct Node<'a, R, D, C, P> {
+    rt: &'a R,
     alloc: Global,
-    shared: &SharedBook<N>,
-    passes: Vec<Pass<N>>,
-    settings: &NodeSettings,
-    datagrams: &D,
-    clock: &C,
-    turns: &Turns,
+    settings: &'a NodeSettings,
     partner: Partner,
-) -> Option<Done<N>> {
-    let own = settings.server.duid();
-    let workers = passes.len().max(1);
-    let mut left = Vec::with_capacity(alloc, workers + 1).ok()?;
-    let mut seats = seated(alloc, passes).ok()?;
-    thread::for_each_mut(
-        rt,
-        &mut seats,
-        workers,
-        &|_place, seat: &mut Seat<N>| {
-            seat.received = serve_datagrams(
-                rt,
-                alloc,
-                shared,
-                &mut seat.pass,
-                own,
-                datagrams,
-                clock,
-                turns,
-                partner,
-            );
-        },
-    );
-    let mut received = Ok(0);
-    for seat in seats {
-        received = added(received, seat.received);
-        left.push(seat.pass).ok()?;
-    }
-    Some(Done {
-        passes: left,
-        received,
-    })
+    datagrams: &'a D,
+    clock: &'a C,
+    turns: &'a Turns,
+    notes: &'a P,
 }
 
-/// Where the link is, unless the partner is down: then that is said.
-fn link_address<P: Print>(
-    settings: &NodeSettings,
-    partner: Partner,
-    notes: &P,
-) -> Option<SocketAddr> {
-    let address = settings.ways.link?;
-    match partner {
-        Partner::Up => Some(address),
-        Partner::Down => {
-            let _ = println!(notes; "node: takes its partner for down, and passes over the link");
-            None
-        }
-    }
-}
-
-/// Shares a book among so many workers and the link's end, and closes it once no worker goes on. Gives the book, and how
-/// many datagrams were received or why a worker ended.
-fn serve<
-    N: BookName + Send + Sync,
+impl<
     R: Threads + Wait + Sync + Net + Handle,
     D: Datagrams + Sync,
     C: Clock + Sync,
     P: Print + Sync,
->(
-    rt: &R,
-    alloc: Global,
-    blank: Blank,
-    book: Book,
-    passes: usize,
-    settings: &NodeSettings,
-    datagrams: &D,
-    clock: &C,
-    turns: &Turns,
-    partner: Partner,
-    notes: &P,
-) -> Result<(Book, Result<u32, NodeError>), Fault>
+> Node<'_, R, D, C, P>
 where
     R::Stream: Send + Drop,
     R::Listener: Send + Drop,
-    requires name { blank.name ≡ N.name }
-    requires passes { (blank.parts ≡ N.parts) × (N.parts ≡ passes) × (N.passes ≡ passes) }
-    requires lines { N.opened ≡ length book.lines }
 {
-    let Ok((shared, mut passes)) = SharedBook::<N>::open(alloc, blank, book, passes) else {
-        return Err(Fault::Memory);
-    };
-    let Some(link) = passes.pop() else {
-        return Err(Fault::Book);
-    };
-    let address = link_address(settings, partner, notes);
-    let server = &settings.server;
-    let lent = &shared;
-    let (link, done) = thread::join(
-        rt,
-        move || {
-            let mut link = link;
-            if let Some(address) = address {
-                keep_link(
-                    rt, alloc, lent, &mut link, server, address, clock, turns, notes,
+    /// Lets a worker for each pass answer datagrams while there are turns. `None` where a growth was refused, before
+    /// any did: what they leave has its room already, and room for the link's pass.
+    fn by_workers<N: BookName + Send + Sync>(
+        &self,
+        shared: &SharedBook<N>,
+        passes: Vec<Pass<N>>,
+    ) -> Option<Done<N>> {
+        let mut left = Vec::with_capacity(self.alloc, passes.len() + 1).ok()?;
+        let mut seats = seats_of(self.alloc, passes).ok()?;
+        serve_seats(
+            self.rt,
+            self.alloc,
+            shared,
+            &mut seats,
+            self.settings.server.duid(),
+            self.datagrams,
+            self.clock,
+            self.turns,
+            self.partner,
+        );
+        match leave_seats(seats, &mut left) {
+            Ok(received) => Some(Done {
+                passes: left,
+                received,
+            }),
+            Err(_) => None,
+        }
+    }
+
+    /// Where the link is, unless the partner is down: then that is said.
+    fn link_address(&self) -> Option<SocketAddr> {
+        let address = self.settings.ways.link?;
+        match self.partner {
+            Partner::Up => Some(address),
+            Partner::Down => {
+                let _ = println!(self.notes;
+                    "node: takes its partner for down, and passes over the link"
                 );
+                None
             }
-            link
-        },
-        move || {
-            let done = by_workers(
-                rt, alloc, lent, passes, settings, datagrams, clock, turns, partner,
+        }
+    }
+
+    /// Keeps the link to the partner, if there is to be one.
+    fn by_link<N: BookName>(&self, shared: &SharedBook<N>, pass: &mut Pass<N>) {
+        if let Some(address) = self.link_address() {
+            keep_link(
+                self.rt,
+                self.alloc,
+                shared,
+                pass,
+                &self.settings.server,
+                address,
+                self.clock,
+                self.turns,
+                self.notes,
             );
-            turns.end(rt);
-            done
-        },
-    );
-    let Some(
-        Done {
+        }
+    }
+
+    /// Shares a book among so many passes, the link's and the workers', and closes it once no worker goes on. Gives the
+    /// book, and how many datagrams were received or why a worker ended.
+    fn serve<N: BookName + Send + Sync>(
+        &self,
+        blank: Blank,
+        book: Book,
+        passes: usize,
+    ) -> Result<(Book, Result<u32, NodeError>), Fault>
+        requires name { blank.name ≡ N.name }
+        requires passes { (blank.parts ≡ N.parts) × (N.parts ≡ passes) × (N.passes ≡ passes) }
+        requires lines { N.opened ≡ length book.lines }
+    {
+        let Ok((shared, mut passes)) = SharedBook::<N>::open(self.alloc, blank, book, passes) else {
+            return Err(Fault::Memory);
+        };
+        let Some(mut link) = passes.pop() else {
+            return Err(Fault::Book);
+        };
+        let lent = &shared;
+        let (link, done) = thread::join(
+            self.rt,
+            move || {
+                self.by_link(lent, &mut link);
+                link
+            },
+            move || {
+                let done = self.by_workers(lent, passes);
+                self.turns.end(self.rt);
+                done
+            },
+        );
+        let Some(done) = done else {
+            return Err(Fault::Memory);
+        };
+        let Done {
             mut passes,
             received,
-        },
-    ) = done
-    else {
-        return Err(Fault::Memory);
-    };
-    passes.push(link)?;
-    match shared.close(passes) {
-        Ok(book) => Ok((book, received)),
-        Err(_) => Err(Fault::Book),
+        } = done;
+        passes.push(link)?;
+        match shared.close(passes) {
+            Ok(book) => Ok((book, received)),
+            Err(_) => Err(Fault::Book),
+        }
     }
 }
 
@@ -232,8 +197,8 @@ fn opened<C: Clock>(
 }
 
 /// Answers so many datagrams that come where the settings say, beside the link to the partner, and gives the text of
-/// the closed journal, also where a worker has failed. Where it listens, what becomes of the link and how many datagrams
-/// came is said in notes, a line each.
+/// the closed journal, also where a worker has failed. Where it listens, what becomes of the link and how many
+/// datagrams came is said in notes, a line each.
 pub fn run_node<R: Threads + Wait + Sync + Net + Handle, P: Print + Sync>(
     rt: &R,
     alloc: Global,
@@ -256,19 +221,17 @@ where
     let turns = Turns::new(count);
     let book = opened(alloc, settings, partner, &clock)?;
     let passes = settings.ways.workers() + 1;
-    let served = serve::<Brand, _, _, _, _>(
+    let node = Node {
         rt,
         alloc,
-        Blank::new(passes as u64),
-        book,
-        passes,
         settings,
-        &datagrams,
-        &clock,
-        &turns,
         partner,
+        datagrams: &datagrams,
+        clock: &clock,
+        turns: &turns,
         notes,
-    );
+    };
+    let served = node.serve::<Brand>(Blank::new(passes as u64), book, passes);
     let (mut book, received) = match served {
         Ok(served) => served,
         Err(fault) => return Err(fault),

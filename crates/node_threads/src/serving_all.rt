@@ -7,15 +7,14 @@ use crate::clock::Clock;
 use crate::datagrams::Datagrams;
 use crate::error::NodeError;
 use crate::partner::Partner;
+use crate::seats::{leave_seats, seats_of, serve_seats};
 use crate::turns::Turns;
-use crate::workers::serve_datagrams;
 use client_id::Duid;
 use locked_book::{BookName, LockFault, SharedBook};
 use server_book::Book;
 use std::alloc::Global;
 use std::sync::Wait;
 use std::sync::ledger::Blank;
-use std::thread;
 use std::thread::Threads;
 use thiserror::Error;
 
@@ -40,13 +39,6 @@ pub enum LeaveError {
     /// The lines of the book aren't those that the workers were told.
     #[error("the receipts aren't the lines of the book")]
     Book,
-}
-
-fn added(one: Result<u32, NodeError>, other: Result<u32, NodeError>) -> Result<u32, NodeError> {
-    match (one, other) {
-        (Ok(one), Ok(other)) => Ok(one.saturating_add(other)),
-        (Err(why), _) | (Ok(_), Err(why)) => Err(why),
-    }
 }
 
 /// Shares a book among so many workers, each of which answers datagrams while there are turns, and gives it back with
@@ -88,28 +80,19 @@ pub fn serve_all<
             };
         }
     };
-    let lent = &shared;
-    let Ok(done) = thread::map_vec(
-        rt,
-        passes,
-        &|mut pass| {
-            let ended = serve_datagrams(
-                rt, alloc, lent, &mut pass, own, datagrams, clock, turns, partner,
-            );
-            (ended, pass)
-        },
-    ) else {
+    let Ok(mut left) = Vec::with_capacity(alloc, workers) else {
         return Err(LeaveError::Memory);
     };
-    let mut received = Ok(0);
-    let mut passes = Vec::new(alloc);
-    for (ended, pass) in done {
-        received = added(received, ended);
-        if passes.push(pass).is_err() {
-            return Err(LeaveError::Memory);
-        }
-    }
-    match shared.close(passes) {
+    let Ok(mut seats) = seats_of(alloc, passes) else {
+        return Err(LeaveError::Memory);
+    };
+    serve_seats(
+        rt, alloc, &shared, &mut seats, own, datagrams, clock, turns, partner,
+    );
+    let Ok(received) = leave_seats(seats, &mut left) else {
+        return Err(LeaveError::Memory);
+    };
+    match shared.close(left) {
         Ok(book) => Ok(Left { book, received }),
         Err(_) => Err(LeaveError::Book),
     }
