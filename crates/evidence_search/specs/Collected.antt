@@ -34,7 +34,7 @@ IsFollowedBy x z = (x.at.side ≡ z.at.side) × (x.at.number ≤ z.at.number) ×
 
 abbrev pub AreRising : List Dated → Type 0
 AreRising xs = (i k : ℕ) (d : Dated) → i ≤ k → k < length xs
-  → IsFollowedBy (slice_index_or xs i d) (slice_index_or xs k d)
+    → IsFollowedBy (slice_index_or xs i d) (slice_index_or xs k d)
 
 -- the releases of a delegation
 pub record AreReleases (js : Journals) (c : Releases) : Type 0 where

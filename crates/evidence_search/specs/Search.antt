@@ -137,7 +137,7 @@ pub record IsPassed (xs : List Reach) (m : ℕ) (p : Passed) : Type 0 where
   pub place : p.best ≤ p.count
   pub some : 0 < p.count → p.best < p.count
   pub most : (k : ℕ) (x z : Reach) → k < p.count → slice_get xs k ≡ Some x → slice_get xs p.best ≡ Some z
-    → x.end ≤ z.end
+      → x.end ≤ z.end
 
 -- the place of the one of two that carries farther
 abbrev pub IsFarther : List Reach → (best place found : ℕ) → Type 0
