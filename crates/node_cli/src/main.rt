@@ -3,6 +3,8 @@
 //! from that (2).
 #![tactic(auto)]
 
+ghost use Rattle.std.specs.Prelude.{◌<◌, ◌^◌, length, IsErrOf};
+
 mod connection;
 mod fault;
 mod linking;
@@ -23,6 +25,19 @@ use std::thread::Threads;
 use std::time::Clock;
 use std::{env, io};
 use words::{Command, command_of};
+
+/// The most octets of settings: sixteen pools and all keys take two thousand, so an endless input ends here.
+const MOST_OCTETS: usize = 1 << 20;
+
+/// The settings that a text has; `Settings` too where it is longer than that.
+fn settings_in(alloc: Global, text: &[u8]) -> Result<NodeSettings, OpenError>
+    ensures long { 2 ^ 20 < length text.now → IsErrOf result OpenError.Settings }
+{
+    if text.len() > MOST_OCTETS {
+        return Err(OpenError::Settings);
+    }
+    NodeSettings::read(alloc, text)
+}
 
 /// How many units a server of these settings has.
 fn units_of(settings: &NodeSettings) -> usize {
@@ -72,7 +87,7 @@ where
     R::Stream: Send + Drop,
     R::Listener: Send + Drop,
 {
-    match (command, NodeSettings::read(alloc, text)) {
+    match (command, settings_in(alloc, text)) {
         (_, Err(OpenError::Memory)) => Err(Fault::Memory),
         (_, Err(refusal)) => {
             let line = format!(in alloc; "{refusal}\n")?;
@@ -121,7 +136,8 @@ where
     let words = words_given(rt)?;
     let command = command_of(rt.alloc(), &words)?;
     let mut text = Vec::new(rt.alloc());
-    if let Err(error) = rt.stdin().read_to_end(&mut text) {
+    let mut input = rt.stdin().take(MOST_OCTETS as u64 + 1);
+    if let Err(error) = input.read_to_end(&mut text) {
         return Err(memory_or(error, Fault::Read));
     }
     let outcome = match answer(handles, rt.alloc(), command, &text, &rt.stderr()) {
