@@ -1,0 +1,227 @@
+"""Draws inputs, asks the desk and the second auditor, and tells where their answers differ."""
+import collections
+import random
+import subprocess
+from typing import NamedTuple
+
+from . import limits
+from .desk import Evidence, answer, cut
+from .certificates import read_certificate
+from .changing import changed_certificate, changed_lines, changed_text, changed_words
+from .disturbing import disturbed
+from .finding import judged, words_of_query
+from .running import CLIENTS, drawn_run
+from .searching import Search
+from .rules import MOST_SKEW
+from .journals import MOST_TRANSIT
+from .truth import untrue
+from .words import MOST_READING
+from .writing import certificate_text, journal_text
+
+# What one draw compares.
+CERTIFICATES = 14
+CHANGES = 3
+DISTURBED = 12
+TEXTS = 6
+OCTETS = 5
+QUERIES = 3
+
+
+class Question(NamedTuple):
+    """Command words and an input; for a query, a certificate of it where one is known."""
+
+    words: list
+    text: bytes
+    known: object = None
+
+
+class Difference(NamedTuple):
+    words: list
+    text: bytes
+    second: str
+    desk: str
+
+
+def margins(rng, run):
+    """The skew and transit to audit with: mostly the run's."""
+    skew, transit = run.settings.skew, run.settings.transit
+    draw = rng.random()
+    if draw < 0.05:
+        skew = rng.choice((0, skew + 1, max(0, skew - 1), MOST_SKEW))
+    elif draw < 0.1:
+        transit = rng.choice((0, transit + 1, max(0, transit - 1), MOST_TRANSIT))
+    return skew, transit
+
+
+def words_of(command, skew, transit, rng):
+    """Command words; a transit of nothing is mostly left out."""
+    words = [command, "--skew-ms", str(skew)]
+    if transit or rng.random() < 0.2:
+        words += ["--transit-ms", str(transit)]
+    return words + (["--workers", str(rng.choice((1, 2, 3)))] if command == "batch" else [])
+
+
+class Draw:
+    """The questions of one run."""
+
+    def __init__(self, rng):
+        self.rng = rng
+        self.run = drawn_run(rng)
+        self.skew, self.transit = margins(rng, self.run)
+        self.journals = [journal_text(side, server.book.volume, server.entries) for side, server in self.run.servers.items()]
+
+    def certificates(self, journals):
+        """Certificates that a search draws for two journals, where they are legal."""
+        evidence = Evidence(*journals)
+        if evidence.before or evidence.after:
+            return []
+        search = Search(evidence.pair, self.rng, self.skew, self.transit)
+        drawn = [search.draw() for _ in range(CERTIFICATES)]
+        return [certificate for certificate in drawn if certificate is not None]
+
+    def batch(self, journals, texts):
+        return Question(words_of("batch", self.skew, self.transit, self.rng), b"".join([*journals, *texts]))
+
+    def audit(self, text):
+        return Question(words_of("audit", self.skew, self.transit, self.rng), text)
+
+    def changes(self, certificate):
+        """Texts of a certificate, as it is and changed."""
+        yield certificate_text(certificate)
+        for _ in range(CHANGES):
+            yield certificate_text(changed_certificate(self.rng, certificate, CLIENTS))
+        text = certificate_text(certificate)
+        yield self.rng.choice((changed_lines, changed_words))(self.rng, text)
+
+    def believe(self, texts):
+        """What the second auditor accepts of an honest run must have been so."""
+        if self.skew < self.run.settings.skew or not self.run.honest:
+            return
+        evidence = Evidence(*self.journals)
+        for text in texts:
+            if evidence.verdict(text, self.skew, self.transit) == "accepted":
+                fault = untrue(self.run, read_certificate(text), self.transit)
+                assert not fault, (fault, self.skew, self.transit, b"".join([*self.journals, text]).decode())
+
+    def questions(self):
+        rng = self.rng
+        certificates = self.certificates(self.journals)
+        texts = [text for certificate in certificates for text in self.changes(certificate)]
+        spare = [certificate_text(certificate) for certificate in certificates] or [b"pd-certificate 1\n", b""]
+        self.believe(texts)
+        yield self.batch(self.journals, texts)
+        for _ in range(DISTURBED):
+            journals = disturbed(rng, self.run)
+            again = [certificate_text(certificate) for certificate in self.certificates(journals)[:4]]
+            yield self.batch(journals, [*again, rng.choice(spare), changed_text(rng, rng.choice(spare))])
+            if rng.random() < 0.25:
+                yield Question(["timeline"], b"".join(journals))
+        for _ in range(TEXTS):
+            journals = list(self.journals)
+            place = rng.randrange(2)
+            journals[place] = rng.choice((changed_lines, changed_words, changed_text))(rng, journals[place])
+            yield self.audit(b"".join(journals) + rng.choice(spare))
+            if rng.random() < 0.25:
+                yield Question(["timeline"], b"".join(journals))
+        for _ in range(OCTETS):
+            yield self.audit(changed_text(rng, b"".join(self.journals) + rng.choice(spare)))
+            yield self.audit(b"".join(self.journals) + changed_text(rng, rng.choice(spare)))
+        yield Question(["timeline"], b"".join(self.journals))
+        for certificate in certificates[:QUERIES]:
+            yield self.query(self.journals, certificate)
+            yield self.query(self.journals, changed_certificate(rng, certificate, CLIENTS))
+
+    def query(self, journals, certificate):
+        """A query for a certificate, which is known only where it holds."""
+        verdict = Evidence(*journals).verdict(certificate_text(certificate), self.skew, self.transit)
+        # A moment past the limit of readings is no word of a query.
+        asked = certificate._replace(start=min(certificate.start, MOST_READING), end=min(certificate.end, MOST_READING))
+        words = words_of_query(asked, self.skew, self.transit)
+        return Question(words, b"".join(journals), certificate if verdict == "accepted" else None)
+
+
+def desk_answer(desk, question):
+    run = subprocess.run([desk, *question.words], input=question.text, capture_output=True, check=False)
+    return run.stdout.decode(errors="replace"), run.stderr.decode(errors="replace"), run.returncode
+
+
+def parts_of(text):
+    """The journals of a batch together, and its certificates."""
+    first, rest = cut(text)
+    second, rest = cut(rest)
+    certificates = []
+    while rest:
+        certificate, rest = cut(rest)
+        certificates.append(certificate)
+    return first + second, certificates
+
+
+def compare(desk, question):
+    """The verdicts that were met, and the differences."""
+    if question.words[0] == "find":
+        return compare_query(desk, question)
+    written, status = answer(question.words, question.text)
+    seen, complaint, ended = desk_answer(desk, question)
+    lines = written.splitlines()
+    if question.words[0] == "timeline":
+        met = ["timeline" if status == 0 else kind_of(lines[0])]
+    else:
+        met = [kind_of(line) for line in lines]
+    if (seen, complaint, ended) == (written, "", status):
+        return met, []
+    whole = Difference(question.words, question.text, f"{written}status {status}", f"{seen}{complaint}status {ended}")
+    if question.words[0] != "batch" or len(seen.splitlines()) != len(lines):
+        return met, [whole]
+    return met, differing(question, lines, seen.splitlines()) or [whole]
+
+
+def compare_query(desk, question):
+    """The same of a query, whose answer need not be the second auditor's own."""
+    written, complaint, status = desk_answer(desk, question)
+    values = dict(zip(question.words[1::2], question.words[2::2]))
+    kind, fault = judged(question, written, int(values["--skew-ms"]), int(values.get("--transit-ms", 0)))
+    wanted = int(written.startswith(("none", "refused")))
+    if not fault and (complaint, status) == ("", wanted):
+        return [kind], []
+    return [kind], [Difference(question.words, question.text, fault, f"{written}{complaint}status {status}")]
+
+
+def differing(question, lines, seen):
+    """The differences of a batch, each as an audit of one certificate."""
+    journals, certificates = parts_of(question.text)
+    place = question.words.index("--workers")
+    words = ["audit", *question.words[1:place], *question.words[place + 2 :]]
+    found = []
+    for mine, its, certificate in zip(lines, seen, certificates):
+        if mine != its:
+            found.append(Difference(words, journals + certificate, mine, its))
+    return found
+
+
+def kind_of(line):
+    """A verdict's kind: the refusal's code, with the rule for L1."""
+    words = line.split(" ")
+    if words[0] != "refused":
+        return line
+    return f"L1 {words[-1]}" if words[1] == "L1" else words[1]
+
+
+def compare_limits(desk):
+    """The same of the inputs at the limits."""
+    met, differences = collections.Counter(), []
+    for journals, certificates in limits.inputs():
+        words = ["batch", "--skew-ms", "2000", "--workers", "1"]
+        kinds, found = compare(desk, Question(words, b"".join([*journals, *certificates])))
+        met.update(kinds)
+        differences += found
+    return met, differences
+
+
+def compare_draw(desk, seed, index):
+    """All questions of one draw: the verdicts met, and the differences."""
+    met, differences = collections.Counter(), []
+    for question in Draw(random.Random(f"{seed} {index}")).questions():
+        kinds, found = compare(desk, question)
+        met.update(kinds)
+        differences += found
+    return met, differences

@@ -1,0 +1,152 @@
+"""Answers as the desk does: `audit`, `batch` and `timeline`."""
+import sys
+
+from .auditing import audit
+from .certificates import read_certificate
+from .journals import MOST_TRANSIT, read_journal
+from .merging import Pair, merged
+from .rules import MOST_SKEW, book_of
+from .words import Malformed, Refused, number_of
+
+MOST_WORKERS = 64
+# What each command is told, with the least and the greatest value, and whether it must be.
+OPTIONS = {
+    "--skew-ms": (0, MOST_SKEW, True),
+    "--transit-ms": (0, MOST_TRANSIT, False),
+    "--workers": (1, MOST_WORKERS, True),
+}
+COMMANDS = {"audit": ("--skew-ms", "--transit-ms"), "batch": ("--skew-ms", "--transit-ms", "--workers"), "timeline": ()}
+
+
+class Usage(Exception):
+    """Command words that say nothing."""
+
+
+def end_of_text(text):
+    """How many octets a text has up to and with its first line that begins with `end`."""
+    start = 0
+    while not text.startswith(b"end", start):
+        feed = text.find(b"\n", start)
+        if feed < 0:
+            return len(text)
+        start = feed + 1
+    feed = text.find(b"\n", start)
+    return len(text) if feed < 0 else feed + 1
+
+
+def cut(text):
+    """A text up to its end line, and the rest."""
+    size = end_of_text(text)
+    return text[:size], text[size:]
+
+
+class Evidence:
+    """Two journal texts, read once for any number of certificates."""
+
+    def __init__(self, first, second):
+        self.pair = None
+        # The refusal of the texts themselves comes before a certificate's, that of what they say after its form's.
+        self.before = self.after = None
+        try:
+            journals = read_journal(first, "A"), read_journal(second, "B")
+        except Refused as refused:
+            self.before = refused
+            return
+        self.pair = Pair(*journals)
+        try:
+            for journal in journals:
+                book_of(journal)
+            merged(self.pair)
+        except Refused as refused:
+            self.after = refused
+
+    def verdict(self, text, skew, transit):
+        """The verdict line of a certificate's text, without its line feed."""
+        try:
+            if self.before:
+                raise self.before
+            certificate = read_certificate(text)
+            if self.after:
+                raise self.after
+            audit(self.pair, certificate, skew, transit)
+        except Refused as refused:
+            return f"refused {refused}"
+        return "accepted"
+
+
+def audited(text, skew, transit):
+    first, rest = cut(text)
+    second, certificate = cut(rest)
+    return Evidence(first, second).verdict(certificate, skew, transit) + "\n"
+
+
+def batched(text, skew, transit):
+    first, rest = cut(text)
+    second, rest = cut(rest)
+    evidence = Evidence(first, second)
+    answers = []
+    while rest:
+        certificate, rest = cut(rest)
+        answers.append(evidence.verdict(certificate, skew, transit) + "\n")
+    return "".join(answers)
+
+
+def timeline(text):
+    """All lines in one order, or the refusal of journals that have none."""
+    first, second = cut(text)
+    try:
+        pair = Pair(read_journal(first, "A"), read_journal(second, "B"))
+        order = merged(pair)
+    except Refused as refused:
+        return f"refused {refused}\n"
+    lines = ((reference, pair.line(reference)) for reference in order)
+    return "".join(f"{reference} {line.reading} {line.words.decode()}\n" for reference, line in lines)
+
+
+def options_of(words, names):
+    """The numbers that command words give for these options."""
+    values = {}
+    words = list(words)
+    while words:
+        name, equals, value = words.pop(0).partition("=")
+        if not equals:
+            if not words:
+                raise Usage
+            value = words.pop(0)
+        if name not in names or name in values:
+            raise Usage
+        least, most, _ = OPTIONS[name]
+        try:
+            values[name] = number_of(value.encode(), most)
+        except Malformed:
+            raise Usage from None
+        if values[name] < least:
+            raise Usage
+    if any(OPTIONS[name][2] and name not in values for name in names):
+        raise Usage
+    return values
+
+
+def answer(words, text):
+    """What the program writes for these command words and this input, and its status."""
+    if not words or words[0] not in COMMANDS:
+        raise Usage
+    values = options_of(words[1:], COMMANDS[words[0]])
+    skew, transit = values.get("--skew-ms"), values.get("--transit-ms", 0)
+    if words[0] == "audit":
+        written = audited(text, skew, transit)
+    elif words[0] == "batch":
+        written = batched(text, skew, transit)
+    else:
+        written = timeline(text)
+    return written, int("refused" in written)
+
+
+def main():
+    try:
+        written, status = answer(sys.argv[1:], sys.stdin.buffer.read())
+    except Usage:
+        sys.stderr.write("fault Usage\n")
+        return 2
+    sys.stdout.write(written)
+    return status

@@ -1,0 +1,153 @@
+"""Our end of the link to a node: connections over TCP, frames in pieces, and what went over each."""
+
+import select
+import socket
+import time
+
+from . import frames
+from .frames import Frame, LinkFault
+from .program import PATIENCE, Difference
+
+ROLE_CODES = {"A": 1, "B": 2}
+OTHER = {"A": "B", "B": "A"}
+
+
+class Connection:
+    """One connection's record: what both ends told at its start, and all frames after that."""
+
+    def __init__(self, told_by_node, told_by_us):
+        self.told_by_node = told_by_node
+        self.told_by_us = told_by_us
+        self.sent = []
+        self.received = []
+        self.reached = 0
+
+
+class LinkEnd:
+    """The partner of a node of the role: it waits for the primary, and connects to the secondary."""
+
+    def __init__(self, role, address, random):
+        self.role = role
+        self.address = address
+        self.random = random
+        self.socket = None
+        self.feed = None
+        self.waiting = []
+        self.connections = []
+        self.listener = None
+        if role == "A":
+            self.listener = socket.create_server(address)
+            self.listener.settimeout(PATIENCE)
+
+    def close(self):
+        if self.socket is not None:
+            self.socket.close()
+            self.socket = None
+
+    def end(self):
+        self.close()
+        if self.listener is not None:
+            self.listener.close()
+
+    @property
+    def connection(self):
+        return self.connections[-1]
+
+    def joined(self):
+        """A connection of TCP: the primary's that comes, or ours to the secondary as soon as it listens."""
+        if self.listener is not None:
+            return self.listener.accept()[0]
+        for _ in range(PATIENCE * 50):
+            try:
+                return socket.create_connection(self.address, PATIENCE)
+            except ConnectionRefusedError:
+                time.sleep(0.02)
+        raise Difference("the secondary doesn't listen")
+
+    def open(self, last, role=None):
+        """Begins a connection, telling the node our role and the last serial that we took; whether it is joined."""
+        self.close()
+        self.socket = self.joined()
+        self.socket.setsockopt(socket.IPPROTO_TCP, socket.TCP_NODELAY, 1)
+        self.feed = frames.Feed()
+        self.waiting = []
+        mine = ROLE_CODES[role or OTHER[self.role]]
+        if self.role == "B":
+            self.write(frames.encode(Frame(frames.CONNECT, 0, 0, (mine, last))))
+        kind = frames.CONNECT if self.role == "A" else frames.CONNECT_REPLY
+        first = self.next_frame()
+        if first is None and self.role == "B":
+            self.close()
+            return False
+        if first is None or first.kind != kind or first.body[0] != ROLE_CODES[self.role] or first.term != 0:
+            raise Difference(f"the node begins the link by {first}")
+        if self.role == "A":
+            self.write(frames.encode(Frame(frames.CONNECT_REPLY, 0, 0, (mine, last))))
+        self.connections.append(Connection(first.body[1], last))
+        return True
+
+    def write(self, octets):
+        """Writes the octets, at times in pieces; whether the connection took them."""
+        try:
+            while octets:
+                length = len(octets)
+                if self.random.random() < 0.2:
+                    length = self.random.randrange(1, len(octets) + 1)
+                self.socket.sendall(octets[:length])
+                octets = octets[length:]
+                if octets and self.random.random() < 0.2:
+                    time.sleep(0.001)
+            return True
+        except OSError:
+            return False
+
+    def send(self, *sent):
+        """Sends frames one after another."""
+        self.connection.sent += sent
+        return self.write(b"".join(frames.encode(frame) for frame in sent))
+
+    def read(self, patience):
+        """Puts the frames that come within that time in the queue; False at the connection's end."""
+        ready, _, _ = select.select([self.socket], [], [], patience)
+        if not ready:
+            return True
+        try:
+            piece = self.socket.recv(1 << 16)
+        except ConnectionError:
+            return False
+        try:
+            self.waiting += self.feed.feed(piece)
+        except LinkFault as fault:
+            raise Difference(f"the node sends {piece.hex()} after {self.feed.rest.hex()}: {fault}") from fault
+        return piece != b""
+
+    def next_frame(self, patience=PATIENCE):
+        """The node's next frame; None where the connection has ended or the time is over."""
+        until = time.monotonic() + patience
+        while not self.waiting:
+            left = until - time.monotonic()
+            if left < 0 or not self.read(left):
+                break
+        return self.waiting.pop(0) if self.waiting else None
+
+    def second(self):
+        """Whether the node closes a second connection while one stands."""
+        with socket.create_connection(self.address, PATIENCE) as other:
+            try:
+                other.sendall(frames.encode(Frame(frames.CONNECT, 0, 0, (1, 0))))
+                return other.recv(100) == b""
+            except ConnectionError:
+                return True
+
+    def comes_again(self):
+        """Whether a primary connects in the next seconds."""
+        ready, _, _ = select.select([self.listener], [], [], 3)
+        return bool(ready)
+
+    def ended(self, patience=PATIENCE):
+        """Whether the node ends the connection within that time; frames until then are kept."""
+        until = time.monotonic() + patience
+        while time.monotonic() < until:
+            if not self.read(until - time.monotonic()):
+                return True
+        return False

@@ -1,0 +1,225 @@
+"""DHCPv6 messages for prefix delegation: octets of clients and relays to values, answers to octets (RFC 8415)."""
+
+from dataclasses import dataclass, field
+
+SOLICIT, ADVERTISE, REQUEST, RENEW, REBIND, REPLY, RELEASE = 1, 2, 3, 5, 6, 7, 8
+RELAY_FORWARD, RELAY_REPLY = 12, 13
+CLIENT_KINDS = (SOLICIT, REQUEST, RENEW, REBIND, RELEASE)
+KIND_NAMES = {SOLICIT: "SOLICIT", REQUEST: "REQUEST", RENEW: "RENEW", REBIND: "REBIND", RELEASE: "RELEASE"}
+KINDS_WITHOUT_SERVER = (SOLICIT, REBIND)
+
+CLIENT_IDENTIFIER, SERVER_IDENTIFIER, RELAY_MESSAGE = 1, 2, 9
+STATUS_CODE, INTERFACE_IDENTIFIER, IA_PD, IA_PREFIX = 13, 18, 25, 26
+COUNTED_CODES = (CLIENT_IDENTIFIER, SERVER_IDENTIFIER, RELAY_MESSAGE, INTERFACE_IDENTIFIER)
+
+SUCCESS, NO_BINDING, NO_PREFIX_AVAILABLE = 0, 3, 6
+
+MOST_RELAYS = 32
+MOST_IAS = 16
+LONGEST_ANSWER = 65_535
+
+
+class Refused(Exception):
+    """A message that isn't read; `name` says why."""
+
+    def __init__(self, name):
+        super().__init__(name)
+        self.name = name
+
+
+@dataclass
+class Relay:
+    hops: int
+    link: bytes
+    peer: bytes
+    interface: bytes | None = None
+
+
+@dataclass
+class Association:
+    """One IA_PD of a client: its identifier, and the prefix (address, length) that the client would like."""
+
+    identifier: int
+    hint: tuple | None = None
+
+
+@dataclass
+class ClientMessage:
+    kind: int
+    transaction: bytes
+    relays: list = field(default_factory=list)
+    client: bytes | None = None
+    server: bytes | None = None
+    associations: list = field(default_factory=list)
+
+
+def options(octets, start):
+    """The options from `start` on, each as code and data; a fault comes where the reading meets it."""
+    place = start
+    while place < len(octets):
+        if len(octets) - place < 4:
+            raise Refused("Short")
+        code = int.from_bytes(octets[place:place + 2], "big")
+        length = int.from_bytes(octets[place + 2:place + 4], "big")
+        place += 4
+        if len(octets) - place < length:
+            raise Refused("OptionLength")
+        yield code, octets[place:place + length]
+        place += length
+
+
+def count_once(code, met):
+    if code in COUNTED_CODES:
+        if code in met:
+            raise Refused("DuplicateId")
+        met.add(code)
+
+
+def identifier_of(data):
+    if not 3 <= len(data) <= 130:
+        raise Refused("OptionLength")
+    return data
+
+
+def cleared(address, length):
+    """The prefix of that length; the bits past it are cleared."""
+    return (address >> (128 - length) << (128 - length), length)
+
+
+def read_association(data):
+    if len(data) < 12:
+        raise Refused("OptionLength")
+    association = Association(int.from_bytes(data[:4], "big"))
+    hinted = False
+    for code, inner in options(data, 12):
+        if code != IA_PREFIX or hinted:
+            continue
+        hinted = True
+        if len(inner) < 25:
+            raise Refused("OptionLength")
+        if inner[8] > 128:
+            raise Refused("BadPrefixLength")
+        association.hint = cleared(int.from_bytes(inner[9:25], "big"), inner[8])
+    return association
+
+
+def read_client_message(octets):
+    if len(octets) < 4:
+        raise Refused("Short")
+    message = ClientMessage(octets[0], octets[1:4])
+    met = set()
+    for code, data in options(octets, 4):
+        count_once(code, met)
+        if code == CLIENT_IDENTIFIER:
+            message.client = identifier_of(data)
+        elif code == SERVER_IDENTIFIER:
+            message.server = identifier_of(data)
+        elif code == IA_PD:
+            if len(message.associations) == MOST_IAS:
+                raise Refused("TooManyIas")
+            message.associations.append(read_association(data))
+    return message
+
+
+def read_relay(octets, relays):
+    if len(relays) == MOST_RELAYS:
+        raise Refused("TooDeep")
+    if len(octets) < 34:
+        raise Refused("Short")
+    relay = Relay(octets[1], octets[2:18], octets[18:34])
+    relays.append(relay)
+    message = None
+    met = set()
+    for code, data in options(octets, 34):
+        count_once(code, met)
+        if code == INTERFACE_IDENTIFIER:
+            relay.interface = data
+        elif code == RELAY_MESSAGE:
+            message = read_level(data, relays)
+    if message is None:
+        raise Refused("Short")
+    return message
+
+
+def read_level(octets, relays):
+    if not octets:
+        raise Refused("Short")
+    if octets[0] == RELAY_FORWARD:
+        return read_relay(octets, relays)
+    if octets[0] not in CLIENT_KINDS:
+        raise Refused("Ignored")
+    return read_client_message(octets)
+
+
+def judge_identifiers(message, own):
+    if message.client is None:
+        raise Refused("NoClientId")
+    if message.kind in KINDS_WITHOUT_SERVER:
+        if message.server is not None:
+            raise Refused("ServerIdPresent")
+        return
+    if message.server is None:
+        raise Refused("ServerIdMissing")
+    if message.server != own:
+        raise Refused("NotOurs")
+
+
+def decode(octets, own):
+    """The client's message in a datagram, its relays outermost first; `own` is the server's identifier."""
+    relays = []
+    message = read_level(octets, relays)
+    judge_identifiers(message, own)
+    message.relays = relays
+    return message
+
+
+def option(code, data):
+    return code.to_bytes(2, "big") + len(data).to_bytes(2, "big") + data
+
+
+def status_option(code):
+    return option(STATUS_CODE, code.to_bytes(2, "big"))
+
+
+def prefix_option(prefix, preferred, valid):
+    address, length = prefix
+    return option(IA_PREFIX, preferred.to_bytes(4, "big") + valid.to_bytes(4, "big")
+                  + bytes([length]) + address.to_bytes(16, "big"))
+
+
+def association_option(identifier, answer):
+    """The IA_PD of an answer: `("given", prefix, valid)`, `("no prefix",)` or `("no binding",)`."""
+    head = identifier.to_bytes(4, "big")
+    if answer[0] == "given":
+        _, prefix, valid = answer
+        times = (valid // 2).to_bytes(4, "big") + (4 * valid // 5).to_bytes(4, "big")
+        return option(IA_PD, head + times + prefix_option(prefix, valid, valid))
+    code = NO_PREFIX_AVAILABLE if answer[0] == "no prefix" else NO_BINDING
+    return option(IA_PD, head + bytes(8) + status_option(code))
+
+
+def wrapped(answer, relay):
+    """The answer inside a relay's reply; None where its length has no field to stand in."""
+    if len(answer) > LONGEST_ANSWER:
+        return None
+    head = bytes([RELAY_REPLY, relay.hops]) + relay.link + relay.peer
+    if relay.interface is not None:
+        head += option(INTERFACE_IDENTIFIER, relay.interface)
+    return head + option(RELAY_MESSAGE, answer)
+
+
+def encode(message, own, answers):
+    """The octets of the answer to `message`, one of `answers` per IA_PD; None where they are too many."""
+    kind = ADVERTISE if message.kind == SOLICIT else REPLY
+    octets = bytes([kind]) + message.transaction
+    octets += option(CLIENT_IDENTIFIER, message.client) + option(SERVER_IDENTIFIER, own)
+    if message.kind == RELEASE:
+        octets += status_option(SUCCESS)
+    for association, answer in zip(message.associations, answers, strict=True):
+        if answer[0] != "released":
+            octets += association_option(association.identifier, answer)
+    for relay in reversed(message.relays):
+        octets = wrapped(octets, relay)
+        if octets is None:
+            return None
+    return octets if len(octets) <= LONGEST_ANSWER else None
