@@ -4,6 +4,7 @@ import random
 import subprocess
 from typing import NamedTuple
 
+from . import edges
 from . import limits
 from .desk import Evidence, answer, cut
 from .certificates import read_certificate
@@ -207,13 +208,15 @@ def kind_of(line):
 
 
 def compare_limits(desk):
-    """The same of the inputs at the limits."""
+    """The same of the inputs at limits and bounds."""
     met, differences = collections.Counter(), []
-    for journals, certificates in limits.inputs():
-        words = ["batch", "--skew-ms", "2000", "--workers", "1"]
-        kinds, found = compare(desk, Question(words, b"".join([*journals, *certificates])))
-        met.update(kinds)
-        differences += found
+    at_limits = [(journals, certificates, (0,)) for journals, certificates in limits.inputs()]
+    for journals, certificates, transits in [*at_limits, *edges.inputs()]:
+        for transit in transits:
+            words = ["batch", "--skew-ms", "2000", "--transit-ms", str(transit), "--workers", "1"]
+            kinds, found = compare(desk, Question(words, b"".join([*journals, *certificates])))
+            met.update(kinds)
+            differences += found
     return met, differences
 
 
