@@ -3,7 +3,7 @@
 ghost use Rattle.std.specs.Prelude.{◌≡◌, ◌≢◌, ℕ, List, [], codes, IfOk, IfSome, IsErrOf, Some, None, true, false};
 ghost use Rattle.std.specs.Prelude.{map, string_bytes};
 ghost use Rattle.clap.specs.Words.{app_of, rule_of, first_of, rows_of, found_of, subcommand_of, subcommand_rows_of};
-ghost use Rattle.clap.specs.Words.{takes, fault_of, kind_of};
+ghost use Rattle.clap.specs.Words.{takes, fault_of, kind_of, with_rule};
 ghost use Rattle.clap.specs.declared.builder.command.Command.TheViews.{out-Command};
 ghost use Rattle.attribution_desk.specs.Words.{option_rule, audit_app, batch_app, asking_app, find_app, judging_app};
 ghost use Rattle.attribution_desk.specs.Words.{desk};
@@ -48,7 +48,7 @@ pub enum Command {
 }
 
 /// An option with a value.
-pub(crate) fn value_option<'a>(alloc: Global, name: &'a str, required: bool) -> Arg<'a>
+fn value_option<'a>(alloc: Global, name: &'a str, required: bool) -> Arg<'a>
     ensures rule { rule_of result ≡ option_rule name.entry.now required }
     ensures local { result.global ≡ false }
 {
@@ -58,14 +58,27 @@ pub(crate) fn value_option<'a>(alloc: Global, name: &'a str, required: bool) -> 
         .action(ArgAction::Set)
 }
 
+/// A command with one option more, which has a value.
+pub(crate) fn with_option<'a>(
+    alloc: Global,
+    command: ClapCommand<'a>,
+    name: &'a str,
+    required: bool,
+) -> Result<ClapCommand<'a>, AllocError>
+    ensures app { IfOk result (λ c. app_of c ≡ with_rule (app_of command.entry) (option_rule name.entry.now required)) }
+    ensures local { (out-Command command.entry).has_globals ≡ false
+        → IfOk result (λ c. (out-Command c).has_globals ≡ false) }
+{
+    command.arg(value_option(alloc, name, required))
+}
+
 /// `audit --skew-ms N [--transit-ms N]`.
 fn audit_command<'a>(alloc: Global) -> Result<ClapCommand<'a>, AllocError>
     ensures app { IfOk result (λ c. app_of c ≡ audit_app) }
     ensures local { IfOk result (λ c. (out-Command c).has_globals ≡ false) }
 {
-    let skew = value_option(alloc, "skew-ms", true);
-    let transit = value_option(alloc, "transit-ms", false);
-    ClapCommand::new(alloc, "audit").arg(skew)?.arg(transit)
+    let audit = with_option(alloc, ClapCommand::new(alloc, "audit"), "skew-ms", true)?;
+    with_option(alloc, audit, "transit-ms", false)
 }
 
 /// `batch --skew-ms N --workers N [--transit-ms N]`.
@@ -73,13 +86,9 @@ fn batch_command<'a>(alloc: Global) -> Result<ClapCommand<'a>, AllocError>
     ensures app { IfOk result (λ c. app_of c ≡ batch_app) }
     ensures local { IfOk result (λ c. (out-Command c).has_globals ≡ false) }
 {
-    let skew = value_option(alloc, "skew-ms", true);
-    let workers = value_option(alloc, "workers", true);
-    let transit = value_option(alloc, "transit-ms", false);
-    ClapCommand::new(alloc, "batch")
-        .arg(skew)?
-        .arg(workers)?
-        .arg(transit)
+    let batch = with_option(alloc, ClapCommand::new(alloc, "batch"), "skew-ms", true)?;
+    let batch = with_option(alloc, batch, "workers", true)?;
+    with_option(alloc, batch, "transit-ms", false)
 }
 
 /// `find --skew-ms N --holder HEX --prefix P ..`: who is asked of, and what.
@@ -87,13 +96,9 @@ fn asking_command<'a>(alloc: Global) -> Result<ClapCommand<'a>, AllocError>
     ensures app { IfOk result (λ c. app_of c ≡ asking_app) }
     ensures local { IfOk result (λ c. (out-Command c).has_globals ≡ false) }
 {
-    let skew = value_option(alloc, "skew-ms", true);
-    let holder = value_option(alloc, "holder", true);
-    let prefix = value_option(alloc, "prefix", true);
-    ClapCommand::new(alloc, "find")
-        .arg(skew)?
-        .arg(holder)?
-        .arg(prefix)
+    let find = with_option(alloc, ClapCommand::new(alloc, "find"), "skew-ms", true)?;
+    let find = with_option(alloc, find, "holder", true)?;
+    with_option(alloc, find, "prefix", true)
 }
 
 /// `find .. --from M --to M [--transit-ms N]`.
@@ -101,11 +106,9 @@ fn find_command<'a>(alloc: Global) -> Result<ClapCommand<'a>, AllocError>
     ensures app { IfOk result (λ c. app_of c ≡ find_app) }
     ensures local { IfOk result (λ c. (out-Command c).has_globals ≡ false) }
 {
-    let from = value_option(alloc, "from", true);
-    let to = value_option(alloc, "to", true);
-    let transit = value_option(alloc, "transit-ms", false);
-    let asking = asking_command(alloc)?;
-    asking.arg(from)?.arg(to)?.arg(transit)
+    let find = with_option(alloc, asking_command(alloc)?, "from", true)?;
+    let find = with_option(alloc, find, "to", true)?;
+    with_option(alloc, find, "transit-ms", false)
 }
 
 /// The commands that judge certificates.

@@ -8,7 +8,7 @@ ghost use Rattle.evidence_search.specs.declared.query.HolderQuery.{HolderQuery a
 ghost use Rattle.attribution_desk.specs.Words.{who_app};
 ghost use Rattle.attribution_desk.specs.Given.{IsPrefixText, IsBlockText, IsMoment, IsWhen, IsHolderQuery};
 
-use crate::command::{number_in, prefix_in, skew_given, transit_given, value_option};
+use crate::command::{number_in, prefix_in, skew_given, transit_given, with_option};
 use crate::error::UsageError;
 use clap::{ArgMatches, Command as ClapCommand};
 use evidence_search::HolderQuery;
@@ -22,15 +22,10 @@ pub(crate) fn who_command<'a>(alloc: Global) -> Result<ClapCommand<'a>, AllocErr
     ensures app { IfOk result (λ c. app_of c ≡ who_app) }
     ensures local { IfOk result (λ c. (out-Command c).has_globals ≡ false) }
 {
-    let skew = value_option(alloc, "skew-ms", true);
-    let prefix = value_option(alloc, "prefix", true);
-    let at = value_option(alloc, "at", true);
-    let transit = value_option(alloc, "transit-ms", false);
-    ClapCommand::new(alloc, "who")
-        .arg(skew)?
-        .arg(prefix)?
-        .arg(at)?
-        .arg(transit)
+    let who = with_option(alloc, ClapCommand::new(alloc, "who"), "skew-ms", true)?;
+    let who = with_option(alloc, who, "prefix", true)?;
+    let who = with_option(alloc, who, "at", true)?;
+    with_option(alloc, who, "transit-ms", false)
 }
 
 /// The prefix of one address, which a text without a length spells.

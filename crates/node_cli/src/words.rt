@@ -19,16 +19,37 @@ pub enum Command {
     Run { count: u32, partner: Partner },
 }
 
-/// `check`, and `run --count N [--partner-down]`.
+/// A command with one option more.
+fn with_option<'a>(
+    alloc: Global,
+    command: ClapCommand<'a>,
+    name: &'a str,
+    required: bool,
+    action: ArgAction,
+) -> Result<ClapCommand<'a>, AllocError> {
+    command.arg(
+        Arg::new(alloc, name)
+            .long(name)
+            .required(required)
+            .action(action),
+    )
+}
+
+/// `run --count N [--partner-down]`.
+fn run_command<'a>(alloc: Global) -> Result<ClapCommand<'a>, AllocError> {
+    let run = with_option(
+        alloc,
+        ClapCommand::new(alloc, "run"),
+        "count",
+        true,
+        ArgAction::Set,
+    )?;
+    with_option(alloc, run, "partner-down", false, ArgAction::SetTrue)
+}
+
+/// `check`, and `run` with its options.
 fn node_command<'a>(alloc: Global) -> Result<ClapCommand<'a>, AllocError> {
-    let count = Arg::new(alloc, "count")
-        .long("count")
-        .required(true)
-        .action(ArgAction::Set);
-    let down = Arg::new(alloc, "partner-down")
-        .long("partner-down")
-        .action(ArgAction::SetTrue);
-    let run = ClapCommand::new(alloc, "run").arg(count)?.arg(down)?;
+    let run = run_command(alloc)?;
     ClapCommand::new(alloc, "node_cli")
         .subcommand_required(true)
         .disable_help_subcommand(true)
