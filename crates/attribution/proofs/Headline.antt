@@ -9,7 +9,7 @@ use Rattle.attribution.specs.Volumes.{volume_at, volumes_in}
 use Rattle.attribution.specs.Run.{Step, lines_of, Leaves}
 use Rattle.attribution.specs.Acceptance.{AcceptedIsTrue}
 use Rattle.attribution.specs.Laws.{Setting, ChainsStandInOrder, BoundsHold, LateAfterClose}
-use Rattle.attribution.proofs.Lawful.{Lawful}
+use Rattle.attribution.specs.Lawful.{Lawful}
 use Rattle.attribution.proofs.Runs.{last, World, leads_at, written_by, written_from, past_end, held, alone}
 
 -- the journal that a side leaves
@@ -24,7 +24,7 @@ left_of js run side v h lines number =
 abbrev pub IsLawful : (Role → List (List Line) → Type 0) → Type 0
 IsLawful IsLegal = (side : Role) (vs : List (List Line)) → IsLegal side vs → Lawful vs
 
-world_of : (IsLegal : Role → List (List Line) → Type 0) → IsLawful IsLegal → (js : Journals) (skew : ℕ) (run : List Step) → Setting IsLegal js skew run → World IsLegal js skew run
+pub world_of : (IsLegal : Role → List (List Line) → Type 0) → IsLawful IsLegal → (js : Journals) (skew : ℕ) (run : List Step) → Setting IsLegal js skew run → World IsLegal js skew run
 world_of IsLegal keeps js skew run setting =
     let left : (side : Role) → (0 < volume_of js side) × (journal_of js side ≡ volume_at (last js side) (lines_of side run)) =
     λ side. elim side as (λ x. (0 < volume_of js x) × (journal_of js x ≡ volume_at (last js x) (lines_of x run))) [

@@ -20,14 +20,11 @@ use Rattle.attribution.specs.declared.delegation.Delegation.{Delegation}
 use Rattle.attribution.specs.declared.delegation.Lasting.{Lasting}
 use Rattle.attribution.specs.declared.delegation.Lasting.TheVariants.{For, Until}
 use Rattle.attribution.specs.Delegation.{of_lease, of_carried, told_by}
+use Rattle.attribution.specs.Lawful.{IsOf, StillCarried, Ended, GivenUp, Accounted, Lawful}
 use Rattle.attribution.specs.Tests.{is_release_of}
 use Rattle.attribution.proofs.Deciding.{decides_release}
 use Rattle.attribution.proofs.Steps.{finite, first_reading}
 use Rattle.attribution.proofs.Serials.{Rise, first_rises, base_rises}
-
--- the delegation is this client's, of this prefix under this identity association
-abbrev pub IsOf : Carried → Delegation → Type 0
-IsOf c d = IsSameLease c d.client d.iaid d.prefix
 
 -- up to which reading of its server's clock it lasts, told of at a reading
 abbrev pub lasts_to : ℕ → Lasting → ℕ
@@ -138,20 +135,6 @@ returned_or (x ∷ xs) (suc from) d = elim (returned_or xs from d) [ inl r ↦ i
   past : ((k : ℕ) (l : Line) → from ≤ k → slice_get xs k ≡ Some l → l.event ≢ Release d.client d.iaid d.prefix) → (k : ℕ) (l : Line) → suc from ≤ k → slice_get (x ∷ xs) k ≡ Some l → l.event ≢ Release d.client d.iaid d.prefix
   past none zero l le at = absurd (omega arith)
   past none (suc k) l le at = none k l (omega arith) at
-
--- What volume w, at index m, knows of a delegation that line k of volume n gave up to c's end: it carries it, it opens past that
--- end, or an earlier volume has a later line that gives it back.
-unfoldable pub StillCarried : List Line → Carried → Type 0
-StillCarried w c = (k : ℕ) × (l : Line) × (d : Carried) × (slice_get w k ≡ Some l) × (l.event ≡ Carry d) × IsOf d (of_carried c) × (c.end ≤ d.end)
-
-unfoldable pub Ended : List Line → Carried → Type 0
-Ended w c = (l : Line) × (slice_get w 0 ≡ Some l) × (c.end ≤ l.reading)
-
-unfoldable pub GivenUp : List (List Line) → (n k m : ℕ) → Carried → Type 0
-GivenUp vs n k m c = (i : ℕ) × (j : ℕ) × (v : List Line) × (l : Line) × (i < m) × ((n < i) ⊎ ((n ≡ i) × (k < j))) × (slice_get vs i ≡ Some v) × (slice_get v j ≡ Some l) × (l.event ≡ Release c.client c.iaid c.prefix)
-
-abbrev pub Accounted : List (List Line) → (n k m : ℕ) → List Line → Carried → Type 0
-Accounted vs n k m w c = StillCarried w c ⊎ (Ended w c ⊎ GivenUp vs n k m c)
 
 -- From one volume to the next: what line k of v tells of, up to c's end, is given up later in v, or w carries it, or w opens past it.
 IsTold : List Line → ℕ → Carried → Type 0
@@ -331,13 +314,5 @@ module _ (side : Role) (vs : List (List Line)) (legal : AreVolumes side 1 vs) wh
       → IsOf c (of_lease g) → c.end ≡ l.reading + 1000 * g.valid → Accounted vs n k m w c
   granted_accounted m n k v w l g c lt a b at is of e = accounts m n k v w c lt a b (of_granted v k l g c at is of e)
 
--- all together
-pub record Lawful (vs : List (List Line)) : Type 0 where
-  pub once : (n m j k : ℕ) (v w : List Line) (l o : Line) (x y : PartnerMessage) → slice_get vs n ≡ Some v → slice_get vs m ≡ Some w
-      → slice_get v j ≡ Some l → l.event ≡ Send x → slice_get w k ≡ Some o → o.event ≡ Send y → x.serial ≡ y.serial → (n ≡ m) × (j ≡ k)
-  pub finite : (n k : ℕ) (v : List Line) (l : Line) (g : Lease) → slice_get vs n ≡ Some v → slice_get v k ≡ Some l → l.event ≡ Grant g → g.valid ≤ 31536000
-  pub accounted : (m n k : ℕ) (v w : List Line) (l : Line) (g : Lease) (c : Carried) → n < m → slice_get vs n ≡ Some v → slice_get vs m ≡ Some w
-      → slice_get v k ≡ Some l → l.event ≡ Grant g → IsOf c (of_lease g) → c.end ≡ l.reading + 1000 * g.valid → Accounted vs n k m w c
-
 pub lawful : (side : Role) (vs : List (List Line)) → AreVolumes side 1 vs → Lawful vs
-lawful side vs legal = record { once = sends_once side vs legal; finite = leases_finite side vs legal; accounted = granted_accounted side vs legal }
+lawful side vs legal = record { once = λ n m j k v w l o x y last. sends_once side vs legal n m j k v w l o x y; finite = leases_finite side vs legal; accounted = granted_accounted side vs legal }

@@ -8,3 +8,13 @@ pub mod Lawful
 pub mod Places
 pub mod Runs
 pub mod Headline
+pub mod Clocks
+pub mod Orders
+pub mod Timed
+pub mod Placed
+pub mod LegalJournals
+pub mod Fitting
+pub mod Earlier
+pub mod PassedOver
+pub mod Later
+pub mod FirstSends

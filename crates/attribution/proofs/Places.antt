@@ -49,7 +49,7 @@ line_by : (s : Step) (ss : List Step) (side : Role) (l : Line) (n : ℕ) (b : Bo
 line_by s ss side l n true h = let e : 1 + n ≡ suc n = omega arith in rw e h
 line_by s ss side l n false h = let e : 0 + n ≡ n = omega arith in rw e h
 
-line_at : (run : List Step) (side : Role) (i : ℕ) (s : Step) → At run i s → s.side ≡ side → slice_get (lines_of side run) (count side run i) ≡ Some s.line
+pub line_at : (run : List Step) (side : Role) (i : ℕ) (s : Step) → At run i s → s.side ≡ side → slice_get (lines_of side run) (count side run i) ≡ Some s.line
 line_at [] side i s at of = absurd (cc)
 line_at (t ∷ ts) side zero s at of =
     let e : t ≡ s = cc in
@@ -180,6 +180,10 @@ pub volumes_at : (m : ℕ) (ls : List Line) (n : ℕ) → n < m → slice_get (v
 volumes_at zero ls n lt = absurd (omega arith)
 volumes_at (suc m) ls zero lt = refl
 volumes_at (suc m) ls (suc n) lt = volumes_at m (past_close ls) n (omega arith)
+
+pub volumes_length : (m : ℕ) (ls : List Line) → length (volumes_in m ls) ≡ m
+volumes_length zero ls = refl
+volumes_length (suc m) ls = let r = volumes_length m (past_close ls) in omega arith
 
 -- each line of a volume stands in the run
 pub placed : (run : List Step) (side : Role) (n k : ℕ) (l : Line) → slice_get (volume_at n (lines_of side run)) k ≡ Some l

@@ -33,8 +33,8 @@ use Rattle.attribution.specs.Run.{Step, lines_of, At, closes, IsWithin, IsRun, K
 use Rattle.attribution.specs.Acceptance.{Tells, IsCleared, IsCarried, IsAfterOpen, IsGrantedAfterOpen, IsPastPartner, IsOutside, ClosesFrom, IsAccepted}
 use Rattle.attribution.specs.Laws.{Stands, RefAt}
 use Rattle.attribution.proofs.Tiling.{pieces_meet}
-use Rattle.attribution.proofs.Places.{placed, standing, earlier, one_place, closes_le, earlier_volume, volumes_at}
-use Rattle.attribution.proofs.Lawful.{IsOf, Lawful, StillCarried, Ended, GivenUp}
+use Rattle.attribution.proofs.Places.{placed, standing, earlier, one_place, closes_le, earlier_volume, volumes_at, volumes_length}
+use Rattle.attribution.specs.Lawful.{IsOf, Lawful, StillCarried, Ended, GivenUp}
 
 -- the index of the volume that the journal is
 abbrev pub last : Journals → Role → ℕ
@@ -65,7 +65,7 @@ module _ (IsLegal : Role → List (List Line) → Type 0) (js : Journals) (skew 
       let v = a.stands.volume in
       subst (λ side. closes side run i < volume_of js side) (sym a.stands.of) (omega arith)
 
-  ref_at : (r : Ref) (l : Line) → Names js r l → (i : ℕ) × (s : Step) × RefAt js run r i s × (s.line ≡ l)
+  pub ref_at : (r : Ref) (l : Line) → Names js r l → (i : ℕ) × (s : Step) × RefAt js run r i s × (s.line ≡ l)
   ref_at r l n =
       let h : slice_get (volume_at (last js r.side) (lines_of r.side run)) (r.number - 1) ≡ Some l = subst (λ ls. slice_get ls (r.number - 1) ≡ Some l) (world.left r.side) n.1 in
       let p = placed run r.side (last js r.side) (r.number - 1) l h in
@@ -122,7 +122,7 @@ module _ (IsLegal : Role → List (List Line) → Type 0) (js : Journals) (skew 
       let v = a.stands.volume in
       let le = closes_le r.side run n i (omega arith) in
       let here : slice_get (volume_at (last js r.side) lines) (r.number - 1) ≡ Some s.line = subst (λ ls. slice_get ls (r.number - 1) ≡ Some s.line) (world.left r.side) a.names.1 in
-      let same = (world.lawful r.side).once (closes r.side run n) (last js r.side) st.0 (r.number - 1) (volume_at (closes r.side run n) lines) (volume_at (last js r.side) lines) t.line s.line m m
+      let same = (world.lawful r.side).once (closes r.side run n) (last js r.side) st.0 (r.number - 1) (volume_at (closes r.side run n) lines) (volume_at (last js r.side) lines) t.line s.line m m (let len = volumes_length (volume_of js r.side) lines in omega arith)
       (volumes_at (volume_of js r.side) lines (closes r.side run n) (omega arith)) (volumes_at (volume_of js r.side) lines (last js r.side) (omega arith)) st.2 sends' here sends refl in
       let there : Stands run r.side (last js r.side) (r.number - 1) n t = subst (λ k. Stands run r.side (last js r.side) k n t) same.1 (subst (λ v. Stands run r.side v st.0 n t) same.0 st.1) in
       let e : i ≡ n = one_place run r.side (last js r.side) (r.number - 1) i n s t a.stands there in

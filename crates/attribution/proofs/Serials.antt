@@ -28,7 +28,7 @@ pub record Rise (low : ℕ) (ls : List Line) (high : ℕ) : Type 0 where
   pub within : (k : ℕ) (l : Line) (x : PartnerMessage) → slice_get ls k ≡ Some l → l.event ≡ Send x → (low < x.serial) × (x.serial ≤ high)
   pub once : (j k : ℕ) (l m : Line) (x z : PartnerMessage) → slice_get ls j ≡ Some l → l.event ≡ Send x → slice_get ls k ≡ Some m → m.event ≡ Send z → x.serial ≡ z.serial → j ≡ k
 
-rise_nil : (n : ℕ) → Rise n [] n
+pub rise_nil : (n : ℕ) → Rise n [] n
 rise_nil n = record { le = omega arith; within = λ k l x at is. absurd (cc); once = λ j k l m x z a b c d e. absurd (cc) }
 
 IsSend : Event → Type 0
@@ -80,7 +80,7 @@ no_base_stays : (b : Book) (l : Line) → IsStep b l → NoBase b → NoBase (af
 no_base_stays b l step (inl one) = inl (let k = volume_kept b l.reading l.event in omega arith)
 no_base_stays b l step (inr p) = inr (past_stays b l l.event p.0 p.1 (step Opening) (step Pools) (step TransitRule), next_number b l step)
 
-IsBase : Event → Type 0
+abbrev pub IsBase : Event → Type 0
 IsBase (Base n) = ⊤
 IsBase _ = ⊥
 
@@ -93,13 +93,12 @@ before_not_past (AtUnit p) a b = a
 before_not_past PastHead a b = a
 
 not_base : (b : Book) (e : Event) → NoBase b → KeepsHead b e → IsBase e → ⊥
-unfolding IsBase
 not_base b (Base n) (inl one) h is = let x = h.0 in absurd (omega arith)
 not_base b (Base n) (inr past) h is = before_not_past b.place h.1 past.0
 not_base b _ none h is = is
 
-rises_by : (b : Book) (now high : ℕ) (y : Line) (ls : List Line) (e : Event) → y.event ≡ e → KeepsSerial b e → (IsBase e → ⊥) → Rise (effect b now e).serial ls high → Rise b.serial (y ∷ ls) high
-unfolding IsBase IsSend
+pub rises_by : (b : Book) (now high : ℕ) (y : Line) (ls : List Line) (e : Event) → y.event ≡ e → KeepsSerial b e → (IsBase e → ⊥) → Rise (effect b now e).serial ls high → Rise b.serial (y ∷ ls) high
+unfolding IsSend
 rises_by b now high y ls (Base n) is twelve never r = absurd (never (omega arith))
 rises_by b now high y ls (Send m) is twelve never r = rise_send b.serial high y m ls is (let x = twelve.0 in omega arith) r
 rises_by b now high y ls (Take m) is twelve never r = rise_on b.serial high y ls (λ s. subst IsSend is s) (subst (λ n. Rise n ls high) (taking_leaves (λ x. x.serial) (λ x us t a w. refl) b now m) r)
@@ -115,7 +114,7 @@ serials_rise (y ∷ ys) b steps none =
     rises_by b y.reading (book_after b (y ∷ ys)).serial y ys y.event refl (steps.0 Serial) (not_base b y.event none (steps.0 Head))
     (serials_rise ys (after b y) steps.1 (no_base_stays b y steps.0 none))
 
-no_base_in : (ls : List Line) (b : Book) → AreSteps b ls → NoBase b → (k : ℕ) (l : Line) → slice_get ls k ≡ Some l → IsBase l.event → ⊥
+pub no_base_in : (ls : List Line) (b : Book) → AreSteps b ls → NoBase b → (k : ℕ) (l : Line) → slice_get ls k ≡ Some l → IsBase l.event → ⊥
 no_base_in [] b steps none k l at is = absurd (cc)
 no_base_in (y ∷ ys) b steps none zero l at is = let same : y ≡ l = cc in not_base b y.event none (steps.0 Head) (subst (λ (z : Line). IsBase z.event) (sym same) is)
 no_base_in (y ∷ ys) b steps none (suc k) l at is = no_base_in ys (after b y) steps.1 (no_base_stays b y steps.0 none) k l at is
@@ -139,7 +138,7 @@ to_base : (b : Book) (y : Line) (ys : List Line) (e : Event) (n : BookNumbers) (
     → (IsBeforeBase (place_of e) → (k : ℕ) → slice_get ys k ≡ Some l → Rise n.serial ys high)
     → (e ≡ Base n → Rise n.serial ys high)
     → Rise n.serial (y ∷ ys) high
-unfolding IsSend IsBase
+unfolding IsSend
 to_base b y ys (Open p q r) n high zero l is before over step steps h at base rest here = let same : y ≡ l = cc in let e = (sym is ∙ ap (λ (z : Line). z.event) same) ∙ base in absurd (cc)
 to_base b y ys (Open p q r) n high (suc j) l is before over step steps h at base rest here = rise_on n.serial high y ys (λ s. subst IsSend is s) (rest tt j at)
 to_base b y ys (Pool p q) n high zero l is before over step steps h at base rest here = let same : y ≡ l = cc in let e = (sym is ∙ ap (λ (z : Line). z.event) same) ∙ base in absurd (cc)

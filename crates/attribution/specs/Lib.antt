@@ -2,9 +2,11 @@ pub mod Delegation
 pub mod Volumes
 pub mod Run
 pub mod Acceptance
+pub mod Lawful
 pub mod FirstRefusal
 pub mod Tests
 pub mod TestLaws
 pub mod Listing
 pub mod Laws
+pub mod Clocks
 pub mod VerdictText

@@ -6,12 +6,22 @@ ghost use Rattle.attribution.specs.Laws.{ChainsStandInOrder, BoundsHold, LateAft
 ghost use Rattle.attribution.specs.Laws.{EndPointsDecide};
 ghost use Rattle.attribution.specs.Listing.{ListedIsEnough};
 ghost use Rattle.attribution.specs.TestLaws.{OpenDecided, EndsDecided, ClearsDecided, NamesDecided};
+ghost use Rattle.attribution.specs.Lawful.{Lawful, LegalIsLawful};
+ghost use Rattle.attribution.specs.Clocks.{EarlyByFirstSend, EarlyFitsNoClocks, FirstVolumesFit, VolumesFit};
+ghost use Rattle.attribution.specs.Clocks.{FittingNameOne, TimelyNameOne};
 ghost use Rattle.book_rules.specs.NextHead.{IsLegal};
 
 /// What is accepted is true in every run of the pair that leaves the journals, whatever volumes came before, with
 /// clocks within the skew and answers within the transit.
 pub fn accepted_is_true()
     ensures { AcceptedIsTrue IsLegal }
+{}
+
+/// Of all that servers may write that needs three facts alone: a serial of the journal is sent once, no lease is for
+/// ever, and each volume accounts for what earlier ones granted. What the pair's rules allow has them.
+pub fn lawful_is_enough()
+    ensures enough { AcceptedIsTrue (λ side volumes. Lawful volumes) }
+    ensures legal { LegalIsLawful }
 {}
 
 /// A certificate has at most one verdict, which is that it is accepted exactly where it is.
@@ -56,4 +66,28 @@ pub fn tests_decide()
     ensures ends { EndsDecided }
     ensures clears { ClearsDecided }
     ensures names { NamesDecided }
+{}
+
+/// Clocks within the skew fit two journals, closed and as `check_pair` of `auditor` asks, where no take is early: of
+/// first volumes in runs that keep all rules, and of any in runs whose earlier volumes are lawful; of these exactly so.
+pub fn run_exists()
+    ensures first { FirstVolumesFit }
+    ensures exact { VolumesFit }
+{}
+
+/// No clocks within the skew fit journals in which a take is early.
+pub fn early_fits_no_clocks()
+    ensures { EarlyFitsNoClocks (λ side volumes. Lawful volumes) }
+{}
+
+/// Two certificates that are accepted over one pair of journals name the same client, where their prefixes share an
+/// address and their intervals a moment: if clocks fit the journals, or no take is early.
+pub fn no_two_holders()
+    ensures fitting { FittingNameOne (λ side volumes. Lawful volumes) }
+    ensures timely { TimelyNameOne }
+{}
+
+/// In journals as `check_pair` asks one comparison tells of each take whether it is early.
+pub fn early_by_first_send()
+    ensures { EarlyByFirstSend }
 {}

@@ -4,9 +4,11 @@
 //! write is `book_rules`' `NextHead`), runs of the pair and who holds what in one (`Run`), what it takes to accept a
 //! certificate and what is then true (`Acceptance`), and which refusal comes first (`FirstRefusal`). What a certificate
 //! is asked is a list, `CONDITIONS`; its verdict is the refusal of the first that isn't met.
+//! What the headline needs of a server is less than its rules (`Lawful`), and which journals clocks fit is one
+//! comparison a take (`Clocks`).
 //!
 //! The laws over these definitions are calls without a body, whose contract is the law: `accepted_is_true` is the
-//! headline.
+//! headline, `run_exists` and `no_two_holders` say what it is worth over journals that clocks fit.
 //!
 //! ```text
 //! accepted_is_true(); // what is accepted is true in every run
@@ -23,8 +25,9 @@ mod verdict_text;
 pub use condition::{CONDITIONS, Condition};
 pub use delegation::{Delegation, Lasting};
 pub use laws::{
-    accepted_is_true, bounds_hold, chains_stand_in_order, end_points_decide, late_after_close,
-    listed_is_enough, pieces_meet_every_moment, tests_decide, verdict_is_one,
+    accepted_is_true, bounds_hold, chains_stand_in_order, early_by_first_send,
+    early_fits_no_clocks, end_points_decide, late_after_close, lawful_is_enough, listed_is_enough,
+    no_two_holders, pieces_meet_every_moment, run_exists, tests_decide, verdict_is_one,
 };
 pub use verdict::Verdict;
 pub use verdict_text::{push_place, verdict_line};
