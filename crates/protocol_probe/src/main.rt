@@ -12,6 +12,7 @@ ghost use Rattle.std.specs.Prelude.{◌≤◌, ◌<◌};
 mod arguments;
 mod balance;
 mod binding;
+mod call;
 mod frames;
 mod messages;
 mod octets;
@@ -22,79 +23,64 @@ mod times;
 mod unit_words;
 
 use arguments::Arguments;
+use call::Call;
 use std::alloc::{AllocError, Global};
 use std::io;
 use std::io::{BufRead, BufReader, BufWriter, Write};
 
-/// Whether such a call stands in a crate of values; its answer, with a space before each word.
-fn asked_of_values(
+/// Asks what a call says, and appends the answer, with a space before each word.
+fn ask(
     alloc: Global,
-    call: &[u8],
+    call: Call,
     arguments: &mut Arguments<'_>,
     out: &mut Vec<u8>,
-) -> Result<bool, AllocError> {
+) -> Result<(), AllocError> {
     match call {
-        b"cuts" => texts::cuts(arguments, out)?,
-        b"number" => texts::number(arguments, out)?,
-        b"octets" => texts::octets(alloc, arguments, out)?,
-        b"digits" => texts::digits(alloc, arguments, out)?,
-        b"words" => texts::words(arguments, out)?,
-        b"prefix" => prefixes::prefix(alloc, arguments, out)?,
-        b"canonical" => prefixes::canonical(alloc, arguments, out)?,
-        b"unit" => prefixes::unit_of(alloc, arguments, out)?,
-        b"compare" => prefixes::compare(arguments, out)?,
-        b"duid" => prefixes::duid(alloc, arguments, out)?,
-        b"duid-text" => prefixes::duid_text(alloc, arguments, out)?,
-        b"iaid-text" => prefixes::iaid_text(alloc, arguments, out)?,
-        b"limits" => times::limits(alloc, arguments, out)?,
-        b"bounds" => times::bounds(alloc, arguments, out)?,
-        b"told-end" => times::told(arguments, out)?,
-        b"own-end" => times::own(arguments, out)?,
-        b"ended" => times::is_over(arguments, out)?,
-        b"allowed" => times::allowed(arguments, out)?,
-        b"takeover" => times::taken_over(arguments, out)?,
-        _ => return Ok(false),
+        Call::Cuts => texts::cuts(arguments, out),
+        Call::Number => texts::number(arguments, out),
+        Call::Octets => texts::octets(alloc, arguments, out),
+        Call::Digits => texts::digits(alloc, arguments, out),
+        Call::Words => texts::words(arguments, out),
+        Call::Prefix => prefixes::prefix(alloc, arguments, out),
+        Call::Canonical => prefixes::canonical(alloc, arguments, out),
+        Call::Unit => prefixes::unit_of(alloc, arguments, out),
+        Call::Compare => prefixes::compare(arguments, out),
+        Call::Duid => prefixes::duid(alloc, arguments, out),
+        Call::DuidText => prefixes::duid_text(alloc, arguments, out),
+        Call::IaidText => prefixes::iaid_text(alloc, arguments, out),
+        Call::Limits => times::limits(alloc, arguments, out),
+        Call::Bounds => times::bounds(alloc, arguments, out),
+        Call::ToldEnd => times::told(arguments, out),
+        Call::OwnEnd => times::own(arguments, out),
+        Call::Ended => times::is_over(arguments, out),
+        Call::Allowed => times::allowed(arguments, out),
+        Call::Takeover => times::taken_over(arguments, out),
+        Call::Target => balance::share(arguments, out),
+        Call::Choose => balance::moved(alloc, arguments, out),
+        Call::Partner => binding::other_server(arguments, out),
+        Call::Update => binding::update(arguments, out),
+        Call::Reply => binding::reply(arguments, out),
+        Call::Grantable => binding::may_grant(arguments, out),
+        Call::Renewable => binding::may_renew(arguments, out),
+        Call::Table => table::rows(arguments, out),
+        Call::Frame => frames::frame(alloc, arguments, out),
+        Call::Feed => frames::feed(alloc, arguments, out),
+        Call::Pieces => frames::pieces(alloc, arguments, out),
+        Call::Datagram => messages::datagram(alloc, arguments, out),
+        Call::Answer => messages::answer(alloc, arguments, out),
+        Call::Fronts => messages::fronts(alloc, arguments, out),
+        Call::Altered => messages::altered(alloc, arguments, out),
     }
-    Ok(true)
 }
 
-/// The same of the crates of rules and of messages.
-fn asked_of_rules(
-    alloc: Global,
-    call: &[u8],
-    arguments: &mut Arguments<'_>,
-    out: &mut Vec<u8>,
-) -> Result<bool, AllocError> {
-    match call {
-        b"target" => balance::share(arguments, out)?,
-        b"choose" => balance::moved(alloc, arguments, out)?,
-        b"partner" => binding::other_server(arguments, out)?,
-        b"update" => binding::update(arguments, out)?,
-        b"reply" => binding::reply(arguments, out)?,
-        b"grantable" => binding::may_grant(arguments, out)?,
-        b"renewable" => binding::may_renew(arguments, out)?,
-        b"table" => table::rows(arguments, out)?,
-        b"frame" => frames::frame(alloc, arguments, out)?,
-        b"feed" => frames::feed(alloc, arguments, out)?,
-        b"pieces" => frames::pieces(alloc, arguments, out)?,
-        b"datagram" => messages::datagram(alloc, arguments, out)?,
-        b"answer" => messages::answer(alloc, arguments, out)?,
-        b"fronts" => messages::fronts(alloc, arguments, out)?,
-        b"altered" => messages::altered(alloc, arguments, out)?,
-        _ => return Ok(false),
-    }
-    Ok(true)
-}
-
-/// The answer to a call, with a space before each word.
+/// The answer to a line that is no comment.
 fn answered(alloc: Global, line: &[u8]) -> Result<Vec<u8>, AllocError> {
-    let (call, mut arguments) = Arguments::of(line);
-    let mut out = Vec::new(alloc);
-    let is_known = asked_of_values(alloc, call, &mut arguments, &mut out)?
-        || asked_of_rules(alloc, call, &mut arguments, &mut out)?;
-    if !is_known {
+    let (name, mut arguments) = Arguments::of(line);
+    let Some(call) = Call::named(name) else {
         return b" no such call".to_vec(alloc);
-    }
+    };
+    let mut out = Vec::new(alloc);
+    ask(alloc, call, &mut arguments, &mut out)?;
     if !arguments.are_taken() {
         return b" no such arguments".to_vec(alloc);
     }

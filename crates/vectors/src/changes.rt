@@ -36,6 +36,15 @@ pub const REASON: &str = "refused C10 Reason A3\n";
 /// A part of an input, what is put in its place, and the answer then.
 pub type Change = (&'static str, &'static str, &'static str);
 
+/// An input, several parts of it with what is put in their places one after another, how far the clocks may be from
+/// true time in milliseconds, and the answer then.
+pub type Several = (
+    &'static str,
+    &'static [(&'static str, &'static str)],
+    u64,
+    &'static str,
+);
+
 /// The journals' lines in one order, where they have one.
 fn merged(alloc: Global, primary: &Journal, secondary: &Journal) -> Result<Option<Merged>, Fail>
     requires few_primary { length primary.now.lines < 2 ^ 32 }
@@ -52,12 +61,11 @@ fn merged(alloc: Global, primary: &Journal, secondary: &Journal) -> Result<Optio
 
 /// The verdict on an input's certificate over the lines of its journals, whatever rules these break: by a walk over
 /// them and, where their messages fit one another, by their index.
-pub fn verdict_on(
+fn verdict_on(
     rt: &(impl Abort + Threads + Sync),
     alloc: Global,
     input: &str,
     skew: Skew,
-    transit: Transit,
 ) -> Result<Verdict, Fail> {
     written_is_closed();
     let texts = cut(alloc, input)?;
@@ -66,10 +74,10 @@ pub fn verdict_on(
     match certificate::read(alloc, texts.certificate.as_bytes()) {
         Ok(claim) => {
             let source = PlainSource::new(&primary, &secondary);
-            let verdict = audit(&source, &claim, skew, transit);
+            let verdict = audit(&source, &claim, skew, Transit::ZERO);
             if let Some(merged) = merged(alloc, &primary, &secondary)? {
                 let index = LineIndex::build(rt, alloc, &primary, &secondary, &merged)?;
-                assert_eq!(rt; audit(&index, &claim, skew, transit), verdict);
+                assert_eq!(rt; audit(&index, &claim, skew, Transit::ZERO), verdict);
             }
             Ok(verdict)
         }
@@ -78,32 +86,33 @@ pub fn verdict_on(
     }
 }
 
-/// That the verdict on an input has this line, with answers as long under way as said, in milliseconds.
-pub fn check_in_transit(
-    rt: &(impl Abort + Threads + Sync),
-    alloc: Global,
-    input: &str,
-    transit: u64,
-    line: &str,
-) -> Result<(), Fail> {
-    let verdict = verdict_on(rt, alloc, input, Skew::new(SKEW)?, Transit::new(transit)?)?;
-    assert_eq!(rt; verdict_line(alloc, &verdict)?.as_slice(), line.as_bytes());
-    Ok(())
-}
-
 /// That the verdict on an input has this line, with clocks as far from true time as said, in milliseconds.
-pub fn check_answer(
+fn check_answer(
     rt: &(impl Abort + Threads + Sync),
     alloc: Global,
     input: &str,
     skew: u64,
     line: &str,
 ) -> Result<(), Fail> {
-    let verdict = verdict_on(rt, alloc, input, Skew::new(skew)?, Transit::ZERO)?;
+    let verdict = verdict_on(rt, alloc, input, Skew::new(skew)?)?;
     assert_eq!(rt; verdict_line(alloc, &verdict)?.as_slice(), line.as_bytes());
     Ok(())
 }
 
+/// The input with one part changed.
+fn changed(
+    rt: &impl Abort,
+    alloc: Global,
+    input: &str,
+    old: &'static str,
+    new: &'static str,
+) -> Result<String, Fail> {
+    let text = input.replacen(alloc, old, new, 1)?;
+    assert_ne!(rt; text.as_str(), input);
+    Ok(text)
+}
+
+/// That an input is accepted, and each change answered as said.
 pub fn check_changes(
     rt: &(impl Abort + Threads + Sync),
     alloc: Global,
@@ -112,9 +121,22 @@ pub fn check_changes(
 ) -> Result<(), Fail> {
     check_answer(rt, alloc, input, SKEW, ACCEPTED)?;
     for (old, new, line) in changes {
-        let changed = input.replacen(alloc, *old, new, 1)?;
-        assert_ne!(rt; changed.as_str(), input);
-        check_answer(rt, alloc, changed.as_str(), SKEW, line)?;
+        let text = changed(rt, alloc, input, *old, *new)?;
+        check_answer(rt, alloc, text.as_str(), SKEW, line)?;
     }
     Ok(())
+}
+
+/// That an input with all of these changes is answered as said.
+pub fn check_several(
+    rt: &(impl Abort + Threads + Sync),
+    alloc: Global,
+    several: &Several,
+) -> Result<(), Fail> {
+    let (input, parts, skew, line) = several;
+    let mut text = String::from_str(alloc, *input)?;
+    for (old, new) in *parts {
+        text = changed(rt, alloc, text.as_str(), *old, *new)?;
+    }
+    check_answer(rt, alloc, text.as_str(), *skew, line)
 }

@@ -103,23 +103,6 @@ const EXAMPLES: [&str; 10] = [
     GRANTED_WHEN_TOLD,
 ];
 
-#[test]
-fn finds_the_examples(rt: HostRuntime) -> Result<(), Fail> {
-    for input in EXAMPLES {
-        let texts = cut(rt.alloc(), input)?;
-        check_found(&rt, rt.alloc(), input, 0, texts.certificate.as_str())?;
-    }
-    Ok(())
-}
-
-#[test]
-fn finds_them_in_an_index(rt: HostRuntime) -> Result<(), Fail> {
-    for input in EXAMPLES {
-        check_found_in_index(&rt, rt.alloc(), input)?;
-    }
-    check_found_in_index(&rt, rt.alloc(), END_TO_END)
-}
-
 /// Two pieces, each of the grant that reaches farthest, with all releases in the order of the journals.
 const TWO_PIECES: &str = "pd-certificate 1
 holder 00030001020000000001
@@ -137,8 +120,14 @@ end
 ";
 
 #[test]
-fn finds_pieces_end_to_end(rt: HostRuntime) -> Result<(), Fail> {
-    check_found(&rt, rt.alloc(), END_TO_END, 0, TWO_PIECES)
+fn finds_the_examples(rt: HostRuntime) -> Result<(), Fail> {
+    for input in EXAMPLES {
+        let texts = cut(rt.alloc(), input)?;
+        check_found(&rt, rt.alloc(), input, 0, texts.certificate.as_str())?;
+        check_found_in_index(&rt, rt.alloc(), input)?;
+    }
+    check_found(&rt, rt.alloc(), END_TO_END, 0, TWO_PIECES)?;
+    check_found_in_index(&rt, rt.alloc(), END_TO_END)
 }
 
 /// An input, a part of what it claims and what is claimed instead: what nobody can show.
@@ -173,27 +162,29 @@ const UNSHOWN: [(&str, &str, &str); 12] = [
     (GRANTED_WHEN_TOLD, "interval 1002000", "interval 1001999"),
 ];
 
+/// Where an answer may be so long under way: the whole hour, half a second later, claimed as it stands or not at all.
+const UNDER_WAY: [(&str, u64, bool); 3] = [
+    (" 12000 ", 1, false),
+    (" 12500 ", 500, true),
+    (" 12500 ", 501, false),
+];
+
 #[test]
-fn finds_nothing_that_is_not_shown(rt: HostRuntime) -> Result<(), Fail> {
+fn finds_only_what_is_shown(rt: HostRuntime) -> Result<(), Fail> {
     for (input, old, new) in UNSHOWN {
         let changed = input.replacen(rt.alloc(), old, new, 1)?;
         assert_ne!(rt; changed.as_str(), input);
         check_found(&rt, rt.alloc(), changed.as_str(), 0, NONE)?;
     }
+    for (from, transit, is_shown) in UNDER_WAY {
+        let later = WHOLE_HOUR.replacen(rt.alloc(), " 12000 ", from, 2)?;
+        let texts = cut(rt.alloc(), later.as_str())?;
+        let wanted = texts.certificate.as_str();
+        if is_shown {
+            check_found(&rt, rt.alloc(), later.as_str(), transit, wanted)?;
+        } else {
+            check_found(&rt, rt.alloc(), later.as_str(), transit, NONE)?;
+        }
+    }
     Ok(())
-}
-
-#[test]
-fn waits_for_an_answer_under_way(rt: HostRuntime) -> Result<(), Fail> {
-    check_found(&rt, rt.alloc(), WHOLE_HOUR, 1, NONE)?;
-    let later = WHOLE_HOUR.replacen(rt.alloc(), " 12000 ", " 12500 ", 2)?;
-    let texts = cut(rt.alloc(), later.as_str())?;
-    check_found(
-        &rt,
-        rt.alloc(),
-        later.as_str(),
-        500,
-        texts.certificate.as_str(),
-    )?;
-    check_found(&rt, rt.alloc(), later.as_str(), 501, NONE)
 }

@@ -1,20 +1,19 @@
-//! Vectors from outside: each public call of the crates below on cases whose answers were known before.
+//! Vectors from outside for what no command of the desk shows: lines that break rules, sources of lines, searches over
+//! these, and texts written as they were read.
 #![tactic(auto)]
 
 #[cfg(test)]
-mod audits;
-#[cfg(test)]
 mod changes;
-#[cfg(test)]
-mod evidence;
 #[cfg(test)]
 mod findings;
 #[cfg(test)]
-mod headline;
+mod foreign;
 #[cfg(test)]
 mod inputs;
 #[cfg(test)]
-mod orders;
+mod judging;
+#[cfg(test)]
+mod pieces;
 #[cfg(test)]
 mod reasons;
 #[cfg(test)]
@@ -22,20 +21,10 @@ mod releases;
 #[cfg(test)]
 mod round_trips;
 #[cfg(test)]
-mod rules;
-#[cfg(test)]
 mod sources;
 #[cfg(test)]
-mod texts;
-#[cfg(test)]
 mod three_texts;
-#[cfg(test)]
-mod transit;
-#[cfg(test)]
-mod values;
 #[cfg(test)]
 mod verdicts;
 #[cfg(test)]
 mod volume_inputs;
-#[cfg(test)]
-mod volumes;

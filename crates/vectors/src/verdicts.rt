@@ -70,9 +70,3 @@ fn says_verdicts(rt: HostRuntime) -> Result<(), Fail> {
     }
     Ok(())
 }
-
-#[test]
-fn names_the_partner(rt: HostRuntime) {
-    assert_eq!(rt; Role::Primary.partner(), Role::Secondary);
-    assert_eq!(rt; Role::Secondary.partner(), Role::Primary);
-}
