@@ -1,7 +1,6 @@
 //! Readers and writers that fail.
 
-use crate::inputs::{SKEW, WHOLE_HOUR};
-use crate::timelines::{CHAINED, CHAINED_IN_ORDER};
+use crate::inputs::{CHAINED, CHAINED_IN_ORDER, SKEW, WHOLE_HOUR};
 use attribution_desk::{Command, DeskError, Watched, run};
 use lead_time::{Skew, Transit};
 use std::io;

@@ -1,22 +1,22 @@
-//! Vectors from outside for the desk: words, inputs in chunks, devices that fail, timelines, searches, and the lines
-//! it answers.
+//! Vectors from outside for the texts and the desk where no example can show them: texts in chunks and parts, devices that
+//! fail, lines that no text gives, and what a certificate that was read is written as.
 #![tactic(auto)]
 
 #[cfg(test)]
-mod answers;
-#[cfg(test)]
-mod batches;
+mod certificates;
 #[cfg(test)]
 mod chunks;
 #[cfg(test)]
-mod commands;
-#[cfg(test)]
 mod devices;
-#[cfg(test)]
-mod holders;
 #[cfg(test)]
 mod inputs;
 #[cfg(test)]
-mod searches;
+mod journal_chunks;
 #[cfg(test)]
-mod timelines;
+mod journals;
+#[cfg(test)]
+mod parted;
+#[cfg(test)]
+mod prefixes;
+#[cfg(test)]
+mod sequence;

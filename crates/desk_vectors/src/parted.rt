@@ -1,14 +1,23 @@
 //! Texts that several threads read.
 
-use crate::texts::add_line;
 use journal_text::{Journal, JournalError, JournalFault, Reader, write};
-use std::alloc::Global;
+use std::alloc::{AllocError, Global};
 use std::process::Abort;
 use std::test::Fail;
 use std::thread::Threads;
+use text_fields::push_number;
 
 /// How many lines a text has: enough for parts of several threads.
 const LINES: u64 = 3000;
+
+/// A journal line of this number, reading and event.
+fn add_line(text: &mut Vec<u8>, number: u64, event: &[u8]) -> Result<(), AllocError> {
+    push_number(text, number)?;
+    text.push(b' ')?;
+    text.extend_from_slice(event)?;
+    text.push(b'\n')?;
+    Ok(())
+}
 
 /// The text of a closed journal without the line of this number, if there is one.
 fn text_without(alloc: Global, gone: u64) -> Result<Vec<u8>, Fail> {
