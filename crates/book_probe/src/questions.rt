@@ -1,9 +1,9 @@
 //! Questions to a book: `ask A QUESTION`.
 //!
-//! QUESTION is `lines` (how many its journal has), `text N` (the N-th line of its text), `status PREFIX`, `counts PREFIX`
-//! (the server's changes of the unit, and the partner's), `told PREFIX` (the end that the partner is told), `waiting`,
-//! `rolls`, `down`, `expirable READING`, `seizable READING`, or `mark PREFIX` (the next marked unit that begins at that
-//! prefix's first address or above).
+//! QUESTION is `lines` (how many its journal has), `text N` (the N-th line of its text), `status PREFIX`,
+//! `counts PREFIX` (the server's changes of the unit, and the partner's), `told PREFIX` (the end that the partner is
+//! told), `waiting`, `rolls`, `down`, `expirable READING`, `seizable READING`, or `mark PREFIX` (the next marked unit
+//! that begins at that prefix's first address or above).
 
 use crate::fault::Fault;
 use crate::replies::{add_flag, add_found, status_name};

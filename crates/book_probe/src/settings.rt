@@ -1,7 +1,7 @@
 //! Settings as people write them: `settings TEXT`, `more TEXT`, `change OLD => NEW`, `octets DIGITS`.
 //!
-//! In TEXT, OLD and NEW `\n`, `\r` and `\u{feff}` stand for those characters. `settings` begins a text, `more` goes on with
-//! it, `change` asks about the text with the first OLD in it changed, and leaves it as it is.
+//! In TEXT, OLD and NEW `\n`, `\r` and `\u{feff}` stand for those characters. `settings` begins a text, `more` goes on
+//! with it, `change` asks about the text with the first OLD in it changed, and leaves it as it is.
 
 use crate::fault::Fault;
 use crate::replies::add_opening_refusal;

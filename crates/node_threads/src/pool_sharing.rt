@@ -107,7 +107,6 @@ impl<'a, N: BookName, R: Wait, C: Clock> LinkEnd<'a, N, R, C> {
     }
 
     /// Moves units to the secondary, and gives how many.
-    #[tactic(auto, using(crate::proofs::Going::goes_on))]
     fn move_each(&self, pass: &mut Pass<N>, units: &[Prefix]) -> Result<u32, NodeError>
         ensures { Goes pass.old.receipts pass.new.receipts }
     {
