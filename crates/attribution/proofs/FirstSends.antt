@@ -11,7 +11,8 @@ use Rattle.claims.specs.declared.reference.Ref.{Ref}
 use Rattle.causal_order.specs.Journals.{Journals, journal_of, volume_of, Names}
 use Rattle.journal_merge.specs.Messages.{first_send, was_sent_earlier, partner_lines, send_of, Awaits}
 use Rattle.journal_merge.proofs.Matched.{matched_are_sent}
-use Rattle.attribution.specs.Clocks.{AreChecked, IsEarly, IsFarBelowSend, EarlyByFirstSend}
+use Rattle.journal_merge.specs.Early.{IsFarBelowSend}
+use Rattle.attribution.specs.Clocks.{AreChecked, IsEarly, EarlyByFirstSend}
 use Rattle.attribution.proofs.LegalJournals.{passed_over, rises}
 
 back : (x y : Role) → y ≡ partner_of x → x ≡ partner_of y

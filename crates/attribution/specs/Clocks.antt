@@ -2,7 +2,6 @@
 use Rattle.std.specs.Prelude.{◌≡◌, ◌↔◌, ℕ, ◌+◌, ◌<◌, ◌≤◌, List, Some, slice_get}
 use Rattle.prefix_range.specs.Prefix.{Overlaps}
 use Rattle.binding_rules.specs.declared.role.Role.{Role}
-use Rattle.binding_rules.specs.declared.message.PartnerMessage.{PartnerMessage}
 use Rattle.journal_lines.specs.declared.event.Event.TheVariants.{Close}
 use Rattle.journal_lines.specs.declared.line.Line.{Line}
 use Rattle.claims.specs.declared.certificate.Certificate.{Certificate}
@@ -11,7 +10,7 @@ use Rattle.causal_order.specs.Journals.{Journals, journal_of, volume_of, Names}
 use Rattle.causal_order.specs.Order.{IsTakeOf}
 use Rattle.book_rules.specs.Volumes.{IsVolume}
 use Rattle.book_rules.specs.NextHead.{IsLegal}
-use Rattle.journal_merge.specs.Messages.{Awaits, send_of}
+use Rattle.journal_merge.specs.Early.{IsFarBelowSend}
 use Rattle.journal_merge.specs.Refusals.{AreMatched}
 use Rattle.journal_merge.specs.Interleaving.{HasInterleaving}
 use Rattle.attribution.specs.Run.{Step}
@@ -50,16 +49,6 @@ AreClosed js = (side : Role) → (k : ℕ) × (l : Line) × (slice_get (journal_
 -- volumes are numbered from 1
 abbrev pub AreNumbered : Journals → Type 0
 AreNumbered js = (side : Role) → 0 < volume_of js side
-
--- The take reads more than twice the skew below the first line that sends its serial.
-pub record IsFarBelowSend (js : Journals) (skew : ℕ) (take : Ref) : Type 0 where
-  pub message : PartnerMessage
-  pub awaits : Awaits js take message
-  pub taken : Line
-  pub names_taken : Names js take taken
-  pub sent : Line
-  pub names_sent : Names js (send_of js take.side message) sent
-  pub above : taken.reading + skew + skew < sent.reading
 
 -- ---- laws
 
