@@ -1,1 +1,5 @@
-pub mod Clock
+pub mod Decimals
+pub mod Forms
+pub mod Months
+pub mod Written
+pub mod Years
