@@ -4,18 +4,18 @@ import random
 import subprocess
 from typing import NamedTuple
 
-from . import edges
-from . import limits
+from . import clock_edges, edges, limits
 from .desk import Evidence, answer, cut
 from .certificates import read_certificate
 from .changing import changed_certificate, changed_lines, changed_text, changed_words
+from .clocks import least_skew, refusal_of
 from .disturbing import disturbed
 from .finding import judged, words_of_query
+from .rules import MOST_SKEW
 from .running import CLIENTS, drawn_run
 from .searching import Search
-from .rules import MOST_SKEW
 from .journals import MOST_TRANSIT
-from .truth import untrue
+from .truth import two_holders, untrue
 from .words import MOST_READING
 from .writing import certificate_text, journal_text
 
@@ -43,14 +43,17 @@ class Difference(NamedTuple):
     desk: str
 
 
-def margins(rng, run):
-    """The skew and transit to audit with: mostly the run's."""
+def margins(rng, run, journals):
+    """The skew and transit to audit with: mostly the run's, or a skew near the least that the journals fit."""
     skew, transit = run.settings.skew, run.settings.transit
+    least = least_skew(Evidence(*journals).behind)
     draw = rng.random()
     if draw < 0.05:
         skew = rng.choice((0, skew + 1, max(0, skew - 1), MOST_SKEW))
     elif draw < 0.1:
         transit = rng.choice((0, transit + 1, max(0, transit - 1), MOST_TRANSIT))
+    elif draw < 0.15 or (least > skew and draw < 0.6):
+        skew = rng.choice((least, least, max(0, least - 1), min(run.off, MOST_SKEW)))
     return skew, transit
 
 
@@ -68,8 +71,8 @@ class Draw:
     def __init__(self, rng):
         self.rng = rng
         self.run = drawn_run(rng)
-        self.skew, self.transit = margins(rng, self.run)
         self.journals = [journal_text(side, server.book.volume, server.entries) for side, server in self.run.servers.items()]
+        self.skew, self.transit = margins(rng, self.run, self.journals)
 
     def certificates(self, journals):
         """Certificates that a search draws for two journals, where they are legal."""
@@ -95,11 +98,12 @@ class Draw:
         yield self.rng.choice((changed_lines, changed_words))(self.rng, text)
 
     def believe(self, texts):
-        """What the second auditor accepts of an honest run must have been so."""
-        if self.skew < self.run.settings.skew or not self.run.honest:
+        """What the second auditor accepts of an honest run must have been so, and it must not refuse the run's clocks."""
+        if self.skew < self.run.off:
             return
         evidence = Evidence(*self.journals)
-        for text in texts:
+        assert refusal_of(evidence.behind, self.skew) is None, (self.skew, b"".join(self.journals).decode())
+        for text in texts if self.run.honest else []:
             if evidence.verdict(text, self.skew, self.transit) == "accepted":
                 fault = untrue(self.run, read_certificate(text), self.transit)
                 assert not fault, (fault, self.skew, self.transit, b"".join([*self.journals, text]).decode())
@@ -115,19 +119,20 @@ class Draw:
             journals = disturbed(rng, self.run)
             again = [certificate_text(certificate) for certificate in self.certificates(journals)[:4]]
             yield self.batch(journals, [*again, rng.choice(spare), changed_text(rng, rng.choice(spare))])
-            if rng.random() < 0.25:
-                yield Question(["timeline"], b"".join(journals))
+            if rng.random() < 0.35:
+                yield Question([rng.choice(("timeline", "clocks"))], b"".join(journals))
         for _ in range(TEXTS):
             journals = list(self.journals)
             place = rng.randrange(2)
             journals[place] = rng.choice((changed_lines, changed_words, changed_text))(rng, journals[place])
             yield self.audit(b"".join(journals) + rng.choice(spare))
-            if rng.random() < 0.25:
-                yield Question(["timeline"], b"".join(journals))
+            if rng.random() < 0.35:
+                yield Question([rng.choice(("timeline", "clocks"))], b"".join(journals))
         for _ in range(OCTETS):
             yield self.audit(changed_text(rng, b"".join(self.journals) + rng.choice(spare)))
             yield self.audit(b"".join(self.journals) + changed_text(rng, rng.choice(spare)))
         yield Question(["timeline"], b"".join(self.journals))
+        yield Question(["clocks"], b"".join(self.journals))
         for certificate in certificates[:QUERIES]:
             yield self.query(self.journals, certificate)
             yield self.query(self.journals, changed_certificate(rng, certificate, CLIENTS))
@@ -162,12 +167,10 @@ def compare(desk, question):
     if question.words[0] == "find":
         return compare_query(desk, question)
     written, status = answer(question.words, question.text)
-    seen, complaint, ended = desk_answer(desk, question)
     lines = written.splitlines()
-    if question.words[0] == "timeline":
-        met = ["timeline" if status == 0 else kind_of(lines[0])]
-    else:
-        met = [kind_of(line) for line in lines]
+    check_holders(question, lines)
+    seen, complaint, ended = desk_answer(desk, question)
+    met = kinds_of(question.words[0], lines, status)
     if (seen, complaint, ended) == (written, "", status):
         return met, []
     whole = Difference(question.words, question.text, f"{written}status {status}", f"{seen}{complaint}status {ended}")
@@ -187,6 +190,14 @@ def compare_query(desk, question):
     return [kind], [Difference(question.words, question.text, fault, f"{written}{complaint}status {status}")]
 
 
+def check_holders(question, lines):
+    """What the second auditor accepts of two journals must name one client for an address at a moment."""
+    if lines.count("accepted") > 1:
+        _, certificates = parts_of(question.text)
+        accepted = [read_certificate(text) for line, text in zip(lines, certificates) if line == "accepted"]
+        assert two_holders(accepted) is None, (question.words, question.text.decode())
+
+
 def differing(question, lines, seen):
     """The differences of a batch, each as an audit of one certificate."""
     journals, certificates = parts_of(question.text)
@@ -199,6 +210,15 @@ def differing(question, lines, seen):
     return found
 
 
+def kinds_of(command, lines, status):
+    """The kind of each verdict; of a timeline or a least skew there is one."""
+    if command in ("audit", "batch") or status != 0:
+        return [kind_of(line) for line in lines]
+    if command == "timeline":
+        return [command]
+    return ["clocks 0" if lines == ["least-skew 0"] else "clocks"]
+
+
 def kind_of(line):
     """A verdict's kind: the refusal's code, with the rule for L1."""
     words = line.split(" ")
@@ -207,24 +227,35 @@ def kind_of(line):
     return f"L1 {words[-1]}" if words[1] == "L1" else words[1]
 
 
-def compare_limits(desk):
-    """The same of the inputs at limits and bounds."""
+def compare_all(desk, questions):
+    """The verdicts that were met, and the differences."""
     met, differences = collections.Counter(), []
-    at_limits = [(journals, certificates, (0,)) for journals, certificates in limits.inputs()]
-    for journals, certificates, transits in [*at_limits, *edges.inputs()]:
-        for transit in transits:
-            words = ["batch", "--skew-ms", "2000", "--transit-ms", str(transit), "--workers", "1"]
-            kinds, found = compare(desk, Question(words, b"".join([*journals, *certificates])))
-            met.update(kinds)
-            differences += found
-    return met, differences
-
-
-def compare_draw(desk, seed, index):
-    """All questions of one draw: the verdicts met, and the differences."""
-    met, differences = collections.Counter(), []
-    for question in Draw(random.Random(f"{seed} {index}")).questions():
+    for question in questions:
         kinds, found = compare(desk, question)
         met.update(kinds)
         differences += found
     return met, differences
+
+
+def at_limits():
+    """The questions at limits and bounds."""
+    without_transit = [(journals, certificates, (0,)) for journals, certificates in limits.inputs()]
+    for journals, certificates, transits in [*without_transit, *edges.inputs()]:
+        for transit in transits:
+            words = ["batch", "--skew-ms", "2000", "--transit-ms", str(transit), "--workers", "1"]
+            yield Question(words, b"".join([*journals, *certificates]))
+    for journals, skews in clock_edges.inputs():
+        text = b"".join(journals)
+        for skew in skews:
+            yield Question(["batch", "--skew-ms", str(skew), "--workers", "1"], text + b"".join(clock_edges.CERTIFICATES))
+            yield Question(words_of_query(read_certificate(clock_edges.PLAIN), skew, 0), text)
+        yield from (Question([command], text) for command in ("clocks", "timeline"))
+
+
+def compare_limits(desk):
+    return compare_all(desk, at_limits())
+
+
+def compare_draw(desk, seed, index):
+    """All questions of one draw."""
+    return compare_all(desk, Draw(random.Random(f"{seed} {index}")).questions())

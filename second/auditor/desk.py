@@ -1,8 +1,9 @@
-"""Answers as the desk does: `audit`, `batch` and `timeline`."""
+"""Answers as the desk does: `audit`, `batch`, `timeline` and `clocks`."""
 import sys
 
 from .auditing import audit
 from .certificates import read_certificate
+from .clocks import farthest, least_skew, refusal_of, takes_behind
 from .journals import MOST_TRANSIT, read_journal
 from .merging import Pair, merged
 from .rules import MOST_SKEW, book_of
@@ -15,7 +16,12 @@ OPTIONS = {
     "--transit-ms": (0, MOST_TRANSIT, False),
     "--workers": (1, MOST_WORKERS, True),
 }
-COMMANDS = {"audit": ("--skew-ms", "--transit-ms"), "batch": ("--skew-ms", "--transit-ms", "--workers"), "timeline": ()}
+COMMANDS = {
+    "audit": ("--skew-ms", "--transit-ms"),
+    "batch": ("--skew-ms", "--transit-ms", "--workers"),
+    "timeline": (),
+    "clocks": (),
+}
 
 
 class Usage(Exception):
@@ -45,6 +51,7 @@ class Evidence:
 
     def __init__(self, first, second):
         self.pair = None
+        self.behind = []
         # The refusal of the texts themselves comes before a certificate's, that of what they say after its form's.
         self.before = self.after = None
         try:
@@ -59,6 +66,12 @@ class Evidence:
             merged(self.pair)
         except Refused as refused:
             self.after = refused
+            return
+        self.behind = list(takes_behind(self.pair))
+
+    def refusal(self, skew):
+        """What is refused of the two journals, whatever the certificate, None where nothing is."""
+        return self.before or self.after or refusal_of(self.behind, skew)
 
     def verdict(self, text, skew, transit):
         """The verdict line of a certificate's text, without its line feed."""
@@ -66,8 +79,8 @@ class Evidence:
             if self.before:
                 raise self.before
             certificate = read_certificate(text)
-            if self.after:
-                raise self.after
+            if refusal := self.refusal(skew):
+                raise refusal
             audit(self.pair, certificate, skew, transit)
         except Refused as refused:
             return f"refused {refused}"
@@ -101,6 +114,15 @@ def timeline(text):
         return f"refused {refused}\n"
     lines = ((reference, pair.line(reference)) for reference in order)
     return "".join(f"{reference} {line.reading} {line.words.decode()}\n" for reference, line in lines)
+
+
+def clocks(text):
+    """The least skew that two journals fit, and the take and its send that need it."""
+    evidence = Evidence(*cut(text))
+    if evidence.before or evidence.after:
+        return f"refused {evidence.before or evidence.after}\n"
+    needing = farthest(evidence.behind)
+    return f"least-skew {least_skew(evidence.behind)}\n" + (f"{needing}\n" if needing else "")
 
 
 def options_of(words, names):
@@ -137,8 +159,10 @@ def answer(words, text):
         written = audited(text, skew, transit)
     elif words[0] == "batch":
         written = batched(text, skew, transit)
-    else:
+    elif words[0] == "timeline":
         written = timeline(text)
+    else:
+        written = clocks(text)
     return written, int("refused" in written)
 
 

@@ -1,8 +1,8 @@
 """Changes of the journals of an honest run, most of which leave well-formed journals that are nearly legal."""
 from .changing import near, prefix_near
-from .journals import MOST_VOLUME, Base, Carry, Close, Pending, Pool, Transit, UnitLine, line_of
-from .running import CLIENTS, KINDS, Entry, Server
-from .words import Malformed, Prefix
+from .journals import MOST_VOLUME, Base, Carry, Close, Pending, Pool, Send, Take, Transit, UnitLine, line_of
+from .running import CLIENTS, DAY, HOUR, KINDS, Entry, Server
+from .words import Malformed, Prefix, other_side
 from .writing import event_words, journal_text
 
 NAMES = {
@@ -158,8 +158,22 @@ def of_other_volume(rng, texts, side):
 
 def shifted(rng, texts, side):
     """All readings of a side moved: its clock is wrong."""
-    moved = rng.choice((1, 1000, texts.run.settings.skew, 3 * texts.run.settings.skew))
+    moved = rng.choice((1, 1000, texts.run.settings.skew, 3 * texts.run.settings.skew, HOUR, DAY))
     texts.entries[side] = [Entry(reading + moved, event) for reading, event in texts.entries[side]]
+
+
+def with_take_at_bound(rng, texts, side):
+    """A side's readings moved from a send on, so that its take reads twice the skew behind it, or a millisecond more."""
+    entries, others = texts.entries[side], texts.entries[other_side(side)]
+    sends = {event.serial: place for place, (_, event) in enumerate(entries) if isinstance(event, Send)}
+    takes = [entry for entry in others if isinstance(entry.event, Take) and entry.event.serial in sends]
+    if not takes:
+        return
+    reading, take = rng.choice(takes)
+    place = sends[take.serial]
+    moved = reading + 2 * texts.run.settings.skew + rng.choice((0, 1)) - entries[place].reading
+    least = entries[place - 1].reading
+    entries[place:] = [Entry(max(least, at + moved), event) for at, event in entries[place:]]
 
 
 WAYS = {
@@ -170,7 +184,8 @@ WAYS = {
     with_line_twice: 1,
     with_lines_swapped: 2,
     of_other_volume: 0.5,
-    shifted: 0.5,
+    shifted: 1,
+    with_take_at_bound: 1.5,
 }
 
 

@@ -44,7 +44,7 @@ def judged(question, written, skew, transit):
     """What kind of answer a query got, and what is wrong with it, if anything."""
     first, second = cut(question.text)
     evidence = Evidence(first, second)
-    refusal = evidence.before or evidence.after
+    refusal = evidence.refusal(skew)
     if refusal:
         return "find refused", "" if written == f"refused {refusal}\n" else f"refused {refusal}"
     if written == "none\n":

@@ -80,6 +80,13 @@ OUTAGE = (
 )
 
 
+MINUTE, HOUR, DAY = 60_000, 3_600_000, 86_400_000
+# A moment of these years.
+NOW = 1_795_377_600_000
+# How often a run has a clock that is wrong.
+OFTEN_SLOW = 0.15
+
+
 class Settings(NamedTuple):
     skew: int
     mclt: int
@@ -129,11 +136,15 @@ def units_of(pools):
 class Run:
     """Two servers at a true moment."""
 
-    def __init__(self, rng, settings, moment, weights):
+    def __init__(self, rng, settings, moment, weights, slow):
         self.rng = rng
         self.settings = settings
         self.moment = moment
         self.weights = weights
+        # By how much each clock is behind the time, beside what the skew allows; a fast one's number is negative.
+        self.slow = slow
+        # The most by which a reading was off so far.
+        self.off = 0
         # How often time passes between events.
         self.haste = rng.choice((0.2, 0.5, 1))
         self.units = units_of(settings.pools)
@@ -151,9 +162,9 @@ class Run:
                 self.open(server)
 
     def clock(self, server):
-        """What a server's clock shows, within the skew; a book's readings never fall."""
+        """What a server's clock shows, within the skew where the clock is right; a book's readings never fall."""
         skew = self.settings.skew
-        drift = self.rng.choice((-skew, 0, skew, self.rng.randint(-skew, skew)))
+        drift = self.rng.choice((-skew, 0, skew, self.rng.randint(-skew, skew))) - self.slow[server.side]
         return max(server.reading(), min(max(self.moment + drift, 0), MOST_READING))
 
     def open(self, server):
@@ -174,6 +185,7 @@ class Run:
 
     def write(self, server, reading, event):
         self.history.append((self.moment, event))
+        self.off = max(self.off, abs(reading - self.moment))
         server.write(reading, event)
 
     def pass_time(self):
@@ -202,10 +214,10 @@ class Run:
         if event is None:
             return
         if isinstance(event, (Expire, Seize)) and self.rng.random() < 0.7:
-            reading = self.wait_until(self.bound_of(server, event), reading)
+            reading = self.wait_until(server, self.bound_of(server, event), reading)
         if isinstance(event, Take) and isinstance(event.body, Update) and self.rng.random() < 0.2:
             own_end = server.book.unit(event.body.prefix).own_end
-            reading = self.wait_until(own_end - self.rng.choice((0, 1)), reading)
+            reading = self.wait_until(server, own_end - self.rng.choice((0, 1)), reading)
         if reading <= MOST_READING and server.would_break(reading, event) is None:
             self.write(server, reading, event)
 
@@ -238,10 +250,11 @@ class Run:
             return max(unit.own_end, unit.told)
         return max(unit.own_end, book.takeover(unit)) if book.down is not None else 0
 
-    def wait_until(self, wanted, reading):
+    def wait_until(self, server, wanted, reading):
         """Lets the time pass until a server's clock shows a reading."""
         reading = max(reading, min(wanted, MOST_READING))
-        self.moment = max(self.moment, reading - self.rng.randint(-self.settings.skew, self.settings.skew))
+        drift = self.rng.randint(-self.settings.skew, self.settings.skew) - self.slow[server.side]
+        self.moment = max(self.moment, reading - drift)
         return reading
 
     def propose(self, server, kind, reading):
@@ -375,6 +388,13 @@ def drawn_settings(rng):
     return Settings(skew, mclt, life, rng.choice((0, 0, 0, 1, 500)), rng.choice(POOLS))
 
 
+def drawn_slow(rng, skew):
+    """One clock is wrong by up to a day, or by just so much that it begins to show."""
+    wrong = rng.choice((1000, 2 * skew, 2 * skew + 1, MINUTE, HOUR, DAY, rng.randint(1000, DAY)))
+    side = rng.choice("AB")
+    return {side: rng.choice((-wrong, wrong)), other_side(side): 0}
+
+
 def drawn_run(rng):
     """A run of some length whose servers have both closed."""
     settings = drawn_settings(rng)
@@ -383,8 +403,9 @@ def drawn_run(rng):
     weights["restart"] = rng.choice((0, 0, 1))
     weights["state"] = rng.choice((0, 0, 1, 4))
     weights["outage"] = rng.choice((0, 0, 1, 4))
-    moment = rng.choice((10_000, 0, 1_795_377_600_000, MOST_READING - 3_000_000))
-    run = Run(rng, settings, moment, weights)
+    slow = drawn_slow(rng, settings.skew) if rng.random() < OFTEN_SLOW else {"A": 0, "B": 0}
+    moments = (NOW,) if any(slow.values()) else (10_000, 0, NOW, MOST_READING - 3_000_000)
+    run = Run(rng, settings, rng.choice(moments), weights, slow)
     for _ in range(rng.choice((20, 60, 120, 200))):
         run.step()
     if rng.random() < 0.15:

@@ -1,4 +1,6 @@
-"""What was true in an honest run: whether an accepted certificate may be believed."""
+"""What was true in an honest run: whether an accepted certificate may be believed, and two of them together."""
+import itertools
+
 from .journals import Close, Grant, Release
 
 
@@ -35,3 +37,13 @@ def untrue(run, certificate, transit):
         if start <= reached:
             reached = max(reached, end)
     return "" if reached >= certificate.end else f"the holder had nothing at {reached}"
+
+
+def two_holders(certificates):
+    """The first two certificates that name two clients for one address at one moment, None where none do."""
+    return next((pair for pair in itertools.combinations(certificates, 2) if contradict(*pair)), None)
+
+
+def contradict(first, second):
+    together = max(first.start, second.start) < min(first.end, second.end)
+    return together and first.holder != second.holder and first.prefix.overlaps(second.prefix)

@@ -1,4 +1,5 @@
--- Certificates one after another: their texts, their verdicts and the lines of these.
+-- Certificates one after another: their texts, the rulings on them and the lines of these.
+use Rattle.std.specs.Prelude.{map}
 use Rattle.std.proofs.Common.{Bool, true, false, cond, ◌≡◌, ℕ, suc, ◌+◌, ◌<◌, ◌≤◌, List, [], ◌∷◌, ◌++◌, length, take, drop, get_or, flat_map, replicate, Option, Some, None, Result, Ok, Err, inl, inr, refl, sym, ap, subst, ◌∙◌, append_assoc, append-nil, arith}
 use Rattle.std.proofs.lemmas.List.{at_drop_more, length-take-le, take-append-drop}
 use Rattle.std.proofs.Math.ListN.{drop_of_length-le}
@@ -8,16 +9,18 @@ use Rattle.binding_rules.specs.declared.role.Role.TheVariants.{Primary, Secondar
 use Rattle.claims.specs.declared.certificate.Certificate.{Certificate}
 use Rattle.claims.specs.declared.fault.CertificateFault.{CertificateFault}
 use Rattle.causal_order.specs.Journals.{journals_of}
-use Rattle.attribution.specs.declared.verdict.Verdict.{Verdict}
+use Rattle.attribution.specs.declared.verdict.Verdict.{Verdict as VerdictValue}
+use Rattle.pair_ruling.specs.declared.ruling.Ruling.{Ruling}
+use Rattle.pair_ruling.specs.declared.ruling.Ruling.TheVariants.{Verdict}
 use Rattle.attribution.specs.declared.verdict.Verdict.TheVariants.{Certificate as FaultOf, Journal as JournalVerdict}
 use Rattle.attribution.specs.FirstRefusal.{IsVerdict}
-use Rattle.attribution.specs.VerdictText.{verdict_line}
-use Rattle.auditor.specs.Pair.{IsPairRefused, IsPairLegal}
+use Rattle.pair_ruling.specs.Ruling.{ruling_line}
+use Rattle.pair_ruling.specs.Ruled.{IsRuledOut, IsFit}
 use Rattle.parallel_check.specs.Verdicts.{AreVerdicts as AllJudged}
 use Rattle.attribution_desk.specs.Input.{text_length}
 use Rattle.attribution_desk.specs.Intake.{IsWhole, GoesOn}
-use Rattle.attribution_desk.specs.Batch.{AreTexts, AreJudged}
-use Rattle.attribution_desk.specs.Claims.{AreGathered, AreAudited, woven}
+use Rattle.attribution_desk.specs.Batch.{AreTexts, AreRuled}
+use Rattle.attribution_desk.specs.Claims.{AreGathered, AreRuledOn, woven}
 use Rattle.attribution_desk.specs.declared.certificates.Claim.{Claim}
 use Rattle.attribution_desk.specs.Claims.{texts_of}
 use Rattle.attribution_desk.specs.Input.{begins_with_end, first_length}
@@ -72,72 +75,72 @@ texts_kept (x ∷ xs) (y ∷ ys) len each =
 texts_kept [] (y ∷ ys) len each = absurd (omega (arith, len))
 texts_kept (x ∷ xs) [] len each = absurd (omega (arith, len))
 
--- ---- the lines of verdicts
+-- ---- the lines of rulings
 
-pub line_more : (vs : List Verdict) (i : ℕ) (d : Verdict) (line longer : List ℕ) → i < length vs → line ++ flat_map verdict_line (drop i vs) ≡ flat_map verdict_line vs
-    → longer ≡ line ++ verdict_line (get_or vs i d) → longer ++ flat_map verdict_line (drop (i + 1) vs) ≡ flat_map verdict_line vs
+pub line_more : (vs : List Ruling) (i : ℕ) (d : Ruling) (line longer : List ℕ) → i < length vs → line ++ flat_map ruling_line (drop i vs) ≡ flat_map ruling_line vs
+    → longer ≡ line ++ ruling_line (get_or vs i d) → longer ++ flat_map ruling_line (drop (i + 1) vs) ≡ flat_map ruling_line vs
 line_more vs i d line longer lt h e =
-    let rest = flat_map verdict_line (drop (i + 1) vs) in
-    ap (λ (t : List ℕ). t ++ rest) e ∙ (append_assoc line (verdict_line (get_or vs i d)) rest ∙ (sym (ap (λ (t : List ℕ). line ++ t) (at_drop_more (flat_map verdict_line) vs i d lt)) ∙ h))
+    let rest = flat_map ruling_line (drop (i + 1) vs) in
+    ap (λ (t : List ℕ). t ++ rest) e ∙ (append_assoc line (ruling_line (get_or vs i d)) rest ∙ (sym (ap (λ (t : List ℕ). line ++ t) (at_drop_more (flat_map ruling_line) vs i d lt)) ∙ h))
 
-pub line_whole : (vs : List Verdict) (i : ℕ) (line : List ℕ) → length vs ≤ i → line ++ flat_map verdict_line (drop i vs) ≡ flat_map verdict_line vs → line ≡ flat_map verdict_line vs
-line_whole vs i line le h = sym (append-nil line) ∙ (sym (ap (λ (r : List Verdict). line ++ flat_map verdict_line r) (drop_of_length-le vs le)) ∙ h)
+pub line_whole : (vs : List Ruling) (i : ℕ) (line : List ℕ) → length vs ≤ i → line ++ flat_map ruling_line (drop i vs) ≡ flat_map ruling_line vs → line ≡ flat_map ruling_line vs
+line_whole vs i line le h = sym (append-nil line) ∙ (sym (ap (λ (r : List Ruling). line ++ flat_map ruling_line r) (drop_of_length-le vs le)) ∙ h)
 
--- ---- verdicts woven with faults
+-- ---- rulings woven with faults
 
-module _ (faults : List (Option CertificateFault)) (i : ℕ) (d : Option CertificateFault) (out rest target : List Verdict) (lt : i < length faults) (h : out ++ woven (drop i faults) rest ≡ target) where
+module _ (faults : List (Option CertificateFault)) (i : ℕ) (d : Option CertificateFault) (out rest target : List Ruling) (lt : i < length faults) (h : out ++ woven (drop i faults) rest ≡ target) where
   here : out ++ woven (get_or faults i d ∷ drop (i + 1) faults) rest ≡ target
-  here = sym (ap (λ (t : List Verdict). out ++ t) (at_drop_more (λ (fs : List (Option CertificateFault)). woven fs rest) faults i d lt)) ∙ h
+  here = sym (ap (λ (t : List Ruling). out ++ t) (at_drop_more (λ (fs : List (Option CertificateFault)). woven fs rest) faults i d lt)) ∙ h
 
-  pub woven_fault : (f : CertificateFault) (longer : List Verdict) → get_or faults i d ≡ Some f → longer ≡ out ++ FaultOf f ∷ [] → longer ++ woven (drop (i + 1) faults) rest ≡ target
+  pub woven_fault : (f : CertificateFault) (longer : List Ruling) → get_or faults i d ≡ Some f → longer ≡ out ++ Verdict (FaultOf f) ∷ [] → longer ++ woven (drop (i + 1) faults) rest ≡ target
   woven_fault f longer is e =
-      ap (λ (t : List Verdict). t ++ woven (drop (i + 1) faults) rest) e ∙ (append_assoc out (FaultOf f ∷ []) (woven (drop (i + 1) faults) rest) ∙ (sym (ap (λ (o : Option CertificateFault). out ++ woven (o ∷ drop (i + 1) faults) rest) is) ∙ here))
+      ap (λ (t : List Ruling). t ++ woven (drop (i + 1) faults) rest) e ∙ (append_assoc out (Verdict (FaultOf f) ∷ []) (woven (drop (i + 1) faults) rest) ∙ (sym (ap (λ (o : Option CertificateFault). out ++ woven (o ∷ drop (i + 1) faults) rest) is) ∙ here))
 
-  pub woven_verdict : (v : Verdict) (others longer : List Verdict) → get_or faults i d ≡ None → rest ≡ v ∷ others → longer ≡ out ++ v ∷ [] → longer ++ woven (drop (i + 1) faults) others ≡ target
-  woven_verdict v others longer is front e =
-      ap (λ (t : List Verdict). t ++ woven (drop (i + 1) faults) others) e ∙ (append_assoc out (v ∷ []) (woven (drop (i + 1) faults) others) ∙ (sym (ap (λ (r : List Verdict). out ++ woven (None ∷ drop (i + 1) faults) r) front) ∙ (sym (ap (λ (o : Option CertificateFault). out ++ woven (o ∷ drop (i + 1) faults) rest) is) ∙ here)))
+  pub woven_ruling : (v : Ruling) (others longer : List Ruling) → get_or faults i d ≡ None → rest ≡ v ∷ others → longer ≡ out ++ v ∷ [] → longer ++ woven (drop (i + 1) faults) others ≡ target
+  woven_ruling v others longer is front e =
+      ap (λ (t : List Ruling). t ++ woven (drop (i + 1) faults) others) e ∙ (append_assoc out (v ∷ []) (woven (drop (i + 1) faults) others) ∙ (sym (ap (λ (r : List Ruling). out ++ woven (None ∷ drop (i + 1) faults) r) front) ∙ (sym (ap (λ (o : Option CertificateFault). out ++ woven (o ∷ drop (i + 1) faults) rest) is) ∙ here)))
 
   pub woven_short : get_or faults i d ≡ None → rest ≡ [] → out ≡ target
   woven_short is none =
-      sym (append-nil out) ∙ (sym (ap (λ (r : List Verdict). out ++ woven (None ∷ drop (i + 1) faults) r) none) ∙ (sym (ap (λ (o : Option CertificateFault). out ++ woven (o ∷ drop (i + 1) faults) rest) is) ∙ here))
+      sym (append-nil out) ∙ (sym (ap (λ (r : List Ruling). out ++ woven (None ∷ drop (i + 1) faults) r) none) ∙ (sym (ap (λ (o : Option CertificateFault). out ++ woven (o ∷ drop (i + 1) faults) rest) is) ∙ here))
 
-pub woven_whole : (faults : List (Option CertificateFault)) (i : ℕ) (out rest target : List Verdict) → length faults ≤ i → out ++ woven (drop i faults) rest ≡ target → out ≡ target
+pub woven_whole : (faults : List (Option CertificateFault)) (i : ℕ) (out rest target : List Ruling) → length faults ≤ i → out ++ woven (drop i faults) rest ≡ target → out ≡ target
 woven_whole faults i out rest target le h = sym (append-nil out) ∙ (sym (ap (λ (fs : List (Option CertificateFault)). out ++ woven fs rest) (drop_of_length-le faults le)) ∙ h)
 
--- ---- verdicts on certificates
+-- ---- rulings on certificates
 
-pub all_refused : (a b : Journal) (skew transit : ℕ) (v : Verdict) → IsPairRefused a b v → (cs : List Certificate) → AreAudited a b skew transit cs (replicate (length cs) v)
-all_refused a b skew transit v refused [] = tt
-all_refused a b skew transit v refused (c ∷ cs) = (inl refused, all_refused a b skew transit v refused cs)
+pub all_refused : (a b : Journal) (skew transit : ℕ) (r : Ruling) → IsRuledOut a b skew r → (cs : List Certificate) → AreRuledOn a b skew transit cs (replicate (length cs) r)
+all_refused a b skew transit r out [] = tt
+all_refused a b skew transit r out (c ∷ cs) = (inl out, all_refused a b skew transit r out cs)
 
-module _ (a b : Journal) (skew transit : ℕ) (legal : IsPairLegal a b) where
-  tail_judged : (c : Certificate) (cs : List Certificate) (v : Verdict) (vs : List Verdict) → AllJudged (journals_of a b) skew transit (c ∷ cs) (v ∷ vs) → AllJudged (journals_of a b) skew transit cs vs
+module _ (a b : Journal) (skew transit : ℕ) (fit : IsFit a b skew) where
+  tail_judged : (c : Certificate) (cs : List Certificate) (v : VerdictValue) (vs : List VerdictValue) → AllJudged (journals_of a b) skew transit (c ∷ cs) (v ∷ vs) → AllJudged (journals_of a b) skew transit cs vs
   tail_judged c cs v vs h = record {
     count = let n = h.count in omega (arith, n);
     each = λ n w is. let at = h.each (suc n) w is in record { certificate = at.certificate; here = at.here; verdict = at.verdict };
   }
 
-  first_judged : (c : Certificate) (cs : List Certificate) (v : Verdict) (vs : List Verdict) → AllJudged (journals_of a b) skew transit (c ∷ cs) (v ∷ vs) → IsVerdict (journals_of a b) skew transit c v
+  first_judged : (c : Certificate) (cs : List Certificate) (v : VerdictValue) (vs : List VerdictValue) → AllJudged (journals_of a b) skew transit (c ∷ cs) (v ∷ vs) → IsVerdict (journals_of a b) skew transit c v
   first_judged c cs v vs h = let at = h.each 0 v refl in subst (λ (x : Certificate). IsVerdict (journals_of a b) skew transit x v) (let same : Some c ≡ Some at.certificate = at.here in cc) at.verdict
 
-  pub all_audited : (cs : List Certificate) (vs : List Verdict) → AllJudged (journals_of a b) skew transit cs vs → AreAudited a b skew transit cs vs
+  pub all_audited : (cs : List Certificate) (vs : List VerdictValue) → AllJudged (journals_of a b) skew transit cs vs → AreRuledOn a b skew transit cs (map Verdict vs)
   all_audited [] [] h = tt
-  all_audited (c ∷ cs) (v ∷ vs) h = (inr (legal, first_judged c cs v vs h), all_audited cs vs (tail_judged c cs v vs h))
+  all_audited (c ∷ cs) (v ∷ vs) h = (inr (fit, first_judged c cs v vs h), all_audited cs vs (tail_judged c cs v vs h))
   all_audited [] (v ∷ vs) h = let n = h.count in absurd (omega (arith, n))
   all_audited (c ∷ cs) [] h = let n = h.count in absurd (omega (arith, n))
 
--- ---- verdicts on texts
+-- ---- rulings on texts
 
-pub all_of_fault_a : (fault : JournalFault) (b : Result Journal JournalFault) (skew transit : ℕ) (texts : List (List ℕ)) → AreJudged (Err fault) b skew transit texts (replicate (length texts) (JournalVerdict Primary fault))
+pub all_of_fault_a : (fault : JournalFault) (b : Result Journal JournalFault) (skew transit : ℕ) (texts : List (List ℕ)) → AreRuled (Err fault) b skew transit texts (replicate (length texts) (Verdict (JournalVerdict Primary fault)))
 all_of_fault_a fault b skew transit [] = tt
 all_of_fault_a fault b skew transit (text ∷ texts) = (refl, all_of_fault_a fault b skew transit texts)
 
-pub all_of_fault_b : (a : Journal) (fault : JournalFault) (skew transit : ℕ) (texts : List (List ℕ)) → AreJudged (Ok a) (Err fault) skew transit texts (replicate (length texts) (JournalVerdict Secondary fault))
+pub all_of_fault_b : (a : Journal) (fault : JournalFault) (skew transit : ℕ) (texts : List (List ℕ)) → AreRuled (Ok a) (Err fault) skew transit texts (replicate (length texts) (Verdict (JournalVerdict Secondary fault)))
 all_of_fault_b a fault skew transit [] = tt
 all_of_fault_b a fault skew transit (text ∷ texts) = (refl, all_of_fault_b a fault skew transit texts)
 
-pub all_woven : (a b : Journal) (skew transit : ℕ) (texts : List (List ℕ)) (faults : List (Option CertificateFault)) (cs : List Certificate) (vs : List Verdict)
-    → AreGathered texts faults cs → AreAudited a b skew transit cs vs → AreJudged (Ok a) (Ok b) skew transit texts (woven faults vs)
+pub all_woven : (a b : Journal) (skew transit : ℕ) (texts : List (List ℕ)) (faults : List (Option CertificateFault)) (cs : List Certificate) (vs : List Ruling)
+    → AreGathered texts faults cs → AreRuledOn a b skew transit cs vs → AreRuled (Ok a) (Ok b) skew transit texts (woven faults vs)
 all_woven a b skew transit [] [] [] [] g h = tt
 all_woven a b skew transit (text ∷ texts) (Some fault ∷ faults) cs vs g h = (rw g.0 refl, all_woven a b skew transit texts faults cs vs g.1 h)
 all_woven a b skew transit (text ∷ texts) (None ∷ faults) (c ∷ cs) (v ∷ vs) g h = (rw g.0 h.0, all_woven a b skew transit texts faults cs vs g.1 h.1)

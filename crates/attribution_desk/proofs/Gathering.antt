@@ -1,4 +1,4 @@
--- What texts were read to, gathered, and the verdicts on them.
+-- What texts were read to, gathered, and the rulings on them.
 use Rattle.std.proofs.Common.{◌≡◌, ℕ, suc, List, [], ◌∷◌, ◌++◌, length, take, replicate, Option, Some, None, Result, Ok, Err, refl, sym, ap, subst, ◌∙◌, append_assoc, append-nil, arith}
 use Rattle.std.proofs.Math.Path.{subst₂}
 use Rattle.std.proofs.Math.Seq.{take-append_seam}
@@ -9,11 +9,12 @@ use Rattle.binding_rules.specs.declared.role.Role.TheVariants.{Primary, Secondar
 use Rattle.claims.specs.declared.certificate.Certificate.{Certificate}
 use Rattle.claims.specs.declared.fault.CertificateFault.{CertificateFault}
 use Rattle.certificate.specs.declared.error.CertificateError.TheVariants.{Fault}
-use Rattle.attribution.specs.declared.verdict.Verdict.{Verdict}
+use Rattle.pair_ruling.specs.declared.ruling.Ruling.{Ruling}
+use Rattle.pair_ruling.specs.declared.ruling.Ruling.TheVariants.{Verdict}
 use Rattle.attribution.specs.declared.verdict.Verdict.TheVariants.{Journal as JournalVerdict}
 use Rattle.attribution_desk.specs.declared.certificates.Claim.{Claim}
-use Rattle.attribution_desk.specs.Batch.{AreTexts, AreJudged, AreVerdicts}
-use Rattle.attribution_desk.specs.Claims.{texts_of, IsReadTo, AreRead, AreGathered, AreAudited, woven}
+use Rattle.attribution_desk.specs.Batch.{AreTexts, AreRuled, AreRulings}
+use Rattle.attribution_desk.specs.Claims.{texts_of, IsReadTo, AreRead, AreGathered, AreRuledOn, woven}
 use Rattle.attribution_desk.proofs.Batches.{all_of_fault_a, all_of_fault_b, all_woven}
 
 -- ---- texts that were read, one after another
@@ -52,7 +53,7 @@ pub gathers_all : (whole rest : List Claim) (faults : List (Option CertificateFa
 gathers_all whole [] faults certificates none on = subst₂ (AreGathered (texts_of whole)) (append-nil faults) (append-nil certificates) (on [] [] tt)
 gathers_all whole (claim ∷ rest) faults certificates none on = absurd (omega (arith, none))
 
--- ---- the verdicts on them
+-- ---- the rulings on them
 
 count_of : (claims : List Claim) → length (texts_of claims) ≡ length claims
 count_of [] = refl
@@ -65,22 +66,22 @@ written_over new old tail n count same =
     subst (λ (k : ℕ). texts_of (take k (new ++ tail)) ≡ texts_of old) (sym whole) (ap (λ (cs : List Claim). texts_of cs) (take-append_seam new tail) ∙ same)
 
 module _ (a b : Result Journal JournalFault) (rest : List ℕ) (skew transit : ℕ) (claims : List Claim) (texts : AreTexts rest (texts_of claims)) where
-  same_count : (n : ℕ) (v : Verdict) (vs : List Verdict) → n ≡ length claims → vs ≡ replicate n v → replicate (length (texts_of claims)) v ≡ vs
+  same_count : (n : ℕ) (v : Ruling) (vs : List Ruling) → n ≡ length claims → vs ≡ replicate n v → replicate (length (texts_of claims)) v ≡ vs
   same_count n v vs count all = ap (λ (k : ℕ). replicate k v) (count_of claims ∙ sym count) ∙ sym all
 
-  pub refused_by_a : (fault : JournalFault) (n : ℕ) (vs : List Verdict) → a ≡ Err fault → n ≡ length claims → vs ≡ replicate n (JournalVerdict Primary fault) → AreVerdicts a b rest skew transit vs
+  pub refused_by_a : (fault : JournalFault) (n : ℕ) (vs : List Ruling) → a ≡ Err fault → n ≡ length claims → vs ≡ replicate n (Verdict (JournalVerdict Primary fault)) → AreRulings a b rest skew transit vs
   refused_by_a fault n vs is count all =
-      (texts_of claims, texts, subst₂ (λ (x : Result Journal JournalFault) (y : List Verdict). AreJudged x b skew transit (texts_of claims) y) (sym is) (same_count n (JournalVerdict Primary fault) vs count all) (all_of_fault_a fault b skew transit (texts_of claims)))
+      (texts_of claims, texts, subst₂ (λ (x : Result Journal JournalFault) (y : List Ruling). AreRuled x b skew transit (texts_of claims) y) (sym is) (same_count n (Verdict (JournalVerdict Primary fault)) vs count all) (all_of_fault_a fault b skew transit (texts_of claims)))
 
   module _ (journal_a : Journal) (is_a : a ≡ Ok journal_a) where
-    pub refused_by_b : (fault : JournalFault) (n : ℕ) (vs : List Verdict) → b ≡ Err fault → n ≡ length claims → vs ≡ replicate n (JournalVerdict Secondary fault) → AreVerdicts a b rest skew transit vs
+    pub refused_by_b : (fault : JournalFault) (n : ℕ) (vs : List Ruling) → b ≡ Err fault → n ≡ length claims → vs ≡ replicate n (Verdict (JournalVerdict Secondary fault)) → AreRulings a b rest skew transit vs
     refused_by_b fault n vs is count all =
-        let of_b = subst₂ (λ (x : Result Journal JournalFault) (y : List Verdict). AreJudged (Ok journal_a) x skew transit (texts_of claims) y) (sym is) (same_count n (JournalVerdict Secondary fault) vs count all) (all_of_fault_b journal_a fault skew transit (texts_of claims)) in
-        (texts_of claims, texts, subst (λ (x : Result Journal JournalFault). AreJudged x b skew transit (texts_of claims) vs) (sym is_a) of_b)
+        let of_b = subst₂ (λ (x : Result Journal JournalFault) (y : List Ruling). AreRuled (Ok journal_a) x skew transit (texts_of claims) y) (sym is) (same_count n (Verdict (JournalVerdict Secondary fault)) vs count all) (all_of_fault_b journal_a fault skew transit (texts_of claims)) in
+        (texts_of claims, texts, subst (λ (x : Result Journal JournalFault). AreRuled x b skew transit (texts_of claims) vs) (sym is_a) of_b)
 
-    pub judged_by_both : (journal_b : Journal) (read : List Claim) (faults : List (Option CertificateFault)) (certificates : List Certificate) (audited vs : List Verdict) → b ≡ Ok journal_b → texts_of read ≡ texts_of claims
-        → AreGathered (texts_of read) faults certificates → AreAudited journal_a journal_b skew transit certificates audited → vs ≡ woven faults audited → AreVerdicts a b rest skew transit vs
+    pub judged_by_both : (journal_b : Journal) (read : List Claim) (faults : List (Option CertificateFault)) (certificates : List Certificate) (audited vs : List Ruling) → b ≡ Ok journal_b → texts_of read ≡ texts_of claims
+        → AreGathered (texts_of read) faults certificates → AreRuledOn journal_a journal_b skew transit certificates audited → vs ≡ woven faults audited → AreRulings a b rest skew transit vs
     judged_by_both journal_b read faults certificates audited vs is_b same gathered judged all =
         let both = all_woven journal_a journal_b skew transit (texts_of claims) faults certificates audited (subst (λ (ts : List (List ℕ)). AreGathered ts faults certificates) same gathered) judged in
-        let of_a = subst₂ (λ (x : Result Journal JournalFault) (y : Result Journal JournalFault). AreJudged x y skew transit (texts_of claims) (woven faults audited)) (sym is_a) (sym is_b) both in
-        (texts_of claims, texts, subst (AreJudged a b skew transit (texts_of claims)) (sym all) of_a)
+        let of_a = subst₂ (λ (x : Result Journal JournalFault) (y : Result Journal JournalFault). AreRuled x y skew transit (texts_of claims) (woven faults audited)) (sym is_a) (sym is_b) both in
+        (texts_of claims, texts, subst (AreRuled a b skew transit (texts_of claims)) (sym all) of_a)

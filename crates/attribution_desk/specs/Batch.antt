@@ -5,10 +5,10 @@ use Rattle.journal_lines.specs.declared.line.Journal.{Journal}
 use Rattle.journal_lines.specs.declared.fault.JournalFault.{JournalFault}
 use Rattle.journal_text.specs.Faults.{journal_of_side}
 use Rattle.certificate.specs.Faults.{certificate_of}
-use Rattle.attribution.specs.declared.verdict.Verdict.{Verdict}
-use Rattle.attribution.specs.VerdictText.{verdict_line}
-use Rattle.auditor.specs.Texts.{IsVerdictOfParsed}
-use Rattle.attribution_desk.specs.Answer.{first_text, text_behind, status_of}
+use Rattle.pair_ruling.specs.declared.ruling.Ruling.{Ruling}
+use Rattle.pair_ruling.specs.Ruling.{ruling_line, status_of}
+use Rattle.attribution_desk.specs.Rulings.{IsRulingOfParsed}
+use Rattle.attribution_desk.specs.Answer.{first_text, text_behind}
 
 -- The texts of certificates, one after another: each up to and with its first line that begins with `end`. A rest
 -- without such a line is the last, and an empty rest is none.
@@ -16,32 +16,32 @@ abbrev pub AreTexts : List ℕ → List (List ℕ) → Type 0
 AreTexts rest [] = rest ≡ []
 AreTexts rest (text ∷ texts) = (rest ≢ []) × (text ≡ first_text rest) × AreTexts (text_behind rest) texts
 
--- on each of them its verdict, in order
-abbrev pub AreJudged : Result Journal JournalFault → Result Journal JournalFault → (skew transit : ℕ)
-    → List (List ℕ) → List Verdict → Type 0
-AreJudged a b skew transit [] [] = ⊤
-AreJudged a b skew transit (text ∷ texts) (v ∷ vs) =
-    IsVerdictOfParsed a b skew transit (certificate_of text) v × AreJudged a b skew transit texts vs
-AreJudged a b skew transit [] (v ∷ vs) = ⊥
-AreJudged a b skew transit (text ∷ texts) [] = ⊥
+-- on each of them its ruling, in order
+abbrev pub AreRuled : Result Journal JournalFault → Result Journal JournalFault → (skew transit : ℕ)
+    → List (List ℕ) → List Ruling → Type 0
+AreRuled a b skew transit [] [] = ⊤
+AreRuled a b skew transit (text ∷ texts) (r ∷ rs) =
+    IsRulingOfParsed a b skew transit (certificate_of text) r × AreRuled a b skew transit texts rs
+AreRuled a b skew transit [] (r ∷ rs) = ⊥
+AreRuled a b skew transit (text ∷ texts) [] = ⊥
 
 -- 0 where that is each one's status
-abbrev pub status_of_all : List Verdict → ℕ
+abbrev pub status_of_all : List Ruling → ℕ
 status_of_all [] = 0
-status_of_all (v ∷ vs) = if status_of v == 0 then status_of_all vs else 1
+status_of_all (r ∷ rs) = if status_of r == 0 then status_of_all rs else 1
 
--- the verdicts on the certificates behind two journals
-abbrev pub AreVerdicts : Result Journal JournalFault → Result Journal JournalFault → List ℕ → (skew transit : ℕ)
-    → List Verdict → Type 0
-AreVerdicts a b rest skew transit vs =
-    (texts : List (List ℕ)) × AreTexts rest texts × AreJudged a b skew transit texts vs
+-- the rulings on the certificates behind two journals
+abbrev pub AreRulings : Result Journal JournalFault → Result Journal JournalFault → List ℕ → (skew transit : ℕ)
+    → List Ruling → Type 0
+AreRulings a b rest skew transit rs =
+    (texts : List (List ℕ)) × AreTexts rest texts × AreRuled a b skew transit texts rs
 
 -- their lines, and the status
 abbrev pub IsBatchOf : Result Journal JournalFault → Result Journal JournalFault → List ℕ → (skew transit : ℕ)
     → List ℕ → ℕ → Type 0
 IsBatchOf a b rest skew transit text status =
-    (vs : List Verdict) × AreVerdicts a b rest skew transit vs
-    × (text ≡ flat_map verdict_line vs) × (status ≡ status_of_all vs)
+    (rs : List Ruling) × AreRulings a b rest skew transit rs
+    × (text ≡ flat_map ruling_line rs) × (status ≡ status_of_all rs)
 
 -- of an input: journal A, journal B, and the certificates, which are all that follows
 abbrev pub IsBatch : List ℕ → (skew transit : ℕ) → List ℕ → ℕ → Type 0

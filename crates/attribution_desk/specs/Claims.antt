@@ -1,4 +1,4 @@
--- For bodies only: certificates' texts on their way to verdicts.
+-- For bodies only: certificates' texts on their way to rulings.
 use Rattle.std.specs.Prelude.{◌≡◌, ⊤, ℕ, List, [], ◌∷◌, All, map, Option, Some, None, Result, Ok, Err}
 use Rattle.journal_lines.specs.declared.line.Journal.{Journal}
 use Rattle.claims.specs.declared.certificate.Certificate.{Certificate}
@@ -6,9 +6,10 @@ use Rattle.claims.specs.declared.fault.CertificateFault.{CertificateFault}
 use Rattle.certificate.specs.declared.error.CertificateError.{CertificateError}
 use Rattle.certificate.specs.declared.error.CertificateError.TheVariants.{Fault, Memory}
 use Rattle.certificate.specs.Faults.{certificate_of}
-use Rattle.attribution.specs.declared.verdict.Verdict.{Verdict}
 use Rattle.attribution.specs.declared.verdict.Verdict.TheVariants.{Certificate as FaultOf}
-use Rattle.auditor.specs.Texts.{IsVerdictOfJournals}
+use Rattle.pair_ruling.specs.declared.ruling.Ruling.{Ruling}
+use Rattle.pair_ruling.specs.declared.ruling.Ruling.TheVariants.{Verdict}
+use Rattle.attribution_desk.specs.Rulings.{IsRulingOfJournals}
 use Rattle.attribution_desk.specs.declared.certificates.Claim.{Claim}
 
 abbrev pub texts_of : List Claim → List (List ℕ)
@@ -31,17 +32,17 @@ AreGathered (text ∷ texts) (None ∷ faults) (c ∷ cs) = (certificate_of text
 AreGathered (text ∷ texts) (Some fault ∷ faults) cs = (certificate_of text ≡ Err fault) × AreGathered texts faults cs
 AreGathered _ _ _ = ⊥
 
--- on each certificate its verdict, in order
-abbrev pub AreAudited : Journal → Journal → (skew transit : ℕ) → List Certificate → List Verdict → Type 0
-AreAudited a b skew transit [] [] = ⊤
-AreAudited a b skew transit (c ∷ cs) (v ∷ vs) =
-    IsVerdictOfJournals a b skew transit c v × AreAudited a b skew transit cs vs
-AreAudited a b skew transit [] (v ∷ vs) = ⊥
-AreAudited a b skew transit (c ∷ cs) [] = ⊥
+-- on each certificate its ruling, in order
+abbrev pub AreRuledOn : Journal → Journal → (skew transit : ℕ) → List Certificate → List Ruling → Type 0
+AreRuledOn a b skew transit [] [] = ⊤
+AreRuledOn a b skew transit (c ∷ cs) (r ∷ rs) =
+    IsRulingOfJournals a b skew transit c r × AreRuledOn a b skew transit cs rs
+AreRuledOn a b skew transit [] (r ∷ rs) = ⊥
+AreRuledOn a b skew transit (c ∷ cs) [] = ⊥
 
--- the verdict on each text: its fault, or else the next of these
-abbrev pub woven : List (Option CertificateFault) → List Verdict → List Verdict
-woven [] vs = []
-woven (Some fault ∷ faults) vs = FaultOf fault ∷ woven faults vs
-woven (None ∷ faults) (v ∷ vs) = v ∷ woven faults vs
+-- the ruling on each text: its fault, or else the next of these
+abbrev pub woven : List (Option CertificateFault) → List Ruling → List Ruling
+woven [] rs = []
+woven (Some fault ∷ faults) rs = Verdict (FaultOf fault) ∷ woven faults rs
+woven (None ∷ faults) (r ∷ rs) = r ∷ woven faults rs
 woven (None ∷ faults) [] = []

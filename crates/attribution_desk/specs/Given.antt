@@ -10,7 +10,7 @@ use Rattle.evidence_search.specs.declared.query.Query.{Query}
 use Rattle.evidence_search.specs.declared.query.HolderQuery.{HolderQuery}
 use Rattle.time_text.specs.Time.{IsTimeOf}
 use Rattle.attribution_desk.specs.declared.command.Command.{Command}
-use Rattle.attribution_desk.specs.declared.command.Command.TheVariants.{Audit, Batch, Timeline, Find, Who}
+use Rattle.attribution_desk.specs.declared.command.Command.TheVariants.{Audit, Batch, Timeline, Clocks, Find, Who}
 
 -- the text is this number's, in decimal digits, which is at most so much
 abbrev pub IsNumber : (most : ℕ) → Option Text → ℕ → Type 0
@@ -85,6 +85,7 @@ IsGiven (Some found) (Batch skew transit workers) =
     × IsTransit (first_of (codes "transit-ms") found.1) transit
     × IsWorkers (first_of (codes "workers") found.1) workers
 IsGiven (Some found) Timeline = found.0 ≡ codes "timeline"
+IsGiven (Some found) Clocks = found.0 ≡ codes "clocks"
 IsGiven (Some found) (Find query) = (found.0 ≡ codes "find") × IsQuery found.1 query
 IsGiven (Some found) (Who query) = (found.0 ≡ codes "who") × IsHolderQuery found.1 query
 

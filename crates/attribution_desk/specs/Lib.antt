@@ -1,12 +1,15 @@
 pub mod Words
 pub mod Given
 pub mod Input
+pub mod Rulings
 pub mod Answer
 pub mod Batch
 pub mod Timeline
 pub mod Running
+pub mod Headline
 pub mod Intake
 pub mod Telling
 pub mod Claims
 pub mod Find
+pub mod Clocks
 pub mod Who

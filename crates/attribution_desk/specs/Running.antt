@@ -2,10 +2,11 @@
 use Rattle.std.specs.Prelude.{ℕ, List, Option, IfSome}
 use Rattle.std.specs.Io.KnownBytes.{Appends}
 use Rattle.attribution_desk.specs.declared.command.Command.{Command}
-use Rattle.attribution_desk.specs.declared.command.Command.TheVariants.{Audit, Batch, Timeline, Find, Who}
+use Rattle.attribution_desk.specs.declared.command.Command.TheVariants.{Audit, Batch, Timeline, Clocks, Find, Who}
 use Rattle.attribution_desk.specs.Answer.{IsAnswer}
 use Rattle.attribution_desk.specs.Batch.{IsBatch}
 use Rattle.attribution_desk.specs.Timeline.{IsTimeline}
+use Rattle.attribution_desk.specs.Clocks.{IsClocks}
 use Rattle.attribution_desk.specs.Find.{IsFind}
 use Rattle.attribution_desk.specs.Who.{IsWho}
 
@@ -14,6 +15,7 @@ abbrev pub Answers : Command → List ℕ → List ℕ → ℕ → Type 0
 Answers (Audit skew transit) input text status = IsAnswer input skew transit text status
 Answers (Batch skew transit workers) input text status = IsBatch input skew transit text status
 Answers Timeline input text status = IsTimeline input text status
+Answers Clocks input text status = IsClocks input text status
 Answers (Find query) input text status = IsFind input query text status
 Answers (Who query) input text status = IsWho input query text status
 

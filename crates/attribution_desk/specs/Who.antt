@@ -47,9 +47,13 @@ abbrev pub IsHolding : Journals → HolderQuery → List ℕ → ℕ → Type 0
 IsHolding js q text status = IsHeld js q text status ⊎ IsNoneHeld js q text status
 
 abbrev pub IsWho : List ℕ → HolderQuery → List ℕ → ℕ → Type 0
-IsWho input q text status = IsSearch input (λ js. IsHolding js q) text status
+IsWho input q text status = IsSearch input q.skew (λ js. IsHolding js q) text status
 
--- for bodies only: what either search answers
+-- for bodies only: the skew of either search, and what it answers
+abbrev pub skew_of : Search → ℕ
+skew_of (Find q) = q.skew
+skew_of (Who q) = q.skew
+
 abbrev pub Answered : Search → Journals → List ℕ → ℕ → Type 0
 Answered (Find q) js text status = IsFinding js q text status
 Answered (Who q) js text status = IsHolding js q text status

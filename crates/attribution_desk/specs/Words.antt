@@ -44,7 +44,9 @@ who_app =
     with_rule (with_rule (with_rule (with_rule (new_app (codes "who")) (option_rule (codes "skew-ms") true))
     (option_rule (codes "prefix") true)) (option_rule (codes "at") true)) (option_rule (codes "transit-ms") false)
 
+abbrev pub searching_app : App
+searching_app = with_subcommand (with_subcommand judging_app find_app.top) who_app.top
+
 abbrev pub desk : App
 desk =
-    with_subcommand (with_subcommand (with_subcommand judging_app find_app.top) who_app.top)
-    (new_app (codes "timeline")).top
+    with_subcommand (with_subcommand searching_app (new_app (codes "timeline")).top) (new_app (codes "clocks")).top

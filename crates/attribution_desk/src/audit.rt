@@ -5,13 +5,15 @@ ghost use Rattle.std.specs.Result.{ForOk};
 ghost use Rattle.journal_text.specs.Closed.{IsClosed};
 ghost use Rattle.attribution_desk.specs.Answer.{IsAnswerOf, IsAnswer};
 ghost use Rattle.attribution_desk.specs.Running.{IsWritten};
+ghost use Rattle.attribution_desk.specs.Headline.{IsTrueInEveryRun};
 
 use crate::answer::Answer;
 use crate::error::DeskError;
 use crate::intake::{Intake, ReadInput};
-use crate::judging::verdict_on_parsed;
+use crate::judging::ruling_on_parsed;
 use crate::taking::{Taking, halvings_for, take_all};
 use crate::watched::Watched;
+use auditor::accepted_texts_are_true;
 use lead_time::{Skew, Transit};
 use std::alloc::Global;
 use std::io::{Read, Write};
@@ -31,7 +33,7 @@ fn answer_to<T: Threads + Sync>(
         answer.line.items answer.status) }
     ensures refused { IfErr result (λ e. e ≡ DeskError.Memory) }
 {
-    let verdict = verdict_on_parsed(
+    let ruling = ruling_on_parsed(
         rt,
         alloc,
         input.primary,
@@ -40,10 +42,10 @@ fn answer_to<T: Threads + Sync>(
         skew,
         transit,
     )?;
-    Answer::new(alloc, &verdict)
+    Answer::new(alloc, &ruling)
 }
 
-/// The verdict on the input's three texts, journal A, journal B and the certificate, as a line and a status;
+/// The ruling on the input's three texts, journal A, journal B and the certificate, as a line and a status;
 /// `Memory` where a growth was refused.
 pub fn judge<T: Threads + Sync>(
     rt: &T,
@@ -53,13 +55,17 @@ pub fn judge<T: Threads + Sync>(
     transit: Transit,
 ) -> Result<Answer, DeskError>
     ensures answer { IfOk result (λ answer. IsAnswer input.now skew transit answer.line.items answer.status) }
+    // What is accepted is true in every run of the pair that leaves these journals, with each clock within the skew of
+    // true time and each answer within the transit.
+    ensures headline { IfOk result (λ answer. answer.status ≡ 0 → IsTrueInEveryRun input.now skew transit) }
     ensures refused { IfErr result (λ e. e ≡ DeskError.Memory) }
 {
+    accepted_texts_are_true();
     let intake = Intake::new(alloc).take(rt, halvings_for(rt), input)?;
     answer_to(rt, alloc, intake.finish(), skew, transit)
 }
 
-/// Writes the verdict on all that a reader gives.
+/// Writes the ruling on all that a reader gives.
 pub(crate) fn audit_input<T: Threads + Sync, R: Read, W: Write>(
     rt: &T,
     alloc: Global,

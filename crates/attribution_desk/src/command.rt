@@ -6,7 +6,7 @@ ghost use Rattle.clap.specs.Words.{app_of, rule_of, first_of, rows_of, found_of,
 ghost use Rattle.clap.specs.Words.{takes, fault_of, kind_of, with_rule};
 ghost use Rattle.clap.specs.declared.builder.command.Command.TheViews.{out-Command};
 ghost use Rattle.attribution_desk.specs.Words.{option_rule, audit_app, batch_app, asking_app, find_app, judging_app};
-ghost use Rattle.attribution_desk.specs.Words.{desk};
+ghost use Rattle.attribution_desk.specs.Words.{searching_app, desk};
 ghost use Rattle.attribution_desk.specs.Given.{IsNumber, IsSkew, IsTransit, IsWorkers, IsGiven, IsNoCommand};
 ghost use Rattle.attribution_desk.specs.Given.{IsHolder, IsPrefixText, IsMoment, IsQuery};
 ghost use Rattle.prefix_range.specs.Prefix.{Prefix as PrefixValue};
@@ -41,6 +41,8 @@ pub enum Command {
     },
     /// Print the lines of two journals in one order.
     Timeline,
+    /// Print the least skew with which two journals could have been written.
+    Clocks,
     /// Print a certificate over two journals that shows what is asked.
     Find(Query),
     /// Print which client held a prefix at a moment, when, and a certificate over two journals that shows it.
@@ -124,16 +126,22 @@ fn judging_command<'a>(alloc: Global) -> Result<ClapCommand<'a>, AllocError>
         .subcommand(batch)
 }
 
-fn desk_command<'a>(alloc: Global) -> Result<ClapCommand<'a>, AllocError>
-    ensures { IfOk result (λ c. app_of c ≡ desk) }
+/// Those and the commands that search.
+fn searching_command<'a>(alloc: Global) -> Result<ClapCommand<'a>, AllocError>
+    ensures { IfOk result (λ c. app_of c ≡ searching_app) }
 {
     let judging = judging_command(alloc)?;
     let find = find_command(alloc)?;
     let who = who_command(alloc)?;
-    judging
-        .subcommand(find)?
-        .subcommand(who)?
-        .subcommand(ClapCommand::new(alloc, "timeline"))
+    judging.subcommand(find)?.subcommand(who)
+}
+
+fn desk_command<'a>(alloc: Global) -> Result<ClapCommand<'a>, AllocError>
+    ensures { IfOk result (λ c. app_of c ≡ desk) }
+{
+    searching_command(alloc)?
+        .subcommand(ClapCommand::new(alloc, "timeline"))?
+        .subcommand(ClapCommand::new(alloc, "clocks"))
 }
 
 fn usage_error(error: ClapError) -> UsageError
@@ -288,6 +296,8 @@ fn command_named(name: &str, options: &ArgMatches) -> Option<Command>
         Some(Command::Find(query_given(options)?))
     } else if name == "timeline" {
         Some(Command::Timeline)
+    } else if name == "clocks" {
+        Some(Command::Clocks)
     } else {
         None
     }

@@ -1,14 +1,14 @@
-//! The verdict on two journals and a certificate, over an index of the journals' lines.
+//! The ruling on two journals and a certificate, over an index of the journals' lines.
 
 ghost use Rattle.std.specs.Prelude.{◌≡◌, IfOk, IfErr};
 ghost use Rattle.std.specs.Result.{ForOk};
 ghost use Rattle.certificate.specs.Faults.{certificate_of};
 ghost use Rattle.journal_text.specs.Closed.{IsClosed};
-ghost use Rattle.auditor.specs.Texts.{IsVerdictOfJournals, IsVerdictOfParsed};
+ghost use Rattle.attribution_desk.specs.Rulings.{IsRulingOfJournals, IsRulingOfParsed};
 
 use crate::error::DeskError;
 use attribution::Verdict;
-use auditor::{Checked, audit, check_pair};
+use auditor::audit;
 use binding_rules::Role;
 use certificate::CertificateError;
 use claims::Certificate;
@@ -16,11 +16,12 @@ use journal_lines::{Journal, JournalFault};
 use journal_merge::placing_holds;
 use lead_time::{Skew, Transit};
 use line_index::LineIndex;
+use pair_ruling::{Ruled, Ruling, rule_pair};
 use std::alloc::Global;
 use std::thread::Threads;
 
-/// What refuses the two journals; else the verdict of `audit`.
-fn verdict_on_journals(
+/// What stands against the two journals; else the verdict of `audit`.
+fn ruling_on_journals(
     rt: &(impl Threads + Sync),
     alloc: Global,
     primary: &Journal,
@@ -28,24 +29,24 @@ fn verdict_on_journals(
     claim: &Certificate,
     skew: Skew,
     transit: Transit,
-) -> Result<Verdict, DeskError>
+) -> Result<Ruling, DeskError>
     requires primary_closed { IsClosed primary.now.lines }
     requires secondary_closed { IsClosed secondary.now.lines }
-    ensures verdict { IfOk result (IsVerdictOfJournals primary.now secondary.now skew transit claim.now) }
+    ensures ruling { IfOk result (IsRulingOfJournals primary.now secondary.now skew transit claim.now) }
     ensures refused { IfErr result (λ e. e ≡ DeskError.Memory) }
 {
     placing_holds();
-    let merged = match check_pair(alloc, primary, secondary)? {
-        Checked::Legal(merged) => merged,
-        Checked::Refused(refusal) => return Ok(refusal),
+    let merged = match rule_pair(alloc, primary, secondary, skew)? {
+        Ruled::Fit(merged) => merged,
+        Ruled::Refused(ruling) => return Ok(ruling),
     };
     let index = LineIndex::build(rt, alloc, primary, secondary, &merged)?;
-    Ok(audit(&index, claim, skew, transit))
+    Ok(Ruling::Verdict(audit(&index, claim, skew, transit)))
 }
 
-/// The verdict on what two texts are as journals and on a certificate's text: the first of the faults of A's journal,
-/// of B's and of the certificate's text, then what refuses the two journals, then the verdict of `audit`.
-pub(crate) fn verdict_on_parsed(
+/// The ruling on what two texts are as journals and on a certificate's text: the first of the faults of A's journal,
+/// of B's and of the certificate's text, then what stands against the two journals, then the verdict of `audit`.
+pub(crate) fn ruling_on_parsed(
     rt: &(impl Threads + Sync),
     alloc: Global,
     a: Result<Journal, JournalFault>,
@@ -53,24 +54,26 @@ pub(crate) fn verdict_on_parsed(
     certificate: &[u8],
     skew: Skew,
     transit: Transit,
-) -> Result<Verdict, DeskError>
+) -> Result<Ruling, DeskError>
     requires a_closed { ForOk a (λ journal. IsClosed journal.lines) }
     requires b_closed { ForOk b (λ journal. IsClosed journal.lines) }
-    ensures verdict { IfOk result (IsVerdictOfParsed a b skew transit (certificate_of certificate.now)) }
+    ensures ruling { IfOk result (IsRulingOfParsed a b skew transit (certificate_of certificate.now)) }
     ensures refused { IfErr result (λ e. e ≡ DeskError.Memory) }
 {
     let primary = match a {
         Ok(journal) => journal,
-        Err(fault) => return Ok(Verdict::Journal(Role::Primary, fault)),
+        Err(fault) => return Ok(Ruling::Verdict(Verdict::Journal(Role::Primary, fault))),
     };
     let secondary = match b {
         Ok(journal) => journal,
-        Err(fault) => return Ok(Verdict::Journal(Role::Secondary, fault)),
+        Err(fault) => return Ok(Ruling::Verdict(Verdict::Journal(Role::Secondary, fault))),
     };
     let claim = match certificate::read(alloc, certificate) {
         Ok(claim) => claim,
-        Err(CertificateError::Fault(fault)) => return Ok(Verdict::Certificate(fault)),
+        Err(CertificateError::Fault(fault)) => return Ok(Ruling::Verdict(Verdict::Certificate(
+            fault,
+        ))),
         Err(CertificateError::Memory) => return Err(DeskError::Memory),
     };
-    verdict_on_journals(rt, alloc, &primary, &secondary, &claim, skew, transit)
+    ruling_on_journals(rt, alloc, &primary, &secondary, &claim, skew, transit)
 }

@@ -3,7 +3,8 @@
 //! `command_of` gives the [`Command`] that clap finds in the words, `run` carries it out between a reader and a
 //! writer, and `judge` answers an input that is at hand. The input is journal A, journal B and the certificate, one
 //! after the other, and is never held whole: each chunk goes to the readers of the journals. specs/Answer says what
-//! is answered, specs/Find and specs/Who what searches answer, specs/Input where a text ends, specs/Words and
+//! is answered, specs/Rulings what is ruled on texts,
+//! specs/Find, Who and Clocks what searches answer, specs/Input where a text ends, specs/Words and
 //! specs/Given what a command is; specs/Intake is for bodies only.
 //!
 //! ```text
@@ -16,6 +17,7 @@ mod answer;
 mod audit;
 mod batch;
 mod certificates;
+mod clocks;
 mod command;
 mod end_line;
 mod error;

@@ -1,15 +1,18 @@
 //! Carrying out commands.
 
-ghost use Rattle.std.specs.Prelude.{◌≡◌, ◌⊎◌, true, IfOk, IsErrOf};
+ghost use Rattle.std.specs.Prelude.{◌≡◌, ◌⊎◌, true, IfOk, IfSome, IsErrOf};
 ghost use Rattle.attribution_desk.specs.Running.{Answers, IsWritten};
+ghost use Rattle.attribution_desk.specs.Headline.{SaysTrue};
 
 use crate::audit::audit_input;
 use crate::batch::batch_input;
+use crate::clocks::clocks_input;
 use crate::command::Command;
 use crate::error::DeskError;
 use crate::searching::{Search, search_input};
 use crate::timelines::timeline_input;
 use crate::watched::Watched;
+use auditor::accepted_texts_are_true;
 use std::alloc::Global;
 use std::io::{Read, Write};
 use std::sync::Wait;
@@ -26,10 +29,15 @@ pub fn run<T: Threads + Wait + Sync, R: Read, W: Write>(
 ) -> Result<u8, DeskError>
     ensures written { IfOk result (IsWritten (Answers command.now) (R.remaining reader.old.device)
         (W.contents writer.old.device) (W.contents writer.new.device)) }
+    // Where it is known what the reader had to give, each certificate that status 0 is said of is true in every run of
+    // the pair that leaves the journals.
+    ensures headline { IfOk result (λ status. status ≡ 0
+        → IfSome (R.remaining reader.old.device) (SaysTrue command.now)) }
     // A reader that is well and has turns left isn't blamed, nor is a writer that is well.
     ensures read { IsErrOf result DeskError.Read → (reader.new.failed ≡ true) ⊎ (reader.new.turns ≡ 0) }
     ensures write { IsErrOf result DeskError.Write → writer.new.failed ≡ true }
 {
+    accepted_texts_are_true();
     match command {
         Command::Audit { skew, transit } => audit_input(rt, alloc, *skew, *transit, reader, writer),
         Command::Batch {
@@ -38,6 +46,7 @@ pub fn run<T: Threads + Wait + Sync, R: Read, W: Write>(
             workers,
         } => batch_input(rt, alloc, *skew, *transit, *workers, reader, writer),
         Command::Timeline => timeline_input(rt, alloc, reader, writer),
+        Command::Clocks => clocks_input(rt, alloc, reader, writer),
         Command::Find(query) => search_input(rt, alloc, &Search::Find(*query), reader, writer),
         Command::Who(query) => search_input(rt, alloc, &Search::Who(*query), reader, writer),
     }

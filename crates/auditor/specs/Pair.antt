@@ -1,5 +1,5 @@
 -- What refuses two journals, whatever is claimed over them: a rule that one breaks, then messages that can't be.
-use Rattle.std.specs.Prelude.{◌≡◌, ◌⊎◌, ℕ}
+use Rattle.std.specs.Prelude.{◌≡◌, ◌⊎◌, ℕ, ◌^◌, ◌<◌, length}
 use Rattle.binding_rules.specs.declared.role.Role.{Role}
 use Rattle.binding_rules.specs.declared.role.Role.TheVariants.{Primary, Secondary}
 use Rattle.journal_lines.specs.declared.line.Journal.{Journal}
@@ -65,3 +65,7 @@ IsChecked a b (Refused v) = IsPairRefused a b v
 -- two journals have no two answers
 abbrev pub CheckedOnce : Type 0
 CheckedOnce = (a b : Journal) (x y : Checked) → IsChecked a b x → IsChecked a b y → x ≡ y
+
+-- a journal that keeps the rules has less than 2^32 lines
+abbrev pub UnbrokenIsShort : Type 0
+UnbrokenIsShort = (side : Role) (j : Journal) → IsUnbroken side j → length j.lines < 2 ^ 32

@@ -90,3 +90,8 @@ TextsAcceptTheAccepted = (a b certificate : List ℕ) (skew transit : ℕ)
 abbrev pub OneTextVerdict : Type 0
 OneTextVerdict = (a b certificate : List ℕ) (skew transit : ℕ) (v w : Verdict)
     → IsVerdictOfTexts a b certificate skew transit v → IsVerdictOfTexts a b certificate skew transit w → v ≡ w
+
+-- what is accepted of texts is true in every run of the pair that leaves the journals that they spell
+abbrev pub AcceptedTextsAreTrue : Type 0
+AcceptedTextsAreTrue = (a b certificate : List ℕ) (skew transit : ℕ)
+    → IsVerdictOfTexts a b certificate skew transit Accepted → TextsAreTrueInEveryRun a b certificate skew transit

@@ -33,7 +33,9 @@ mod walk;
 pub use auditing::audit;
 pub use error::AuditError;
 pub use grants::reason_holds;
-pub use laws::{pair_is_checked_once, text_verdict_is_one};
+pub use laws::{
+    accepted_texts_are_true, pair_is_checked_once, text_verdict_is_one, unbroken_is_short,
+};
 pub use pair::{Checked, check_pair};
 pub use plain::PlainSource;
 pub use source::LineSource;

@@ -1,14 +1,14 @@
 use Rattle.std.proofs.Common.{◌++◌, flat_map, ap, ◌∙◌}
-use Rattle.attribution.specs.VerdictText.{verdict_line}
+use Rattle.pair_ruling.specs.Ruling.{ruling_line}
 use Rattle.attribution_desk.proofs.Batches.{line_more, line_whole}
 use Rattle.attribution_desk.proofs.batch.answer_of.Goals as goal
 
-pub loop-verdict-init : goal.loop-verdict-init
-loop-verdict-init c = ap (λ t. t ++ flat_map verdict_line c.args.verdicts.now) c.new-line.ensures.items
+pub loop-ruling-init : goal.loop-ruling-init
+loop-ruling-init c = ap (λ t. t ++ flat_map ruling_line c.args.rulings.now) c.new-line.ensures.items
 
-pub loop-verdict-preserved : goal.loop-verdict-preserved
-loop-verdict-preserved c = line_more c.args.verdicts.now c.loop-verdict.verdict-index _ c.loop-verdict.line.items c.extend_from_slice.new.self.items c.loop-verdict-test.true c.loop-verdict.invariant
-    (c.in_ok-extend_from_slice.ensures.items ∙ ap (λ t. c.loop-verdict.line.items ++ t) (c.deref.ensures.value ∙ c.in_ok-verdict_line.ensures))
+pub loop-ruling-preserved : goal.loop-ruling-preserved
+loop-ruling-preserved c = line_more c.args.rulings.now c.loop-ruling.ruling-index _ c.loop-ruling.line.items c.extend_from_slice.new.self.items c.loop-ruling-test.true c.loop-ruling.invariant
+    (c.in_ok-extend_from_slice.ensures.items ∙ ap (λ t. c.loop-ruling.line.items ++ t) (c.deref.ensures.value ∙ c.in_ok-ruling_line.ensures))
 
 pub returns-clause-line : goal.returns-clause-line
-returns-clause-line c = line_whole c.args.verdicts.now c.loop-verdict.verdict-index c.loop-verdict.line.items c.loop-verdict-test.false c.loop-verdict.invariant
+returns-clause-line c = line_whole c.args.rulings.now c.loop-ruling.ruling-index c.loop-ruling.line.items c.loop-ruling-test.false c.loop-ruling.invariant

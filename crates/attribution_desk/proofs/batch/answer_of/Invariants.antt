@@ -1,6 +1,6 @@
 use Rattle.std.proofs.Common.{◌≡◌, ◌++◌, drop, flat_map}
-use Rattle.attribution.specs.VerdictText.{verdict_line}
+use Rattle.pair_ruling.specs.Ruling.{ruling_line}
 use Rattle.attribution_desk.proofs.batch.answer_of.Given as goal
 
-abbrev pub invariant-loop-verdict : goal.invariant-loop-verdict
-invariant-loop-verdict l = l.line.items ++ flat_map verdict_line (drop l.verdict-index l.verdicts) ≡ flat_map verdict_line l.verdicts
+abbrev pub invariant-loop-ruling : goal.invariant-loop-ruling
+invariant-loop-ruling l = l.line.items ++ flat_map ruling_line (drop l.ruling-index l.rulings) ≡ flat_map ruling_line l.rulings

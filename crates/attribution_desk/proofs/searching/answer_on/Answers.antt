@@ -1,7 +1,19 @@
-use Rattle.std.proofs.Common.{inl, subst}
-use Rattle.auditor.specs.Pair.{IsChecked}
+use Rattle.std.specs.Prelude.{ℕ}
+use Rattle.std.proofs.Common.{inl, inr, subst}
+use Rattle.pair_ruling.specs.Ruled.{IsRuled, IsRuledOut, IsFit}
+use Rattle.attribution_desk.specs.Who.{Answered}
 use Rattle.attribution_desk.proofs.searching.answer_on.Goals as goal
 
 pub returns-in-Refused-clause-answer : goal.returns-in-Refused-clause-answer
 returns-in-Refused-clause-answer g c =
-    inl (c.in-Refused.refusal, subst (IsChecked c.args.primary.now c.args.secondary.now) c.in-Refused.is c.in_ok-merged.ensures, c.in_ok-answer-in-Refused.ensures.said)
+    let out = subst (IsRuled c.args.primary.now c.args.secondary.now c.skew.result) c.in-Refused.is c.in_ok-merged.ensures in
+    inl (c.in-Refused.ruling, subst (λ (skew : ℕ). IsRuledOut c.args.primary.now c.args.secondary.now skew c.in-Refused.ruling) c.skew.ensures out, c.in_ok-answer-in-Refused.ensures.said)
+
+pub returns-clause-answer : goal.returns-clause-answer
+returns-clause-answer g c =
+    let fit = subst (IsRuled c.args.primary.now c.args.secondary.now c.skew.result) c.in-Fit.is c.in_ok-merged.ensures in
+    let answer = c.in_ok-answer.answer in
+    inr (
+      subst (IsFit c.args.primary.now c.args.secondary.now) c.skew.ensures fit.0,
+      subst (λ js. Answered c.args.search.now js answer.line.items answer.status) c.in_ok-index.ensures c.in_ok-answer.ensures.answer,
+    )

@@ -1,0 +1,115 @@
+-- What the desk accepts is true in every run of the pair that leaves the journals.
+use Rattle.std.specs.Prelude.{◌≡◌, ⊤, ℕ, List, [], ◌∷◌, All, Option, Some, None, Result, Ok, Err, IfOk, IfSome, ◌==◌, if◌then◌else◌}
+use Rattle.std.proofs.lemmas.List.Elements.{All-nil, All-cons}
+use Rattle.std.proofs.Common.{arith, inl, inr, subst, sym, refl, ◌∙◌}
+use Rattle.binding_rules.specs.declared.role.Role.TheVariants.{Primary, Secondary}
+use Rattle.journal_lines.specs.declared.line.Journal.{Journal as Lines}
+use Rattle.journal_lines.specs.declared.fault.JournalFault.{JournalFault}
+use Rattle.journal_text.specs.Faults.{journal_of_side}
+use Rattle.claims.specs.declared.certificate.Certificate.{Certificate as Claim}
+use Rattle.claims.specs.declared.fault.CertificateFault.{CertificateFault}
+use Rattle.certificate.specs.Faults.{certificate_of}
+use Rattle.attribution.specs.declared.verdict.Verdict.{Verdict as VerdictValue}
+use Rattle.attribution.specs.declared.verdict.Verdict.TheVariants.{Accepted, Journal, Certificate, Rule, Unsent, Differs, Circular, EmptyInterval, PastEnd, PieceGap, PieceGrant, BeforeOpen, PieceRelease, Uncovered, Reason}
+use Rattle.auditor.specs.Texts.{IsVerdictOfParsed, TextsAreTrueInEveryRun, AcceptedTextsAreTrue}
+use Rattle.pair_ruling.specs.declared.ruling.Ruling.{Ruling}
+use Rattle.pair_ruling.specs.declared.ruling.Ruling.TheVariants.{Verdict, Clocks}
+use Rattle.pair_ruling.specs.Ruling.{verdict_status, status_of}
+use Rattle.attribution_desk.specs.declared.error.DeskError.{DeskError}
+use Rattle.attribution_desk.specs.Rulings.{IsRulingOfParsed}
+use Rattle.attribution_desk.specs.Answer.{first_text, text_behind, IsAnswer}
+use Rattle.attribution_desk.specs.Batch.{AreTexts, AreRuled, status_of_all, IsBatch}
+use Rattle.attribution_desk.specs.Running.{IsWritten}
+use Rattle.attribution_desk.specs.Headline.{IsTrueInEveryRun, AreTrueInEveryRun}
+
+-- ---- status 0 is that the certificate is accepted
+
+accepts : (v : VerdictValue) → verdict_status v ≡ 0 → v ≡ Accepted
+accepts Accepted e = refl
+accepts (Journal side fault) e = absurd (omega (arith, e))
+accepts (Certificate fault) e = absurd (omega (arith, e))
+accepts (Rule side line rule) e = absurd (omega (arith, e))
+accepts (Unsent r) e = absurd (omega (arith, e))
+accepts (Differs r) e = absurd (omega (arith, e))
+accepts Circular e = absurd (omega (arith, e))
+accepts EmptyInterval e = absurd (omega (arith, e))
+accepts (PastEnd side) e = absurd (omega (arith, e))
+accepts (PieceGap n) e = absurd (omega (arith, e))
+accepts (PieceGrant n) e = absurd (omega (arith, e))
+accepts BeforeOpen e = absurd (omega (arith, e))
+accepts (PieceRelease n r) e = absurd (omega (arith, e))
+accepts (Uncovered r) e = absurd (omega (arith, e))
+accepts (Reason r) e = absurd (omega (arith, e))
+
+-- all have status 0 where the first has, and the rest
+all_by : (v : VerdictValue) (rest : ℕ) → (if verdict_status v == 0 then rest else 1) ≡ 0 → (verdict_status v ≡ 0) × (rest ≡ 0)
+all_by Accepted rest e = (refl, e)
+all_by (Journal side fault) rest e = absurd (omega (arith, e))
+all_by (Certificate fault) rest e = absurd (omega (arith, e))
+all_by (Rule side line rule) rest e = absurd (omega (arith, e))
+all_by (Unsent r) rest e = absurd (omega (arith, e))
+all_by (Differs r) rest e = absurd (omega (arith, e))
+all_by Circular rest e = absurd (omega (arith, e))
+all_by EmptyInterval rest e = absurd (omega (arith, e))
+all_by (PastEnd side) rest e = absurd (omega (arith, e))
+all_by (PieceGap n) rest e = absurd (omega (arith, e))
+all_by (PieceGrant n) rest e = absurd (omega (arith, e))
+all_by BeforeOpen rest e = absurd (omega (arith, e))
+all_by (PieceRelease n r) rest e = absurd (omega (arith, e))
+all_by (Uncovered r) rest e = absurd (omega (arith, e))
+all_by (Reason r) rest e = absurd (omega (arith, e))
+
+first_and_rest : (r : Ruling) (rest : ℕ) → (if status_of r == 0 then rest else 1) ≡ 0 → (status_of r ≡ 0) × (rest ≡ 0)
+first_and_rest (Verdict v) rest e = all_by v rest e
+first_and_rest (Clocks take) rest e = absurd (omega (arith, e))
+
+-- what is ruled as accepted has that verdict
+ruled_parsed : (a b : Result Lines JournalFault) (skew transit : ℕ) (claim : Result Claim CertificateFault)
+    → IsRulingOfParsed a b skew transit claim (Verdict Accepted) → IsVerdictOfParsed a b skew transit claim Accepted
+ruled_parsed (Ok a) (Ok b) skew transit (Ok claim) (inl out) = inl out
+ruled_parsed (Ok a) (Ok b) skew transit (Ok claim) (inr (fit, judged)) = inr (fit.0, judged)
+ruled_parsed (Ok a) (Ok b) skew transit (Err fault) h = absurd (cc)
+ruled_parsed (Ok a) (Err fault) skew transit claim h = absurd (cc)
+ruled_parsed (Err fault) b skew transit claim h = absurd (cc)
+
+accepted_ruling : (a b : Result Lines JournalFault) (skew transit : ℕ) (claim : Result Claim CertificateFault) (r : Ruling)
+    → IsRulingOfParsed a b skew transit claim r → status_of r ≡ 0 → IsVerdictOfParsed a b skew transit claim Accepted
+accepted_ruling a b skew transit claim (Verdict v) h none =
+    ruled_parsed a b skew transit claim (subst (λ (x : VerdictValue). IsRulingOfParsed a b skew transit claim (Verdict x)) (accepts v none) h)
+accepted_ruling a b skew transit claim (Clocks take) h none = absurd (omega (arith, none))
+
+module _ (law : AcceptedTextsAreTrue) where
+  ruled_true : (a b text : List ℕ) (skew transit : ℕ) (r : Ruling)
+      → IsRulingOfParsed (journal_of_side Primary a) (journal_of_side Secondary b) skew transit (certificate_of text) r → status_of r ≡ 0
+      → TextsAreTrueInEveryRun a b text skew transit
+  ruled_true a b text skew transit r h none =
+      law a b text skew transit (accepted_ruling (journal_of_side Primary a) (journal_of_side Secondary b) skew transit (certificate_of text) r h none)
+
+  -- one certificate
+  pub answer_true : (input line : List ℕ) (skew transit status : ℕ) → IsAnswer input skew transit line status → status ≡ 0 → IsTrueInEveryRun input skew transit
+  answer_true input line skew transit status h none =
+      ruled_true (first_text input) (first_text (text_behind input)) (text_behind (text_behind input)) skew transit h.0 h.1 (sym h.3 ∙ none)
+
+  -- each of many
+  all_true : (a b : List ℕ) (skew transit : ℕ) (texts : List (List ℕ)) (rs : List Ruling)
+      → AreRuled (journal_of_side Primary a) (journal_of_side Secondary b) skew transit texts rs → status_of_all rs ≡ 0
+      → All (λ text. TextsAreTrueInEveryRun a b text skew transit) texts
+  all_true a b skew transit [] [] h none = All-nil (λ text. TextsAreTrueInEveryRun a b text skew transit)
+  all_true a b skew transit (text ∷ texts) (r ∷ rs) h none =
+      let both = first_and_rest r (status_of_all rs) none in
+      All-cons (λ x. TextsAreTrueInEveryRun a b x skew transit) text texts (ruled_true a b text skew transit r h.0 both.0) (all_true a b skew transit texts rs h.1 both.1)
+  all_true a b skew transit [] (r ∷ rs) h none = absurd h
+  all_true a b skew transit (text ∷ texts) [] h none = absurd h
+
+  pub batch_true : (input text : List ℕ) (skew transit status : ℕ) → IsBatch input skew transit text status → status ≡ 0 → AreTrueInEveryRun input skew transit
+  batch_true input text skew transit status h none =
+      let verdicts = h.1 in
+      (verdicts.0, verdicts.1, all_true (first_text input) (first_text (text_behind input)) skew transit verdicts.0 h.0 verdicts.2 (sym h.3 ∙ none))
+
+-- ---- of what was written where it is known what the reader had to give
+
+pub true_of_written : (answers : List ℕ → List ℕ → ℕ → Type 0) (says : List ℕ → Type 0) → ((input text : List ℕ) (status : ℕ) → answers input text status → status ≡ 0 → says input)
+    → (given held now : Option (List ℕ)) (r : Result ℕ DeskError) → IfOk r (IsWritten answers given held now) → IfOk r (λ status. status ≡ 0 → IfSome given says)
+true_of_written answers says by None held now (Ok status) h = λ none. tt
+true_of_written answers says by (Some input) held now (Ok status) h = λ none. by input h.0 status h.1 none
+true_of_written answers says by given held now (Err e) h = tt

@@ -1,0 +1,41 @@
+-- What the desk rules on three texts: the definition of the verdict, with K1 behind what refuses the two journals and
+-- before what is asked of the certificate.
+use Rattle.std.specs.Prelude.{◌≡◌, ◌⊎◌, ℕ, Result, Ok, Err}
+use Rattle.binding_rules.specs.declared.role.Role.TheVariants.{Primary, Secondary}
+use Rattle.journal_lines.specs.declared.line.Journal.{Journal as Lines}
+use Rattle.journal_lines.specs.declared.fault.JournalFault.{JournalFault}
+use Rattle.causal_order.specs.Journals.{Journals, journals_of}
+use Rattle.claims.specs.declared.certificate.Certificate.{Certificate as Claim}
+use Rattle.claims.specs.declared.fault.CertificateFault.{CertificateFault}
+use Rattle.attribution.specs.declared.verdict.Verdict.TheVariants.{Journal, Certificate}
+use Rattle.attribution.specs.FirstRefusal.{IsVerdict}
+use Rattle.pair_ruling.specs.declared.ruling.Ruling.{Ruling}
+use Rattle.pair_ruling.specs.declared.ruling.Ruling.TheVariants.{Verdict, Clocks}
+use Rattle.pair_ruling.specs.Ruled.{IsRuledOut, IsFit}
+
+-- the verdict on the certificate
+abbrev pub IsJudged : Journals → (skew transit : ℕ) → Claim → Ruling → Type 0
+IsJudged js skew transit claim (Verdict v) = IsVerdict js skew transit claim v
+IsJudged js skew transit claim (Clocks take) = ⊥
+
+-- what stands against both journals, and then the certificate over them
+abbrev pub IsRulingOfJournals : Lines → Lines → (skew transit : ℕ) → Claim → Ruling → Type 0
+IsRulingOfJournals a b skew transit claim r =
+    IsRuledOut a b skew r ⊎ (IsFit a b skew × IsJudged (journals_of a b) skew transit claim r)
+
+-- the faults of the certificate's text before those
+abbrev pub IsRulingOfClaim : Lines → Lines → (skew transit : ℕ) → Result Claim CertificateFault → Ruling → Type 0
+IsRulingOfClaim a b skew transit (Ok claim) r = IsRulingOfJournals a b skew transit claim r
+IsRulingOfClaim a b skew transit (Err fault) r = r ≡ Verdict (Certificate fault)
+
+-- the faults of B's text before those of the certificate's
+abbrev pub IsRulingBehindA : Lines → Result Lines JournalFault → (skew transit : ℕ) → Result Claim CertificateFault
+    → Ruling → Type 0
+IsRulingBehindA a (Ok b) skew transit claim r = IsRulingOfClaim a b skew transit claim r
+IsRulingBehindA a (Err fault) skew transit claim r = r ≡ Verdict (Journal Secondary fault)
+
+-- the faults of A's text first
+abbrev pub IsRulingOfParsed : Result Lines JournalFault → Result Lines JournalFault → (skew transit : ℕ)
+    → Result Claim CertificateFault → Ruling → Type 0
+IsRulingOfParsed (Ok a) b skew transit claim r = IsRulingBehindA a b skew transit claim r
+IsRulingOfParsed (Err fault) b skew transit claim r = r ≡ Verdict (Journal Primary fault)

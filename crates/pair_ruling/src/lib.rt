@@ -1,0 +1,23 @@
+//! What the desk rules on two journals before it looks at a certificate.
+//!
+//! `rule_pair` asks what `check_pair` of `auditor` asks, and then whether clocks within the stated skew can have written
+//! the two journals at all (K1): where a take reads more than twice the skew below its send, no run leaves them, and an
+//! answer over them would say nothing. A [`Ruling`] is a verdict or that refusal. `clock_pair` tells the least skew with
+//! which the two could have been written. specs/Ruled and specs/Clocked say what is ruled and told, specs/Ruling how a
+//! ruling is spelled.
+//!
+//! ```text
+//! let merged = match rule_pair(alloc, &journal_a, &journal_b, skew)? {
+//!     Ruled::Fit(merged) => merged,
+//!     Ruled::Refused(ruling) => return ruling_line(alloc, &ruling), // refused K1 Clocks B3
+//! };
+//! ```
+#![tactic(auto)]
+
+mod clocks;
+mod pair;
+mod ruling;
+
+pub use clocks::{Clocked, clock_pair, least_text};
+pub use pair::{Ruled, rule_pair};
+pub use ruling::{Ruling, ruling_line, rulings, status_of};

@@ -1,0 +1,44 @@
+//! Whether two journals fit each other and the clocks.
+
+ghost use Rattle.std.specs.Prelude.{IfOk};
+ghost use Rattle.pair_ruling.specs.Ruled.{IsRuled};
+
+use crate::ruling::Ruling;
+use attribution::early_by_first_send;
+use auditor::{AuditError, Checked, check_pair, unbroken_is_short};
+use journal_lines::Journal;
+use journal_merge::{Merged, first_early};
+use lead_time::Skew;
+use std::alloc::Global;
+
+/// What two journals come to, whatever is claimed over them.
+#[derive(Debug, Drop)]
+pub enum Ruled {
+    /// Both keep the rules and some run with clocks within the skew leaves them: their lines in one order.
+    Fit(Merged),
+    /// The first refusal that applies: L1 of A, L1 of B, X1, X2, X3, K1.
+    Refused(Ruling),
+}
+
+/// Rules on the primary's journal and the secondary's: what `check_pair` refuses, then the least take that is early at
+/// this skew; else their lines in one order. `Memory` where a growth was refused.
+pub fn rule_pair(
+    alloc: Global,
+    primary: &Journal,
+    secondary: &Journal,
+    skew: Skew,
+) -> Result<Ruled, AuditError>
+    ensures { IfOk result (IsRuled primary.now secondary.now skew) }
+{
+    unbroken_is_short();
+    early_by_first_send();
+    let merged = match check_pair(alloc, primary, secondary)? {
+        Checked::Legal(merged) => merged,
+        Checked::Refused(verdict) => return Ok(Ruled::Refused(Ruling::Verdict(verdict))),
+    };
+    match first_early(alloc, primary, secondary, skew) {
+        Ok(None) => Ok(Ruled::Fit(merged)),
+        Ok(Some(take)) => Ok(Ruled::Refused(Ruling::Clocks(take))),
+        Err(_) => Err(AuditError::Memory),
+    }
+}

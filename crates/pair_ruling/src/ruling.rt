@@ -1,0 +1,70 @@
+//! Rulings and their lines.
+
+ghost use Rattle.std.specs.Prelude.{◌≡◌, ◌++◌, OnOk, IfOk, map};
+ghost use Rattle.pair_ruling.specs.Ruling.{ruling_text, ruling_line, verdict_status, status_of};
+ghost use Rattle.pair_ruling.specs.declared.ruling.Ruling.TheVariants.{Verdict as VerdictRuling};
+
+use attribution::{Verdict, push_place, verdict_line};
+use causal_order::Ref;
+use std::alloc::{AllocError, Global};
+
+/// What the desk rules on a certificate over two journals.
+#[derive(Clone, Copy, Debug, PartialEq, Eq)]
+pub enum Ruling {
+    /// The verdict of the audit.
+    Verdict(Verdict),
+    /// K1: no clocks within the skew can have written the two journals. The least take that reads more than twice the
+    /// skew below its send, A's before B's.
+    Clocks(Ref),
+}
+
+/// `refused K1 Clocks B3` and a line feed.
+fn clocks_line(alloc: Global, take: Ref) -> Result<Vec<u8>, AllocError>
+    ensures { IfOk result (λ line. line.items ≡ ruling_line (Ruling.Clocks take)) }
+{
+    let mut line = Vec::new(alloc);
+    line.extend_from_slice(b"refused K1 Clocks ")?;
+    push_place(&mut line, take.side, take.number)?;
+    line.push(b'\n')?;
+    Ok(line)
+}
+
+/// The line that says the ruling, with its line feed. `AllocError` where a growth was refused.
+pub fn ruling_line(alloc: Global, ruling: &Ruling) -> Result<Vec<u8>, AllocError>
+    ensures { IfOk result (λ line. line.items ≡ ruling_line ruling.now) }
+{
+    match ruling {
+        Ruling::Verdict(verdict) => verdict_line(alloc, verdict),
+        Ruling::Clocks(take) => clocks_line(alloc, *take),
+    }
+}
+
+fn verdict_status(verdict: &Verdict) -> u8
+    ensures { result ≡ verdict_status verdict.now }
+{
+    match verdict {
+        Verdict::Accepted => 0,
+        _ => 1,
+    }
+}
+
+/// 0 where the certificate is accepted, else 1.
+pub fn status_of(ruling: &Ruling) -> u8
+    ensures { result ≡ status_of ruling.now }
+{
+    match ruling {
+        Ruling::Verdict(verdict) => verdict_status(verdict),
+        Ruling::Clocks(_) => 1,
+    }
+}
+
+/// Each verdict as a ruling, in order. `AllocError` where a growth was refused.
+pub fn rulings(alloc: Global, verdicts: &[Verdict]) -> Result<Vec<Ruling>, AllocError>
+    ensures { IfOk result (λ rulings. rulings.items ≡ map VerdictRuling verdicts.now) }
+{
+    let mut rulings = Vec::new(alloc);
+    for verdict in verdicts {
+        rulings.push(Ruling::Verdict(*verdict))?;
+    }
+    Ok(rulings)
+}
