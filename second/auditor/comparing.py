@@ -4,7 +4,7 @@ import random
 import subprocess
 from typing import NamedTuple
 
-from . import clock_edges, edges, limits
+from . import clock_edges, edges, limits, settings_edges
 from .desk import Evidence, answer, cut
 from .certificates import read_certificate
 from .changing import changed_certificate, changed_lines, changed_text, changed_words
@@ -166,14 +166,15 @@ def compare(desk, question):
     """The verdicts that were met, and the differences."""
     if question.words[0] == "find":
         return compare_query(desk, question)
-    written, status = answer(question.words, question.text)
+    written, warned, status = answer(question.words, question.text)
     lines = written.splitlines()
     check_holders(question, lines)
     seen, complaint, ended = desk_answer(desk, question)
-    met = kinds_of(question.words[0], lines, status)
-    if (seen, complaint, ended) == (written, "", status):
+    met = kinds_of(question.words[0], lines, status) + kinds_warned(warned)
+    if (seen, complaint, ended) == (written, warned, status):
         return met, []
-    whole = Difference(question.words, question.text, f"{written}status {status}", f"{seen}{complaint}status {ended}")
+    mine, its = f"{written}{warned}status {status}", f"{seen}{complaint}status {ended}"
+    whole = Difference(question.words, question.text, mine, its)
     if question.words[0] != "batch" or len(seen.splitlines()) != len(lines):
         return met, [whole]
     return met, differing(question, lines, seen.splitlines()) or [whole]
@@ -183,11 +184,15 @@ def compare_query(desk, question):
     """The same of a query, whose answer need not be the second auditor's own."""
     written, complaint, status = desk_answer(desk, question)
     values = dict(zip(question.words[1::2], question.words[2::2]))
-    kind, fault = judged(question, written, int(values["--skew-ms"]), int(values.get("--transit-ms", 0)))
-    wanted = int(written.startswith(("none", "refused")))
-    if not fault and (complaint, status) == ("", wanted):
-        return [kind], []
-    return [kind], [Difference(question.words, question.text, fault, f"{written}{complaint}status {status}")]
+    skew, transit = int(values["--skew-ms"]), int(values.get("--transit-ms", 0))
+    evidence = Evidence(*cut(question.text))
+    kind, fault = judged(evidence, question, written, skew, transit)
+    warned, wanted = evidence.warned(skew, transit), int(written.startswith(("none", "refused")))
+    met = [kind, *kinds_warned(warned)]
+    if not fault and (complaint, status) == (warned, wanted):
+        return met, []
+    fault = fault or f"{warned}status {wanted}"
+    return met, [Difference(question.words, question.text, fault, f"{written}{complaint}status {status}")]
 
 
 def check_holders(question, lines):
@@ -208,6 +213,11 @@ def differing(question, lines, seen):
         if mine != its:
             found.append(Difference(words, journals + certificate, mine, its))
     return found
+
+
+def kinds_warned(warned):
+    """The kinds of these lines of warning."""
+    return [line.partition(":")[0] for line in warned.splitlines()]
 
 
 def kinds_of(command, lines, status):
@@ -249,6 +259,15 @@ def at_limits():
         for skew in skews:
             yield Question(["batch", "--skew-ms", str(skew), "--workers", "1"], text + b"".join(clock_edges.CERTIFICATES))
             yield Question(words_of_query(read_certificate(clock_edges.PLAIN), skew, 0), text)
+        yield from (Question([command], text) for command in ("clocks", "timeline"))
+    for journals in settings_edges.inputs():
+        text = b"".join(journals)
+        for skew, transit in settings_edges.ASKED:
+            asked = ["--skew-ms", str(skew), "--transit-ms", str(transit)]
+            yield Question(["audit", *asked], text)
+            for certificates in (b"", settings_edges.CERTIFICATE):
+                yield Question(["batch", *asked, "--workers", "1"], text + certificates)
+            yield Question(words_of_query(read_certificate(settings_edges.CERTIFICATE), skew, transit), text)
         yield from (Question([command], text) for command in ("clocks", "timeline"))
 
 

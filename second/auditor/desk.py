@@ -1,5 +1,6 @@
 """Answers as the desk does: `audit`, `batch`, `timeline` and `clocks`."""
 import sys
+from typing import NamedTuple
 
 from .auditing import audit
 from .certificates import read_certificate
@@ -7,6 +8,7 @@ from .clocks import farthest, least_skew, refusal_of, takes_behind
 from .journals import MOST_TRANSIT, read_journal
 from .merging import Pair, merged
 from .rules import MOST_SKEW, book_of
+from .settings import warnings_of
 from .words import Malformed, Refused, number_of
 
 MOST_WORKERS = 64
@@ -26,6 +28,14 @@ COMMANDS = {
 
 class Usage(Exception):
     """Command words that say nothing."""
+
+
+class Answer(NamedTuple):
+    """What the program writes to standard output and to standard error, and its status."""
+
+    written: str
+    warned: str
+    status: int
 
 
 def end_of_text(text):
@@ -73,6 +83,11 @@ class Evidence:
         """What is refused of the two journals, whatever the certificate, None where nothing is."""
         return self.before or self.after or refusal_of(self.behind, skew)
 
+    def warned(self, skew, transit):
+        """The lines of warning, where both texts are journals."""
+        warnings = warnings_of(self.pair.journals.values(), skew, transit) if self.pair else ()
+        return "".join(f"{line}\n" for line in warnings)
+
     def verdict(self, text, skew, transit):
         """The verdict line of a certificate's text, without its line feed."""
         try:
@@ -90,7 +105,8 @@ class Evidence:
 def audited(text, skew, transit):
     first, rest = cut(text)
     second, certificate = cut(rest)
-    return Evidence(first, second).verdict(certificate, skew, transit) + "\n"
+    evidence = Evidence(first, second)
+    return evidence.verdict(certificate, skew, transit) + "\n", evidence.warned(skew, transit)
 
 
 def batched(text, skew, transit):
@@ -101,7 +117,7 @@ def batched(text, skew, transit):
     while rest:
         certificate, rest = cut(rest)
         answers.append(evidence.verdict(certificate, skew, transit) + "\n")
-    return "".join(answers)
+    return "".join(answers), evidence.warned(skew, transit)
 
 
 def timeline(text):
@@ -150,27 +166,29 @@ def options_of(words, names):
 
 
 def answer(words, text):
-    """What the program writes for these command words and this input, and its status."""
+    """What the program answers to these command words and this input."""
     if not words or words[0] not in COMMANDS:
         raise Usage
     values = options_of(words[1:], COMMANDS[words[0]])
     skew, transit = values.get("--skew-ms"), values.get("--transit-ms", 0)
+    warned = ""
     if words[0] == "audit":
-        written = audited(text, skew, transit)
+        written, warned = audited(text, skew, transit)
     elif words[0] == "batch":
-        written = batched(text, skew, transit)
+        written, warned = batched(text, skew, transit)
     elif words[0] == "timeline":
         written = timeline(text)
     else:
         written = clocks(text)
-    return written, int("refused" in written)
+    return Answer(written, warned, int("refused" in written))
 
 
 def main():
     try:
-        written, status = answer(sys.argv[1:], sys.stdin.buffer.read())
+        given = answer(sys.argv[1:], sys.stdin.buffer.read())
     except Usage:
         sys.stderr.write("fault Usage\n")
         return 2
-    sys.stdout.write(written)
-    return status
+    sys.stderr.write(given.warned)
+    sys.stdout.write(given.written)
+    return given.status

@@ -1,6 +1,6 @@
 """Changes of the journals of an honest run, most of which leave well-formed journals that are nearly legal."""
 from .changing import near, prefix_near
-from .journals import MOST_VOLUME, Base, Carry, Close, Pending, Pool, Send, Take, Transit, UnitLine, line_of
+from .journals import MOST_VOLUME, Base, Carry, Close, Open, Pending, Pool, Send, Take, Transit, UnitLine, line_of
 from .running import CLIENTS, DAY, HOUR, KINDS, Entry, Server
 from .words import Malformed, Prefix, other_side
 from .writing import event_words, journal_text
@@ -132,6 +132,15 @@ def with_other_reading(rng, texts, side):
         entries[where] = Entry(max(0, entries[where].reading + moved), entries[where].event)
 
 
+def with_other_setting(rng, texts, side):
+    """A field of one of the lines that tell a server's settings."""
+    entries = texts.entries[side]
+    places = [place for place, (_, event) in enumerate(entries) if isinstance(event, (Open, Pool, Transit))]
+    if places:
+        place = rng.choice(places)
+        entries[place] = Entry(entries[place].reading, changed_event(rng, texts.run, entries[place].event))
+
+
 def without_line(rng, texts, side):
     entries = texts.entries[side]
     del entries[rng.randrange(len(entries))]
@@ -180,6 +189,7 @@ WAYS = {
     inserted: 10,
     with_other_field: 6,
     with_other_reading: 3,
+    with_other_setting: 0.7,
     without_line: 2,
     with_line_twice: 1,
     with_lines_swapped: 2,

@@ -1,5 +1,4 @@
 """What the desk finds: certificates that the second auditor must accept."""
-from .desk import Evidence, cut
 from .certificates import Before, ByChain, ByClock, Early, Late, read_certificate
 from .words import client_word, prefix_word
 
@@ -40,10 +39,8 @@ def is_plain(certificate):
     )
 
 
-def judged(question, written, skew, transit):
-    """What kind of answer a query got, and what is wrong with it, if anything."""
-    first, second = cut(question.text)
-    evidence = Evidence(first, second)
+def judged(evidence, question, written, skew, transit):
+    """What kind of answer a query of two journals got, and what is wrong with it, if anything."""
     refusal = evidence.refusal(skew)
     if refusal:
         return "find refused", "" if written == f"refused {refusal}\n" else f"refused {refusal}"

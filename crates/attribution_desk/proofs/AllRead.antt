@@ -17,6 +17,11 @@ pub written : (answers : List ℕ → List ℕ → ℕ → Type 0) (given held n
 written answers None held now input text status is answer appended = tt
 written answers (Some all) held now input text status is answer appended = (text, subst (λ i. answers i text status) (sym is) answer, appended)
 
+-- what is so of the input is so of all that the reader had to give, where that is known
+pub of_known : (says : List ℕ → Type 0) (given : Option (List ℕ)) (input : List ℕ) → IfSome given (λ all. all ≡ input) → says input → IfSome given says
+of_known says None input is h = tt
+of_known says (Some all) input is h = subst says (sym is) h
+
 -- the timeline of what the texts of an input are
 pub timeline_of : (input : List ℕ) (a b : Result Journal JournalFault) (text : List ℕ) (status : ℕ) → a ≡ journal_of_side Primary (first_text input) → b ≡ journal_of_side Secondary (text_behind input) → IsTimelineOf a b text status → IsTimeline input text status
 timeline_of input a b text status ea eb h = subst (λ x. IsTimelineOf (journal_of_side Primary (first_text input)) x text status) eb (subst (λ x. IsTimelineOf x b text status) ea h)

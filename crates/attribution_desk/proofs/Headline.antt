@@ -1,5 +1,5 @@
 -- What the desk accepts is true in every run of the pair that leaves the journals.
-use Rattle.std.specs.Prelude.{◌≡◌, ⊤, ℕ, List, [], ◌∷◌, All, Option, Some, None, Result, Ok, Err, IfOk, IfSome, ◌==◌, if◌then◌else◌}
+use Rattle.std.specs.Prelude.{◌≡◌, ℕ, List, [], ◌∷◌, All, Option, Some, None, Result, Ok, Err, IfOk, IfSome, ◌==◌, if◌then◌else◌}
 use Rattle.std.proofs.lemmas.List.Elements.{All-nil, All-cons}
 use Rattle.std.proofs.Common.{arith, inl, inr, subst, sym, refl, ◌∙◌}
 use Rattle.binding_rules.specs.declared.role.Role.TheVariants.{Primary, Secondary}
@@ -13,12 +13,13 @@ use Rattle.attribution.specs.declared.verdict.Verdict.{Verdict as VerdictValue}
 use Rattle.attribution.specs.declared.verdict.Verdict.TheVariants.{Accepted, Journal, Certificate, Rule, Unsent, Differs, Circular, EmptyInterval, PastEnd, PieceGap, PieceGrant, BeforeOpen, PieceRelease, Uncovered, Reason}
 use Rattle.auditor.specs.Texts.{IsVerdictOfParsed, TextsAreTrueInEveryRun, AcceptedTextsAreTrue}
 use Rattle.pair_ruling.specs.declared.ruling.Ruling.{Ruling}
-use Rattle.pair_ruling.specs.declared.ruling.Ruling.TheVariants.{Verdict, Clocks}
+use Rattle.pair_ruling.specs.declared.ruling.Ruling.TheVariants.{Verdict, Clocks, Pair, Skew}
 use Rattle.pair_ruling.specs.Ruling.{verdict_status, status_of}
 use Rattle.attribution_desk.specs.declared.error.DeskError.{DeskError}
+use Rattle.attribution_desk.specs.declared.outcome.Outcome.{Outcome}
 use Rattle.attribution_desk.specs.Rulings.{IsRulingOfParsed}
 use Rattle.attribution_desk.specs.Answer.{first_text, text_behind, IsAnswer}
-use Rattle.attribution_desk.specs.Batch.{AreTexts, AreRuled, status_of_all, IsBatch}
+use Rattle.attribution_desk.specs.Batch.{AreRuled, status_of_all, IsBatch}
 use Rattle.attribution_desk.specs.Running.{IsWritten}
 use Rattle.attribution_desk.specs.Headline.{IsTrueInEveryRun, AreTrueInEveryRun}
 
@@ -62,6 +63,8 @@ all_by (Reason r) rest e = absurd (omega (arith, e))
 first_and_rest : (r : Ruling) (rest : ℕ) → (if status_of r == 0 then rest else 1) ≡ 0 → (status_of r ≡ 0) × (rest ≡ 0)
 first_and_rest (Verdict v) rest e = all_by v rest e
 first_and_rest (Clocks take) rest e = absurd (omega (arith, e))
+first_and_rest Pair rest e = absurd (omega (arith, e))
+first_and_rest Skew rest e = absurd (omega (arith, e))
 
 -- what is ruled as accepted has that verdict
 ruled_parsed : (a b : Result Lines JournalFault) (skew transit : ℕ) (claim : Result Claim CertificateFault)
@@ -77,6 +80,8 @@ accepted_ruling : (a b : Result Lines JournalFault) (skew transit : ℕ) (claim 
 accepted_ruling a b skew transit claim (Verdict v) h none =
     ruled_parsed a b skew transit claim (subst (λ (x : VerdictValue). IsRulingOfParsed a b skew transit claim (Verdict x)) (accepts v none) h)
 accepted_ruling a b skew transit claim (Clocks take) h none = absurd (omega (arith, none))
+accepted_ruling a b skew transit claim Pair h none = absurd (omega (arith, none))
+accepted_ruling a b skew transit claim Skew h none = absurd (omega (arith, none))
 
 module _ (law : AcceptedTextsAreTrue) where
   ruled_true : (a b text : List ℕ) (skew transit : ℕ) (r : Ruling)
@@ -109,7 +114,7 @@ module _ (law : AcceptedTextsAreTrue) where
 -- ---- of what was written where it is known what the reader had to give
 
 pub true_of_written : (answers : List ℕ → List ℕ → ℕ → Type 0) (says : List ℕ → Type 0) → ((input text : List ℕ) (status : ℕ) → answers input text status → status ≡ 0 → says input)
-    → (given held now : Option (List ℕ)) (r : Result ℕ DeskError) → IfOk r (IsWritten answers given held now) → IfOk r (λ status. status ≡ 0 → IfSome given says)
-true_of_written answers says by None held now (Ok status) h = λ none. tt
-true_of_written answers says by (Some input) held now (Ok status) h = λ none. by input h.0 status h.1 none
+    → (given held now : Option (List ℕ)) (r : Result Outcome DeskError) → IfOk r (λ outcome. IsWritten answers given held now outcome.status) → IfOk r (λ outcome. outcome.status ≡ 0 → IfSome given says)
+true_of_written answers says by None held now (Ok outcome) h = λ none. tt
+true_of_written answers says by (Some input) held now (Ok outcome) h = λ none. by input h.0 outcome.status h.1 none
 true_of_written answers says by given held now (Err e) h = tt

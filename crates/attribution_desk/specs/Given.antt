@@ -1,5 +1,5 @@
 -- The command that the words of a command line give, as clap reads them.
-use Rattle.std.specs.Prelude.{◌≡◌, ℕ, ◌<◌, ◌≤◌, ◌⊎◌, ◌++◌, List, Option, Some, None, codes}
+use Rattle.std.specs.Prelude.{◌≡◌, ◌≢◌, ℕ, ◌<◌, ◌≤◌, ◌⊎◌, ◌++◌, List, Option, Some, None, codes}
 use Rattle.std.specs.Fmt.{decimal}
 use Rattle.clap.specs.Words.{Row, Text, first_of}
 use Rattle.text_fields.specs.Octets.{hex}
@@ -9,6 +9,8 @@ use Rattle.prefix_range.specs.Spelling.{Spells}
 use Rattle.evidence_search.specs.declared.query.Query.{Query}
 use Rattle.evidence_search.specs.declared.query.HolderQuery.{HolderQuery}
 use Rattle.time_text.specs.Time.{IsTimeOf}
+use Rattle.attribution_desk.specs.declared.settings.Settings.{Settings}
+use Rattle.attribution_desk.specs.declared.settings.Settings.TheVariants.{MustAgree, MayDiffer}
 use Rattle.attribution_desk.specs.declared.command.Command.{Command}
 use Rattle.attribution_desk.specs.declared.command.Command.TheVariants.{Audit, Batch, Timeline, Clocks, Find, Who}
 
@@ -74,6 +76,11 @@ pub record IsHolderQuery (rows : List Row) (q : HolderQuery) : Type 0 where
   pub prefix : IsBlockText (first_of (codes "prefix") rows) q.prefix
   pub at : IsWhen (first_of (codes "at") rows) q.at
 
+-- `--settings-differ` stands among the words
+abbrev pub IsSettings : Option Text → Settings → Type 0
+IsSettings text MayDiffer = text ≡ Some (codes "true")
+IsSettings text MustAgree = text ≢ Some (codes "true")
+
 -- the subcommand that clap finds in the words and the values of its options are those of the command
 abbrev pub IsGiven : Option (Text × List Row) → Command → Type 0
 IsGiven None command = ⊥
@@ -87,7 +94,9 @@ IsGiven (Some found) (Batch skew transit workers) =
 IsGiven (Some found) Timeline = found.0 ≡ codes "timeline"
 IsGiven (Some found) Clocks = found.0 ≡ codes "clocks"
 IsGiven (Some found) (Find query) = (found.0 ≡ codes "find") × IsQuery found.1 query
-IsGiven (Some found) (Who query) = (found.0 ≡ codes "who") × IsHolderQuery found.1 query
+IsGiven (Some found) (Who query settings) =
+    (found.0 ≡ codes "who") × IsHolderQuery found.1 query
+    × IsSettings (first_of (codes "settings-differ") found.1) settings
 
 -- they are those of no command
 abbrev pub IsNoCommand : Option (Text × List Row) → Type 0

@@ -7,9 +7,11 @@ pub mod Batch
 pub mod Timeline
 pub mod Running
 pub mod Headline
+pub mod Warnings
 pub mod Intake
 pub mod Telling
 pub mod Claims
 pub mod Find
 pub mod Clocks
 pub mod Who
+pub mod Searching

@@ -10,13 +10,13 @@ use Rattle.claims.specs.declared.fault.CertificateFault.{CertificateFault}
 use Rattle.attribution.specs.declared.verdict.Verdict.TheVariants.{Journal, Certificate}
 use Rattle.attribution.specs.FirstRefusal.{IsVerdict}
 use Rattle.pair_ruling.specs.declared.ruling.Ruling.{Ruling}
-use Rattle.pair_ruling.specs.declared.ruling.Ruling.TheVariants.{Verdict, Clocks}
+use Rattle.pair_ruling.specs.declared.ruling.Ruling.TheVariants.{Verdict}
 use Rattle.pair_ruling.specs.Ruled.{IsRuledOut, IsFit}
 
 -- the verdict on the certificate
 abbrev pub IsJudged : Journals → (skew transit : ℕ) → Claim → Ruling → Type 0
 IsJudged js skew transit claim (Verdict v) = IsVerdict js skew transit claim v
-IsJudged js skew transit claim (Clocks take) = ⊥
+IsJudged js skew transit claim _ = ⊥
 
 -- what stands against both journals, and then the certificate over them
 abbrev pub IsRulingOfJournals : Lines → Lines → (skew transit : ℕ) → Claim → Ruling → Type 0

@@ -7,8 +7,7 @@ use Rattle.attribution_desk.specs.Answer.{IsAnswer}
 use Rattle.attribution_desk.specs.Batch.{IsBatch}
 use Rattle.attribution_desk.specs.Timeline.{IsTimeline}
 use Rattle.attribution_desk.specs.Clocks.{IsClocks}
-use Rattle.attribution_desk.specs.Find.{IsFind}
-use Rattle.attribution_desk.specs.Who.{IsWho}
+use Rattle.attribution_desk.specs.Searching.{IsFind, IsWho}
 
 -- the text and the status with which a command answers this input
 abbrev pub Answers : Command → List ℕ → List ℕ → ℕ → Type 0
@@ -17,7 +16,7 @@ Answers (Batch skew transit workers) input text status = IsBatch input skew tran
 Answers Timeline input text status = IsTimeline input text status
 Answers Clocks input text status = IsClocks input text status
 Answers (Find query) input text status = IsFind input query text status
-Answers (Who query) input text status = IsWho input query text status
+Answers (Who query settings) input text status = IsWho input query settings text status
 
 -- where it is known what the reader had to give, the answer to all of that was written, behind what the writer held
 abbrev pub IsWritten :

@@ -7,9 +7,6 @@ use Rattle.claims.specs.declared.certificate.Certificate.{Certificate}
 use Rattle.certificate.specs.Spelling.{line_text, holder_words, interval_words, certificate_text}
 use Rattle.evidence_search.specs.declared.query.HolderQuery.{HolderQuery}
 use Rattle.evidence_search.specs.Claim.{IsRound, IsAcceptedOf, IsWidest, HasNoPlainHolder}
-use Rattle.attribution_desk.specs.declared.searching.Search.{Search}
-use Rattle.attribution_desk.specs.declared.searching.Search.TheVariants.{Find, Who}
-use Rattle.attribution_desk.specs.Find.{IsFinding, IsSearch}
 
 -- the interval as clocks show its ends
 abbrev pub times_words : (from to : List ℕ) → List (List ℕ)
@@ -45,15 +42,3 @@ pub record IsNoneHeld (js : Journals) (q : HolderQuery) (text : List ℕ) (statu
 
 abbrev pub IsHolding : Journals → HolderQuery → List ℕ → ℕ → Type 0
 IsHolding js q text status = IsHeld js q text status ⊎ IsNoneHeld js q text status
-
-abbrev pub IsWho : List ℕ → HolderQuery → List ℕ → ℕ → Type 0
-IsWho input q text status = IsSearch input q.skew (λ js. IsHolding js q) text status
-
--- for bodies only: the skew of either search, and what it answers
-abbrev pub skew_of : Search → ℕ
-skew_of (Find q) = q.skew
-skew_of (Who q) = q.skew
-
-abbrev pub Answered : Search → Journals → List ℕ → ℕ → Type 0
-Answered (Find q) js text status = IsFinding js q text status
-Answered (Who q) js text status = IsHolding js q text status

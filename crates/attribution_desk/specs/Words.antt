@@ -1,11 +1,15 @@
 -- The command line that clap is told of.
 use Rattle.std.specs.Prelude.{ℕ, List, [], Some, Bool, true, false, codes}
 use Rattle.clap.specs.Words.{App, Rule, new_app, new_rule, with_rule, with_subcommand}
-use Rattle.clap.specs.declared.builder.ArgAction.TheVariants.{Set}
+use Rattle.clap.specs.declared.builder.ArgAction.TheVariants.{Set, SetTrue}
 
 -- an option with a value, which must be given where it is required
 abbrev pub option_rule : List ℕ → Bool → Rule
 option_rule name required = record (new_rule name) { long = Some name; required = required; action = Some Set }
+
+-- an option without a value
+abbrev pub flag_rule : List ℕ → Rule
+flag_rule name = record (new_rule name) { long = Some name; action = Some SetTrue }
 
 abbrev pub audit_app : App
 audit_app =
@@ -39,10 +43,14 @@ abbrev pub judging_app : App
 judging_app = with_subcommand (with_subcommand bare audit_app.top) batch_app.top
 
 -- which prefix is asked of, and at which moment
+abbrev pub moment_app : App
+moment_app =
+    with_rule (with_rule (with_rule (new_app (codes "who")) (option_rule (codes "skew-ms") true))
+    (option_rule (codes "prefix") true)) (option_rule (codes "at") true)
+
 abbrev pub who_app : App
 who_app =
-    with_rule (with_rule (with_rule (with_rule (new_app (codes "who")) (option_rule (codes "skew-ms") true))
-    (option_rule (codes "prefix") true)) (option_rule (codes "at") true)) (option_rule (codes "transit-ms") false)
+    with_rule (with_rule moment_app (option_rule (codes "transit-ms") false)) (flag_rule (codes "settings-differ"))
 
 abbrev pub searching_app : App
 searching_app = with_subcommand (with_subcommand judging_app find_app.top) who_app.top

@@ -1,16 +1,18 @@
 //! Answering one certificate over two journals.
 
-ghost use Rattle.std.specs.Prelude.{◌≡◌, ◌⊎◌, true, IfOk, IfErr, IsErrOf};
+ghost use Rattle.std.specs.Prelude.{◌≡◌, ◌⊎◌, true, IfOk, IfSome, IfErr, IsErrOf};
 ghost use Rattle.std.specs.Result.{ForOk};
 ghost use Rattle.journal_text.specs.Closed.{IsClosed};
 ghost use Rattle.attribution_desk.specs.Answer.{IsAnswerOf, IsAnswer};
 ghost use Rattle.attribution_desk.specs.Running.{IsWritten};
 ghost use Rattle.attribution_desk.specs.Headline.{IsTrueInEveryRun};
+ghost use Rattle.attribution_desk.specs.Warnings.{IsJudgingWarning};
 
 use crate::answer::Answer;
 use crate::error::DeskError;
 use crate::intake::{Intake, ReadInput};
 use crate::judging::ruling_on_parsed;
+use crate::outcome::{Outcome, warnings_on};
 use crate::taking::{Taking, halvings_for, take_all};
 use crate::watched::Watched;
 use auditor::accepted_texts_are_true;
@@ -73,14 +75,21 @@ pub(crate) fn audit_input<T: Threads + Sync, R: Read, W: Write>(
     transit: Transit,
     reader: &mut Watched<R>,
     writer: &mut Watched<W>,
-) -> Result<u8, DeskError>
-    ensures written { IfOk result (IsWritten (λ input. IsAnswer input skew transit) (R.remaining reader.old.device)
-        (W.contents writer.old.device) (W.contents writer.new.device)) }
+) -> Result<Outcome, DeskError>
+    ensures written { IfOk result (λ outcome. IsWritten (λ input. IsAnswer input skew transit)
+        (R.remaining reader.old.device) (W.contents writer.old.device) (W.contents writer.new.device) outcome.status) }
+    ensures warned { IfOk result (λ outcome. IfSome (R.remaining reader.old.device)
+        (λ input. IsJudgingWarning input skew transit outcome.warnings.items)) }
     ensures read { IsErrOf result DeskError.Read → (reader.new.failed ≡ true) ⊎ (reader.new.turns ≡ 0) }
     ensures write { IsErrOf result DeskError.Write → writer.new.failed ≡ true }
 {
     let intake = take_all(rt, alloc, reader, Intake::new(alloc))?;
-    let answer = answer_to(rt, alloc, intake.finish(), skew, transit)?;
+    let input = intake.finish();
+    let warnings = warnings_on(alloc, &input.primary, &input.secondary, skew, transit)?;
+    let answer = answer_to(rt, alloc, input, skew, transit)?;
     writer.write_out(&answer.line)?;
-    Ok(answer.status)
+    Ok(Outcome {
+        status: answer.status,
+        warnings,
+    })
 }

@@ -5,7 +5,7 @@ ghost use Rattle.std.specs.Prelude.{map, string_bytes};
 ghost use Rattle.clap.specs.Words.{app_of, rule_of, first_of, rows_of, found_of, subcommand_of, subcommand_rows_of};
 ghost use Rattle.clap.specs.Words.{takes, fault_of, kind_of, with_rule};
 ghost use Rattle.clap.specs.declared.builder.command.Command.TheViews.{out-Command};
-ghost use Rattle.attribution_desk.specs.Words.{option_rule, audit_app, batch_app, asking_app, find_app, judging_app};
+ghost use Rattle.attribution_desk.specs.Words.{option_rule, flag_rule, audit_app, batch_app, asking_app, find_app, judging_app};
 ghost use Rattle.attribution_desk.specs.Words.{searching_app, desk};
 ghost use Rattle.attribution_desk.specs.Given.{IsNumber, IsSkew, IsTransit, IsWorkers, IsGiven, IsNoCommand};
 ghost use Rattle.attribution_desk.specs.Given.{IsHolder, IsPrefixText, IsMoment, IsQuery};
@@ -13,6 +13,7 @@ ghost use Rattle.prefix_range.specs.Prefix.{Prefix as PrefixValue};
 ghost use Rattle.evidence_search.specs.declared.query.Query.{Query as QueryValue};
 
 use crate::error::UsageError;
+use crate::settings::{Settings, settings_given};
 use crate::who_words::{holder_query_given, who_command};
 use crate::workers::Workers;
 use clap::error::ErrorKind;
@@ -46,7 +47,7 @@ pub enum Command {
     /// Print a certificate over two journals that shows what is asked.
     Find(Query),
     /// Print which client held a prefix at a moment, when, and a certificate over two journals that shows it.
-    Who(HolderQuery),
+    Who(HolderQuery, Settings),
 }
 
 /// An option with a value.
@@ -72,6 +73,27 @@ pub(crate) fn with_option<'a>(
         → IfOk result (λ c. (out-Command c).has_globals ≡ false) }
 {
     command.arg(value_option(alloc, name, required))
+}
+
+/// An option without a value.
+fn flag_option<'a>(alloc: Global, name: &'a str) -> Arg<'a>
+    ensures rule { rule_of result ≡ flag_rule name.entry.now }
+    ensures local { result.global ≡ false }
+{
+    Arg::new(alloc, name).long(name).action(ArgAction::SetTrue)
+}
+
+/// A command with one option more, which has no value.
+pub(crate) fn with_flag<'a>(
+    alloc: Global,
+    command: ClapCommand<'a>,
+    name: &'a str,
+) -> Result<ClapCommand<'a>, AllocError>
+    ensures app { IfOk result (λ c. app_of c ≡ with_rule (app_of command.entry) (flag_rule name.entry.now)) }
+    ensures local { (out-Command command.entry).has_globals ≡ false
+        → IfOk result (λ c. (out-Command c).has_globals ≡ false) }
+{
+    command.arg(flag_option(alloc, name))
 }
 
 /// `audit --skew-ms N [--transit-ms N]`.
@@ -313,7 +335,7 @@ fn command_found(alloc: Global, matches: &ArgMatches) -> Result<Command, UsageEr
     };
     if name == "who" {
         let query = holder_query_given(alloc, options)?;
-        return Ok(Command::Who(query));
+        return Ok(Command::Who(query, settings_given(options)));
     }
     command_named(name, options).ok_or(UsageError::Usage)
 }

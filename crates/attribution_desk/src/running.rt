@@ -3,12 +3,14 @@
 ghost use Rattle.std.specs.Prelude.{◌≡◌, ◌⊎◌, true, IfOk, IfSome, IsErrOf};
 ghost use Rattle.attribution_desk.specs.Running.{Answers, IsWritten};
 ghost use Rattle.attribution_desk.specs.Headline.{SaysTrue};
+ghost use Rattle.attribution_desk.specs.Warnings.{Warns};
 
 use crate::audit::audit_input;
 use crate::batch::batch_input;
 use crate::clocks::clocks_input;
 use crate::command::Command;
 use crate::error::DeskError;
+use crate::outcome::Outcome;
 use crate::searching::{Search, search_input};
 use crate::timelines::timeline_input;
 use crate::watched::Watched;
@@ -18,20 +20,23 @@ use std::io::{Read, Write};
 use std::sync::Wait;
 use std::thread::Threads;
 
-/// Carries out a command: reads all of the input, writes the answer and gives the status. `Read` where the input fails
-/// or goes on for too long, `Write` where the output fails, `Memory` where a growth was refused.
+/// Carries out a command: reads all of the input, writes the answer, and gives the status and what is to be warned of.
+/// `Read` where the input fails or goes on for too long, `Write` where the output fails, `Memory` where a growth was
+/// refused.
 pub fn run<T: Threads + Wait + Sync, R: Read, W: Write>(
     rt: &T,
     alloc: Global,
     command: &Command,
     reader: &mut Watched<R>,
     writer: &mut Watched<W>,
-) -> Result<u8, DeskError>
-    ensures written { IfOk result (IsWritten (Answers command.now) (R.remaining reader.old.device)
-        (W.contents writer.old.device) (W.contents writer.new.device)) }
+) -> Result<Outcome, DeskError>
+    ensures written { IfOk result (λ outcome. IsWritten (Answers command.now) (R.remaining reader.old.device)
+        (W.contents writer.old.device) (W.contents writer.new.device) outcome.status) }
+    ensures warned { IfOk result (λ outcome. IfSome (R.remaining reader.old.device)
+        (λ input. Warns command.now input outcome.warnings.items)) }
     // Where it is known what the reader had to give, each certificate that status 0 is said of is true in every run of
     // the pair that leaves the journals.
-    ensures headline { IfOk result (λ status. status ≡ 0
+    ensures headline { IfOk result (λ outcome. outcome.status ≡ 0
         → IfSome (R.remaining reader.old.device) (SaysTrue command.now)) }
     // A reader that is well and has turns left isn't blamed, nor is a writer that is well.
     ensures read { IsErrOf result DeskError.Read → (reader.new.failed ≡ true) ⊎ (reader.new.turns ≡ 0) }
@@ -45,9 +50,17 @@ pub fn run<T: Threads + Wait + Sync, R: Read, W: Write>(
             transit,
             workers,
         } => batch_input(rt, alloc, *skew, *transit, *workers, reader, writer),
-        Command::Timeline => timeline_input(rt, alloc, reader, writer),
-        Command::Clocks => clocks_input(rt, alloc, reader, writer),
+        Command::Timeline => {
+            let status = timeline_input(rt, alloc, reader, writer)?;
+            Ok(Outcome::quiet(alloc, status))
+        }
+        Command::Clocks => {
+            let status = clocks_input(rt, alloc, reader, writer)?;
+            Ok(Outcome::quiet(alloc, status))
+        }
         Command::Find(query) => search_input(rt, alloc, &Search::Find(*query), reader, writer),
-        Command::Who(query) => search_input(rt, alloc, &Search::Who(*query), reader, writer),
+        Command::Who(query, settings) => {
+            search_input(rt, alloc, &Search::Who(*query, *settings), reader, writer)
+        }
     }
 }

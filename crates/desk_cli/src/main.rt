@@ -1,6 +1,6 @@
 //! The desk as a program: its words are the command, standard input has the texts, standard output gets the
-//! answer, and the status says whether everything was accepted (0), something was refused (1) or a fault kept
-//! the desk from answering (2).
+//! answer, standard error the warnings, and the status says whether everything was accepted (0), something was refused
+//! (1) or a fault kept the desk from answering (2).
 #![tactic(auto)]
 
 use attribution_desk::{DeskError, UsageError, Watched, command_of, run};
@@ -38,7 +38,12 @@ fn answered(rt: &HostRuntime, threads: &(impl Threads + Wait + Sync)) -> Result<
     let command = command_of(rt.alloc(), &words).map_err(Fault::Usage)?;
     let mut reader = Watched::new(rt.stdin());
     let mut writer = Watched::new(rt.stdout());
-    run(threads, rt.alloc(), &command, &mut reader, &mut writer).map_err(Fault::Desk)
+    let outcome = run(threads, rt.alloc(), &command, &mut reader, &mut writer).map_err(
+        Fault::Desk,
+    )?;
+    // (the answer is written: it stands, whether anybody reads a warning or not)
+    let _ = rt.stderr().write_all(&outcome.warnings);
+    Ok(outcome.status)
 }
 
 fn main(rt: HostRuntime) -> ExitCode {

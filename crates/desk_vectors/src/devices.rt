@@ -47,13 +47,17 @@ fn tells_a_read_that_fails(rt: HostRuntime) -> Result<(), Fail> {
                 fails_at,
             });
             let mut writer = Watched::new(Vec::new(rt.alloc()));
-            let status = run(&rt, rt.alloc(), &command, &mut reader, &mut writer);
+            let outcome = run(&rt, rt.alloc(), &command, &mut reader, &mut writer);
             let wanted = if fails_at <= calls {
                 Err(DeskError::Read)
             } else {
                 Ok(0)
             };
-            assert_eq!(rt; status, wanted, "failing at {fails_at}");
+            assert_eq!(rt;
+                outcome.map(|it| it.status),
+                wanted,
+                "failing at {fails_at}"
+            );
             assert_eq!(rt; reader.has_failed(), fails_at <= calls);
             assert!(rt; !writer.has_failed());
             assert_eq!(rt; writer.into_device().is_empty(), fails_at <= calls);
@@ -102,7 +106,7 @@ fn tells_a_write_that_fails(rt: HostRuntime) -> Result<(), Fail> {
                 fails_at,
                 tells,
             });
-            let status = run(
+            let outcome = run(
                 &rt,
                 rt.alloc(),
                 &Command::Timeline,
@@ -115,7 +119,11 @@ fn tells_a_write_that_fails(rt: HostRuntime) -> Result<(), Fail> {
             } else {
                 Ok(0)
             };
-            assert_eq!(rt; status, wanted, "failing at {fails_at}");
+            assert_eq!(rt;
+                outcome.map(|it| it.status),
+                wanted,
+                "failing at {fails_at}"
+            );
             assert_eq!(rt; writer.has_failed(), fails_at <= calls);
             assert!(rt; !reader.has_failed());
         }

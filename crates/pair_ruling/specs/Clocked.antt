@@ -1,5 +1,5 @@
 -- Which clocks fit two journals: the least skew with which they could have been written, and how it is spelled.
-use Rattle.std.specs.Prelude.{◌≡◌, ◌⊎◌, ℕ, List, [], ◌∷◌, ◌++◌, Option, Some, None, codes}
+use Rattle.std.specs.Prelude.{◌≡◌, ℕ, List, [], ◌∷◌, ◌++◌, Option, Some, None, codes}
 use Rattle.std.specs.Fmt.{decimal}
 use Rattle.journal_lines.specs.declared.line.Journal.{Journal}
 use Rattle.causal_order.specs.Journals.{Journals, journals_of}

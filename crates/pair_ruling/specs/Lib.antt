@@ -1,3 +1,4 @@
 pub mod Ruling
 pub mod Ruled
 pub mod Clocked
+pub mod Ties

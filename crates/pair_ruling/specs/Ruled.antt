@@ -16,6 +16,7 @@ use Rattle.pair_ruling.specs.declared.pair.Ruled.TheVariants.{Fit, Refused}
 abbrev pub IsRuledOut : Journal → Journal → (skew : ℕ) → Ruling → Type 0
 IsRuledOut a b skew (Verdict v) = IsPairRefused a b v
 IsRuledOut a b skew (Clocks take) = IsPairLegal a b × IsLeast (IsEarly (journals_of a b) skew) take
+IsRuledOut a b skew _ = ⊥
 
 -- nothing does: they keep the rules, their lines have an order, and no take is early
 abbrev pub IsFit : Journal → Journal → (skew : ℕ) → Type 0

@@ -1,10 +1,12 @@
 //! What the desk rules on two journals before it looks at a certificate.
 //!
-//! `rule_pair` asks what `check_pair` of `auditor` asks, and then whether clocks within the stated skew can have written
-//! the two journals at all (K1): where a take reads more than twice the skew below its send, no run leaves them, and an
-//! answer over them would say nothing. A [`Ruling`] is a verdict or that refusal. `clock_pair` tells the least skew with
-//! which the two could have been written. specs/Ruled and specs/Clocked say what is ruled and told, specs/Ruling how a
-//! ruling is spelled.
+//! `rule_pair` asks what `check_pair` of `auditor` asks, and then whether clocks within the stated skew can have
+//! written the two journals at all (K1): where a take reads more than twice the skew below its send, no run leaves
+//! them, and an answer over them would say nothing. A [`Ruling`] is a verdict or one of K1 to K3. `clock_pair` tells
+//! the least skew with which the two could have been written. `doubt` tells whether the two are of one pair (K2) and
+//! whether the question allows for the skew and transit that they say themselves (K3), and `warnings` spells both as
+//! notes. specs/Ruled, specs/Clocked and specs/Ties say what is ruled, told and doubted, specs/Ruling how a ruling is
+//! spelled.
 //!
 //! ```text
 //! let merged = match rule_pair(alloc, &journal_a, &journal_b, skew)? {
@@ -17,7 +19,9 @@
 mod clocks;
 mod pair;
 mod ruling;
+mod ties;
 
 pub use clocks::{Clocked, clock_pair, least_text};
 pub use pair::{Ruled, rule_pair};
 pub use ruling::{Ruling, ruling_line, rulings, status_of};
+pub use ties::{doubt, warnings};

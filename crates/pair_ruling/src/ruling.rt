@@ -16,6 +16,10 @@ pub enum Ruling {
     /// K1: no clocks within the skew can have written the two journals. The least take that reads more than twice the
     /// skew below its send, A's before B's.
     Clocks(Ref),
+    /// K2: the journals' open, pool or transit lines differ, so they are hardly of one pair.
+    Pair,
+    /// K3: the question's skew or transit is less than a journal's own line says.
+    Skew,
 }
 
 /// `refused K1 Clocks B3` and a line feed.
@@ -29,6 +33,24 @@ fn clocks_line(alloc: Global, take: Ref) -> Result<Vec<u8>, AllocError>
     Ok(line)
 }
 
+/// `refused K2 Pair` and a line feed.
+fn pair_line(alloc: Global) -> Result<Vec<u8>, AllocError>
+    ensures { IfOk result (λ line. line.items ≡ ruling_line Ruling.Pair) }
+{
+    let mut line = Vec::new(alloc);
+    line.extend_from_slice(b"refused K2 Pair\n")?;
+    Ok(line)
+}
+
+/// `refused K3 Skew` and a line feed.
+fn skew_line(alloc: Global) -> Result<Vec<u8>, AllocError>
+    ensures { IfOk result (λ line. line.items ≡ ruling_line Ruling.Skew) }
+{
+    let mut line = Vec::new(alloc);
+    line.extend_from_slice(b"refused K3 Skew\n")?;
+    Ok(line)
+}
+
 /// The line that says the ruling, with its line feed. `AllocError` where a growth was refused.
 pub fn ruling_line(alloc: Global, ruling: &Ruling) -> Result<Vec<u8>, AllocError>
     ensures { IfOk result (λ line. line.items ≡ ruling_line ruling.now) }
@@ -36,6 +58,8 @@ pub fn ruling_line(alloc: Global, ruling: &Ruling) -> Result<Vec<u8>, AllocError
     match ruling {
         Ruling::Verdict(verdict) => verdict_line(alloc, verdict),
         Ruling::Clocks(take) => clocks_line(alloc, *take),
+        Ruling::Pair => pair_line(alloc),
+        Ruling::Skew => skew_line(alloc),
     }
 }
 
@@ -54,7 +78,7 @@ pub fn status_of(ruling: &Ruling) -> u8
 {
     match ruling {
         Ruling::Verdict(verdict) => verdict_status(verdict),
-        Ruling::Clocks(_) => 1,
+        Ruling::Clocks(_) | Ruling::Pair | Ruling::Skew => 1,
     }
 }
 

@@ -1,0 +1,67 @@
+-- What a search of two journals answers: what refuses them first, then what forbids to name a client over them.
+use Rattle.std.specs.Prelude.{◌⊎◌, ⊤, ℕ, List, Result, Ok, Err}
+use Rattle.binding_rules.specs.declared.role.Role.TheVariants.{Primary, Secondary}
+use Rattle.journal_lines.specs.declared.line.Journal.{Journal}
+use Rattle.journal_lines.specs.declared.fault.JournalFault.{JournalFault}
+use Rattle.journal_text.specs.Faults.{journal_of_side}
+use Rattle.causal_order.specs.Journals.{Journals, journals_of}
+use Rattle.attribution.specs.declared.verdict.Verdict.TheVariants.{Journal as JournalVerdict}
+use Rattle.evidence_search.specs.declared.query.Query.{Query}
+use Rattle.evidence_search.specs.declared.query.HolderQuery.{HolderQuery}
+use Rattle.pair_ruling.specs.declared.ruling.Ruling.{Ruling}
+use Rattle.pair_ruling.specs.declared.ruling.Ruling.TheVariants.{Verdict}
+use Rattle.pair_ruling.specs.Ruled.{IsRuledOut, IsFit}
+use Rattle.pair_ruling.specs.Ties.{AreTied, IsDoubted}
+use Rattle.attribution_desk.specs.declared.settings.Settings.{Settings}
+use Rattle.attribution_desk.specs.declared.settings.Settings.TheVariants.{MustAgree, MayDiffer}
+use Rattle.attribution_desk.specs.declared.searching.Search.{Search}
+use Rattle.attribution_desk.specs.declared.searching.Search.TheVariants.{Find, Who}
+use Rattle.attribution_desk.specs.Answer.{first_text, text_behind}
+use Rattle.attribution_desk.specs.Find.{IsRulingText, IsFinding}
+use Rattle.attribution_desk.specs.Who.{IsHolding}
+
+-- the skew that is asked with
+abbrev pub skew_of : Search → ℕ
+skew_of (Find q) = q.skew
+skew_of (Who q settings) = q.skew
+
+-- who asks for a name is refused where nothing ties the journals and the question together, unless that may be
+abbrev pub Forbids : Search → Journal → Journal → Ruling → Type 0
+Forbids (Who q MustAgree) a b r = IsDoubted a b q.skew q.transit r
+Forbids (Who q MayDiffer) a b r = ⊥
+Forbids (Find q) a b r = ⊥
+
+abbrev pub Allows : Search → Journal → Journal → Type 0
+Allows (Who q MustAgree) a b = AreTied a b q.skew q.transit
+Allows (Who q MayDiffer) a b = ⊤
+Allows (Find q) a b = ⊤
+
+-- what is found in the journals
+abbrev pub Answered : Search → Journals → List ℕ → ℕ → Type 0
+Answered (Find q) js text status = IsFinding js q text status
+Answered (Who q settings) js text status = IsHolding js q text status
+
+-- what stands against the two journals, or else against asking this of them, or else what is found
+abbrev pub IsSearchOn : Journal → Journal → Search → List ℕ → ℕ → Type 0
+IsSearchOn a b q text status =
+    ((r : Ruling) × IsRuledOut a b (skew_of q) r × IsRulingText r text status)
+    ⊎ (IsFit a b (skew_of q)
+    × (((r : Ruling) × Forbids q a b r × IsRulingText r text status)
+    ⊎ (Allows q a b × Answered q (journals_of a b) text status)))
+
+-- a fault of A's text before one of B's
+abbrev pub IsSearchOf : Result Journal JournalFault → Result Journal JournalFault → Search → List ℕ → ℕ → Type 0
+IsSearchOf (Err fault) b q text status = IsRulingText (Verdict (JournalVerdict Primary fault)) text status
+IsSearchOf (Ok a) (Err fault) q text status = IsRulingText (Verdict (JournalVerdict Secondary fault)) text status
+IsSearchOf (Ok a) (Ok b) q text status = IsSearchOn a b q text status
+
+-- of an input: journal A, and journal B, which is all that follows
+abbrev pub IsSearch : List ℕ → Search → List ℕ → ℕ → Type 0
+IsSearch input q text status =
+    IsSearchOf (journal_of_side Primary (first_text input)) (journal_of_side Secondary (text_behind input)) q text status
+
+abbrev pub IsFind : List ℕ → Query → List ℕ → ℕ → Type 0
+IsFind input q text status = IsSearch input (Find q) text status
+
+abbrev pub IsWho : List ℕ → HolderQuery → Settings → List ℕ → ℕ → Type 0
+IsWho input q settings text status = IsSearch input (Who q settings) text status
