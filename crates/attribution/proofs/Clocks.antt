@@ -30,8 +30,8 @@ at_once run transit i s g at is = let e = moment_is run i s at in (omega arith, 
 looser : (skew more : ℕ) (upto : Role → ℕ) (run : List Step) → skew ≤ more → KeepsSkew skew upto run → KeepsSkew more upto run
 looser skew more upto run le h i s at here = let a = (h i s at here).0 in let b = (h i s at here).1 in (omega arith, omega arith)
 
-pub no_two_holders : (IsLegal : Role → List (List Line) → Type 0) → AcceptedIsTrue IsLegal → FittingNameOne IsLegal
-no_two_holders IsLegal true_of js skew fits skew_c transit_c skew_d transit_d c d le_c ok_c le_d ok_d over m a b e f =
+pub no_two_holders : (AreLegal : Role → List (List Line) → Type 0) → AcceptedIsTrue AreLegal → FittingNameOne AreLegal
+no_two_holders AreLegal true_of js skew fits skew_c transit_c skew_d transit_d c d le_c ok_c le_d ok_d over m a b e f =
     let run = fits.0 in
     let set = fits.1 in
     let of_c = true_of js skew_c transit_c c ok_c run set.is_run (looser skew skew_c (volume_of js) run le_c set.clocks) set.left_a set.left_b (moment_at run) (at_once run transit_c) in
@@ -39,11 +39,11 @@ no_two_holders IsLegal true_of js skew fits skew_c transit_c skew_d transit_d c 
     let h = of_d.held m e f in
     sym (of_c.alone m over.0 d.holder a b over.1 (h.0, h.1, h.2, h.3, h.4 over.0 over.2))
 
-pub early_fits_no_clocks : (IsLegal : Role → List (List Line) → Type 0) → IsLawful IsLegal → EarlyFitsNoClocks IsLegal
-early_fits_no_clocks IsLegal keeps js skew fits take early =
+pub early_fits_no_clocks : (AreLegal : Role → List (List Line) → Type 0) → IsLawful AreLegal → EarlyFitsNoClocks AreLegal
+early_fits_no_clocks AreLegal keeps js skew fits take early =
     let run = fits.0 in
-    let world = world_of IsLegal keeps js skew run fits.1 in
-    let p = ref_at IsLegal js skew run world take early.taken early.names_taken in
+    let world = world_of AreLegal keeps js skew run fits.1 in
+    let p = ref_at AreLegal js skew run world take early.taken early.names_taken in
     let by : WrittenBy js (take ∷ []) take early.taken.reading = record {
       end = take;
       line = early.taken;
@@ -58,7 +58,7 @@ early_fits_no_clocks IsLegal keeps js skew fits take early =
       names = early.names_sent;
       read = refl;
     } in
-    let x = written_by IsLegal js skew run world (take ∷ []) take early.taken.reading p.0 p.1 by p.2 in
-    let y = written_from IsLegal js skew run world (early.send ∷ take ∷ []) take early.sent.reading p.0 p.1 from p.2 in
+    let x = written_by AreLegal js skew run world (take ∷ []) take early.taken.reading p.0 p.1 by p.2 in
+    let y = written_from AreLegal js skew run world (early.send ∷ take ∷ []) take early.sent.reading p.0 p.1 from p.2 in
     let z = early.above in
     absurd (omega arith)

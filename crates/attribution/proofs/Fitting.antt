@@ -4,9 +4,9 @@ use Rattle.std.proofs.Common.{subst, inl, inr}
 use Rattle.binding_rules.specs.declared.role.Role.{Role}
 use Rattle.claims.specs.declared.reference.Ref.{Ref}
 use Rattle.causal_order.specs.Journals.{Journals, journal_of, volume_of}
-use Rattle.book_rules.specs.Book.{blank}
+use Rattle.book_state.specs.Book.{blank}
 use Rattle.book_rules.specs.Volumes.{IsVolume}
-use Rattle.book_rules.specs.NextHead.{IsLegal}
+use Rattle.volume_heads.specs.NextHead.{AreLegal}
 use Rattle.journal_merge.specs.Interleaving.{HasInterleaving}
 use Rattle.journal_merge.specs.Placing.{Placed}
 use Rattle.journal_merge.proofs.Stuck.{placed_or_stuck, stuck_where_none}
@@ -41,11 +41,11 @@ ordered js are =
 pub first_volumes_fit : FirstVolumesFit
 first_volumes_fit js skew are closed one none =
     let o = ordered js are in
-    let first : AreFirst IsLegal js = record {
+    let first : AreFirst AreLegal js = record {
       first = one;
       legal = λ side. subst (λ n. IsVolume side n (journal_of js side)) (one side) (are.legal side);
       whole = λ side. is_whole (journal_of js side) (blank side (volume_of js side)) (are.legal side);
       closed = closed;
       rising = rising js are;
     } in
-    run_exists IsLegal js skew o.order first o.is o.lesser none
+    run_exists AreLegal js skew o.order first o.is o.lesser none

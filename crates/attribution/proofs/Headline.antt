@@ -22,10 +22,10 @@ left_of js run side v h lines number =
 
 -- any legality that keeps this
 abbrev pub IsLawful : (Role → List (List Line) → Type 0) → Type 0
-IsLawful IsLegal = (side : Role) (vs : List (List Line)) → IsLegal side vs → Lawful vs
+IsLawful AreLegal = (side : Role) (vs : List (List Line)) → AreLegal side vs → Lawful vs
 
-pub world_of : (IsLegal : Role → List (List Line) → Type 0) → IsLawful IsLegal → (js : Journals) (skew : ℕ) (run : List Step) → Setting IsLegal js skew run → World IsLegal js skew run
-world_of IsLegal keeps js skew run setting =
+pub world_of : (AreLegal : Role → List (List Line) → Type 0) → IsLawful AreLegal → (js : Journals) (skew : ℕ) (run : List Step) → Setting AreLegal js skew run → World AreLegal js skew run
+world_of AreLegal keeps js skew run setting =
     let left : (side : Role) → (0 < volume_of js side) × (journal_of js side ≡ volume_at (last js side) (lines_of side run)) =
     λ side. elim side as (λ x. (0 < volume_of js x) × (journal_of js x ≡ volume_at (last js x) (lines_of x run))) [
       | Primary ↦ left_of js run Primary js.a setting.left_a refl refl
@@ -40,23 +40,23 @@ world_of IsLegal keeps js skew run setting =
     }
 
 -- what is accepted is true in every run that leaves these journals
-pub headline : (IsLegal : Role → List (List Line) → Type 0) → IsLawful IsLegal → AcceptedIsTrue IsLegal
-headline IsLegal keeps js skew transit c ok run is_run clocks left_a left_b starts reaches =
-    let world = world_of IsLegal keeps js skew run (record { is_run = is_run; clocks = clocks; left_a = left_a; left_b = left_b }) in
-    record { held = held IsLegal js skew run world transit starts reaches c ok; alone = alone IsLegal js skew run world transit starts reaches c ok }
+pub headline : (AreLegal : Role → List (List Line) → Type 0) → IsLawful AreLegal → AcceptedIsTrue AreLegal
+headline AreLegal keeps js skew transit c ok run is_run clocks left_a left_b starts reaches =
+    let world = world_of AreLegal keeps js skew run (record { is_run = is_run; clocks = clocks; left_a = left_a; left_b = left_b }) in
+    record { held = held AreLegal js skew run world transit starts reaches c ok; alone = alone AreLegal js skew run world transit starts reaches c ok }
 
 -- the laws that carry it
-pub chains_stand_in_order : (IsLegal : Role → List (List Line) → Type 0) → IsLawful IsLegal → ChainsStandInOrder IsLegal
-chains_stand_in_order IsLegal keeps js skew run setting chain r q i j s t leads a b =
-    leads_at IsLegal js skew run (world_of IsLegal keeps js skew run setting) chain r q i j s t leads a b
+pub chains_stand_in_order : (AreLegal : Role → List (List Line) → Type 0) → IsLawful AreLegal → ChainsStandInOrder AreLegal
+chains_stand_in_order AreLegal keeps js skew run setting chain r q i j s t leads a b =
+    leads_at AreLegal js skew run (world_of AreLegal keeps js skew run setting) chain r q i j s t leads a b
 
-pub bounds_hold : (IsLegal : Role → List (List Line) → Type 0) → IsLawful IsLegal → BoundsHold IsLegal
-bounds_hold IsLegal keeps js skew run setting chain r x i s a =
-    let world = world_of IsLegal keeps js skew run setting in
-    (λ w. written_by IsLegal js skew run world chain r x i s w a, λ w. written_from IsLegal js skew run world chain r x i s w a)
+pub bounds_hold : (AreLegal : Role → List (List Line) → Type 0) → IsLawful AreLegal → BoundsHold AreLegal
+bounds_hold AreLegal keeps js skew run setting chain r x i s a =
+    let world = world_of AreLegal keeps js skew run setting in
+    (λ w. written_by AreLegal js skew run world chain r x i s w a, λ w. written_from AreLegal js skew run world chain r x i s w a)
 
-pub late_after_close : (IsLegal : Role → List (List Line) → Type 0) → IsLawful IsLegal → LateAfterClose IsLegal
-late_after_close IsLegal keeps js skew run setting to i s closed at past =
-    let world = world_of IsLegal keeps js skew run setting in
+pub late_after_close : (AreLegal : Role → List (List Line) → Type 0) → IsLawful AreLegal → LateAfterClose AreLegal
+late_after_close AreLegal keeps js skew run setting to i s closed at past =
+    let world = world_of AreLegal keeps js skew run setting in
     let some = world.some s.side in
-    past_end IsLegal js skew run world to i s closed at (omega arith)
+    past_end AreLegal js skew run world to i s closed at (omega arith)

@@ -11,7 +11,7 @@ use Rattle.journal_lines.specs.declared.event.Event.TheVariants.{Send, Take}
 use Rattle.journal_lines.specs.declared.line.Line.{Line}
 use Rattle.journal_lines.specs.Close.{until_close}
 use Rattle.causal_order.specs.Journals.{Volume, Journals, journal_of, volume_of}
-use Rattle.book_rules.specs.Book.{blank}
+use Rattle.book_state.specs.Book.{blank}
 use Rattle.attribution.specs.Volumes.{volume_at, volumes_in}
 use Rattle.attribution.specs.Run.{Step, lines_of, At, IsWithin, KeepsSkew, Leaves}
 use Rattle.attribution.specs.Laws.{count}

@@ -11,11 +11,11 @@ use Rattle.journal_lines.specs.declared.event.Lease.{Lease}
 use Rattle.journal_lines.specs.declared.event.Event.{Event}
 use Rattle.journal_lines.specs.declared.event.Event.TheVariants.{Base, Carry, Unit as UnitLine, Grant, Release, Send}
 use Rattle.journal_lines.specs.declared.line.Line.{Line}
-use Rattle.book_rules.specs.Book.{Book, blank}
+use Rattle.book_state.specs.Book.{Book, blank}
 use Rattle.book_rules.specs.VolumeRules.{margin}
 use Rattle.book_rules.specs.Volumes.{IsVolume, book_after}
-use Rattle.book_rules.specs.NextHead.{IsSameLease, GivesUpTo, IsOwed, numbers, transit_events, pool_event, head_events, lines_from, AreNextHead, is_head, head_lines}
-use Rattle.book_rules.specs.NextHead.{Follows, AreVolumes}
+use Rattle.volume_heads.specs.NextHead.{IsSameLease, GivesUpTo, IsOwed, numbers, transit_events, pool_event, head_events, lines_from, AreNextHead, is_head, head_lines}
+use Rattle.volume_heads.specs.NextHead.{Follows, AreVolumes}
 use Rattle.attribution.specs.declared.delegation.Delegation.{Delegation}
 use Rattle.attribution.specs.declared.delegation.Lasting.{Lasting}
 use Rattle.attribution.specs.declared.delegation.Lasting.TheVariants.{For, Until}

@@ -15,9 +15,9 @@ use Rattle.journal_lines.specs.declared.line.Line.{Line}
 use Rattle.journal_lines.specs.Close.{is_close, until_close}
 use Rattle.causal_order.specs.Journals.{Journals, journal_of, volume_of}
 use Rattle.book_rules.specs.declared.rule.Rule.TheVariants.{Sequence, Serial}
-use Rattle.book_rules.specs.Book.{Book, blank}
+use Rattle.book_state.specs.Book.{Book, blank}
 use Rattle.book_rules.specs.VolumeRules.{KeepsSequence}
-use Rattle.book_rules.specs.Effects.{after}
+use Rattle.book_state.specs.Effects.{after}
 use Rattle.book_rules.specs.Volumes.{AreSteps, IsVolume, book_after}
 use Rattle.journal_merge.specs.Messages.{base_serial, earlier_serial, is_at_most}
 use Rattle.attribution.proofs.Orders.{NeverFalls}

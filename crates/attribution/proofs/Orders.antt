@@ -64,9 +64,9 @@ NeverFalls lines = (i k : ℕ) (l o : Line) → i ≤ k → slice_get lines i �
     → l.reading ≤ o.reading
 
 -- Each journal is its server's first volume, legal and closed by its last line, and its readings never fall.
-pub record AreFirst (IsLegal : Role → List (List Line) → Type 0) (js : Journals) : Type 0 where
+pub record AreFirst (AreLegal : Role → List (List Line) → Type 0) (js : Journals) : Type 0 where
   pub first : (side : Role) → volume_of js side ≡ 1
-  pub legal : (side : Role) → IsLegal side (journal_of js side ∷ [])
+  pub legal : (side : Role) → AreLegal side (journal_of js side ∷ [])
   pub whole : (side : Role) → until_close (journal_of js side) ≡ journal_of js side
   pub closed : (side : Role) → (k : ℕ) × (l : Line) × (slice_get (journal_of js side) k ≡ Some l) × (l.event ≡ Close)
   pub rising : (side : Role) → NeverFalls (journal_of js side)

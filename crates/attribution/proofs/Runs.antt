@@ -41,8 +41,8 @@ abbrev pub last : Journals → Role → ℕ
 last js side = volume_of js side - 1
 
 -- the run and the two journals that it leaves, with what legal volumes keep
-pub record World (IsLegal : Role → List (List Line) → Type 0) (js : Journals) (skew : ℕ) (run : List Step) : Type 0 where
-  pub is_run : IsRun IsLegal (volume_of js) run
+pub record World (AreLegal : Role → List (List Line) → Type 0) (js : Journals) (skew : ℕ) (run : List Step) : Type 0 where
+  pub is_run : IsRun AreLegal (volume_of js) run
   pub clocks : KeepsSkew skew (volume_of js) run
   pub some : (side : Role) → 0 < volume_of js side
   pub left : (side : Role) → journal_of js side ≡ volume_at (last js side) (lines_of side run)
@@ -58,7 +58,7 @@ partner_twice : (side : Role) → partner_of (partner_of side) ≡ side
 partner_twice Primary = refl
 partner_twice Secondary = refl
 
-module _ (IsLegal : Role → List (List Line) → Type 0) (js : Journals) (skew : ℕ) (run : List Step) (world : World IsLegal js skew run) where
+module _ (AreLegal : Role → List (List Line) → Type 0) (js : Journals) (skew : ℕ) (run : List Step) (world : World AreLegal js skew run) where
   within : (r : Ref) (i : ℕ) (s : Step) → RefAt js run r i s → IsWithin (volume_of js) run i s
   within r i s a =
       let some = world.some r.side in

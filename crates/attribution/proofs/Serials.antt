@@ -10,15 +10,15 @@ use Rattle.journal_lines.specs.declared.kept.Carried.{Carried}
 use Rattle.journal_lines.specs.declared.event.Event.{Event}
 use Rattle.journal_lines.specs.declared.event.Event.TheVariants.{Open, Pool, Transit, Base, Carry, Unit as UnitLine, Send, Take, State}
 use Rattle.journal_lines.specs.declared.line.Line.{Line}
-use Rattle.book_rules.specs.declared.place.Place.{Place}
-use Rattle.book_rules.specs.declared.place.Place.TheVariants.{AtPools, AtTransit, AtBase, AtCarry, AtUnit, PastHead}
+use Rattle.book_state.specs.declared.place.Place.{Place}
+use Rattle.book_state.specs.declared.place.Place.TheVariants.{AtPools, AtTransit, AtBase, AtCarry, AtUnit, PastHead}
 use Rattle.book_rules.specs.declared.rule.Rule.TheVariants.{Opening, Pools, Serial, Head, Transit as TransitRule}
-use Rattle.book_rules.specs.Book.{Book, blank}
-use Rattle.book_rules.specs.HeadOrder.{IsBeforeBase, IsPastBase, CarryFollows, UnitFollows}
+use Rattle.book_state.specs.Book.{Book, blank}
+use Rattle.book_state.specs.HeadOrder.{IsBeforeBase, IsPastBase, CarryFollows, UnitFollows}
 use Rattle.book_rules.specs.VolumeRules.{KeepsOpening, KeepsPools, KeepsHead, KeepsTransit}
 use Rattle.book_rules.specs.MessageRules.{KeepsSerial}
 use Rattle.book_rules.specs.Rules.{IsStep}
-use Rattle.book_rules.specs.Effects.{effect, after, place_of}
+use Rattle.book_state.specs.Effects.{effect, after, place_of}
 use Rattle.book_rules.specs.Volumes.{AreSteps, book_after}
 use Rattle.attribution.proofs.Steps.{taking_leaves, volume_kept, next_number}
 

@@ -13,11 +13,11 @@ use Rattle.journal_lines.specs.declared.event.Event.{Event}
 use Rattle.journal_lines.specs.declared.event.Event.TheVariants.{Open, Grant, Send, Take, State}
 use Rattle.journal_lines.specs.declared.line.Line.{Line}
 use Rattle.book_rules.specs.declared.rule.Rule.TheVariants.{Sequence, Opening, Lifetime}
-use Rattle.book_rules.specs.Book.{Book, is_unit}
+use Rattle.book_state.specs.Book.{Book, is_unit}
 use Rattle.book_rules.specs.VolumeRules.{KeepsSequence, KeepsOpening}
 use Rattle.book_rules.specs.UnitRules.{KeepsLifetime}
 use Rattle.book_rules.specs.Rules.{IsStep}
-use Rattle.book_rules.specs.Effects.{effect, after, sent, taken_body, learned, taken}
+use Rattle.book_state.specs.Effects.{effect, after, sent, taken_body, learned, taken}
 use Rattle.book_rules.specs.Volumes.{AreSteps, book_after}
 
 -- ---- what messages leave alone

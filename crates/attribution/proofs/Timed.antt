@@ -218,12 +218,12 @@ module _ (js : Journals) (skew : ℕ) (order : List Written) (is : IsOrder js or
         | inr p ↦ inr (subst (λ side. IsPassedOver js side m) (sym w.2) p)
       ]
 
-  module _ (IsLegal : Role → List (List Line) → Type 0) (are : AreFirst IsLegal js) where
-    legal : (side : Role) → IsLegal side (volumes_in (volume_of js side) (lines_of side run))
+  module _ (AreLegal : Role → List (List Line) → Type 0) (are : AreFirst AreLegal js) where
+    legal : (side : Role) → AreLegal side (volumes_in (volume_of js side) (lines_of side run))
     legal side =
-        let a : IsLegal side (until_close (journal_of js side) ∷ []) = subst (λ ls. IsLegal side (ls ∷ [])) (sym (are.whole side)) (are.legal side) in
-        let b : IsLegal side (volumes_in 1 (lines_of side run)) = subst (λ ls. IsLegal side (until_close ls ∷ [])) (sym (lines_left side)) a in
-        subst (λ n. IsLegal side (volumes_in n (lines_of side run))) (sym (are.first side)) b
+        let a : AreLegal side (until_close (journal_of js side) ∷ []) = subst (λ ls. AreLegal side (ls ∷ [])) (sym (are.whole side)) (are.legal side) in
+        let b : AreLegal side (volumes_in 1 (lines_of side run)) = subst (λ ls. AreLegal side (until_close ls ∷ [])) (sym (lines_left side)) a in
+        subst (λ n. AreLegal side (volumes_in n (lines_of side run))) (sym (are.first side)) b
 
     sent : (i : ℕ) (s : Step) (m : PartnerMessage) → At run i s → IsWithin (volume_of js) run i s → s.line.event ≡ Take m
         → (j : ℕ) × (t : Step) × (j < i) × At run j t × (t.side ≡ partner_of s.side) × (t.line.event ≡ Send m)
@@ -235,7 +235,7 @@ module _ (js : Journals) (skew : ℕ) (order : List Written) (is : IsOrder js or
     left : (side : Role) → journal_of js side ≡ volume_at 0 (lines_of side run)
     left side = sym (are.whole side) ∙ ap until_close (sym (lines_left side))
 
-    fits : PlacesLesserFirst order → NoneIsEarly js skew → FitsClocks IsLegal js skew
+    fits : PlacesLesserFirst order → NoneIsEarly js skew → FitsClocks AreLegal js skew
     unfolding run
     fits lesser none = (
       run,
@@ -247,6 +247,6 @@ module _ (js : Journals) (skew : ℕ) (order : List Written) (is : IsOrder js or
       },
     )
 
-pub run_exists : (IsLegal : Role → List (List Line) → Type 0) (js : Journals) (skew : ℕ) (order : List Written) → AreFirst IsLegal js
-    → IsOrder js order → PlacesLesserFirst order → NoneIsEarly js skew → FitsClocks IsLegal js skew
-run_exists IsLegal js skew order are is lesser none = fits js skew order is are.rising IsLegal are lesser none
+pub run_exists : (AreLegal : Role → List (List Line) → Type 0) (js : Journals) (skew : ℕ) (order : List Written) → AreFirst AreLegal js
+    → IsOrder js order → PlacesLesserFirst order → NoneIsEarly js skew → FitsClocks AreLegal js skew
+run_exists AreLegal js skew order are is lesser none = fits js skew order is are.rising AreLegal are lesser none

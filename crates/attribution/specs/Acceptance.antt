@@ -171,12 +171,12 @@ pub record IsTrueIn (run : List Step) (starts : ℕ → ℕ) (c : Certificate) :
 -- answer within the transit.
 abbrev pub IsTrueInEveryRun :
     (Role → List (List Line) → Type 0) → Journals → (skew transit : ℕ) → Certificate → Type 0
-IsTrueInEveryRun IsLegal js skew transit c =
-    (run : List Step) → IsRun IsLegal (volume_of js) run → KeepsSkew skew (volume_of js) run
+IsTrueInEveryRun AreLegal js skew transit c =
+    (run : List Step) → IsRun AreLegal (volume_of js) run → KeepsSkew skew (volume_of js) run
     → Leaves run Primary js.a → Leaves run Secondary js.b
     → (starts : ℕ → ℕ) → StartInTime transit run starts → IsTrueIn run starts c
 
 -- the headline: what is accepted is true
 abbrev pub AcceptedIsTrue : (Role → List (List Line) → Type 0) → Type 0
-AcceptedIsTrue IsLegal = (js : Journals) (skew transit : ℕ) (c : Certificate)
-    → IsAccepted js skew transit c → IsTrueInEveryRun IsLegal js skew transit c
+AcceptedIsTrue AreLegal = (js : Journals) (skew transit : ℕ) (c : Certificate)
+    → IsAccepted js skew transit c → IsTrueInEveryRun AreLegal js skew transit c

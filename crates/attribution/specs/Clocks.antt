@@ -9,7 +9,7 @@ use Rattle.claims.specs.declared.reference.Ref.{Ref}
 use Rattle.causal_order.specs.Journals.{Journals, journal_of, volume_of, Names}
 use Rattle.causal_order.specs.Order.{IsTakeOf}
 use Rattle.book_rules.specs.Volumes.{IsVolume}
-use Rattle.book_rules.specs.NextHead.{IsLegal}
+use Rattle.volume_heads.specs.NextHead.{AreLegal}
 use Rattle.journal_merge.specs.Early.{IsFarBelowSend}
 use Rattle.journal_merge.specs.Refusals.{AreMatched}
 use Rattle.journal_merge.specs.Interleaving.{HasInterleaving}
@@ -20,7 +20,7 @@ use Rattle.attribution.specs.Acceptance.{IsAccepted}
 
 -- Clocks within the skew fit the journals: some run of the pair with such clocks leaves them.
 abbrev pub FitsClocks : (Role → List (List Line) → Type 0) → Journals → ℕ → Type 0
-FitsClocks IsLegal js skew = (run : List Step) × Setting IsLegal js skew run
+FitsClocks AreLegal js skew = (run : List Step) × Setting AreLegal js skew run
 
 -- The line takes what the other side sent at a reading more than twice the skew above its own.
 pub record IsEarly (js : Journals) (skew : ℕ) (take : Ref) : Type 0 where
@@ -59,12 +59,12 @@ EarlyByFirstSend = (js : Journals) (skew : ℕ) (take : Ref) → AreChecked js
 
 -- no clocks within the skew fit journals with an early take
 abbrev pub EarlyFitsNoClocks : (Role → List (List Line) → Type 0) → Type 0
-EarlyFitsNoClocks IsLegal = (js : Journals) (skew : ℕ) → FitsClocks IsLegal js skew → NoneIsEarly js skew
+EarlyFitsNoClocks AreLegal = (js : Journals) (skew : ℕ) → FitsClocks AreLegal js skew → NoneIsEarly js skew
 
 -- clocks within the skew fit two first volumes in which no take is early
 abbrev pub FirstVolumesFit : Type 0
 FirstVolumesFit = (js : Journals) (skew : ℕ) → AreChecked js → AreClosed js
-    → ((side : Role) → volume_of js side ≡ 1) → NoneIsEarly js skew → FitsClocks IsLegal js skew
+    → ((side : Role) → volume_of js side ≡ 1) → NoneIsEarly js skew → FitsClocks AreLegal js skew
 
 -- Clocks within the skew fit two volumes of any number exactly where no take is early, if lawful volumes may have come
 -- before.
@@ -84,7 +84,7 @@ NameOneHolder js skew = (skew_c transit_c skew_d transit_d : ℕ) (c d : Certifi
 
 -- so it is where clocks within the skew fit the journals
 abbrev pub FittingNameOne : (Role → List (List Line) → Type 0) → Type 0
-FittingNameOne IsLegal = (js : Journals) (skew : ℕ) → FitsClocks IsLegal js skew → NameOneHolder js skew
+FittingNameOne AreLegal = (js : Journals) (skew : ℕ) → FitsClocks AreLegal js skew → NameOneHolder js skew
 
 -- and where no take is early
 abbrev pub TimelyNameOne : Type 0

@@ -6,7 +6,7 @@ use Rattle.journal_lines.specs.declared.kept.Carried.{Carried}
 use Rattle.journal_lines.specs.declared.event.Lease.{Lease}
 use Rattle.journal_lines.specs.declared.event.Event.TheVariants.{Carry, Grant, Release, Send}
 use Rattle.journal_lines.specs.declared.line.Line.{Line}
-use Rattle.book_rules.specs.NextHead.{IsSameLease, IsLegal}
+use Rattle.volume_heads.specs.NextHead.{IsSameLease, AreLegal}
 use Rattle.attribution.specs.declared.delegation.Delegation.{Delegation}
 use Rattle.attribution.specs.Delegation.{of_lease, of_carried}
 
@@ -45,4 +45,4 @@ pub record Lawful (vs : List (List Line)) : Type 0 where
 
 -- volumes that the pair's rules allow are such
 abbrev pub LegalIsLawful : Type 0
-LegalIsLawful = (side : Role) (volumes : List (List Line)) → IsLegal side volumes → Lawful volumes
+LegalIsLawful = (side : Role) (volumes : List (List Line)) → AreLegal side volumes → Lawful volumes

@@ -34,9 +34,9 @@ pub record Stands (run : List Step) (side : Role) (n k i : ℕ) (s : Step) : Typ
   pub place : count side run i ≡ start n (lines_of side run) + k
 
 -- a run with clocks within the skew, and the two journals that it leaves
-pub record Setting (IsLegal : Role → List (List Line) → Type 0) (js : Journals) (skew : ℕ) (run : List Step) :
+pub record Setting (AreLegal : Role → List (List Line) → Type 0) (js : Journals) (skew : ℕ) (run : List Step) :
     Type 0 where
-  pub is_run : IsRun IsLegal (volume_of js) run
+  pub is_run : IsRun AreLegal (volume_of js) run
   pub clocks : KeepsSkew skew (volume_of js) run
   pub left_a : Leaves run Primary js.a
   pub left_b : Leaves run Secondary js.b
@@ -49,7 +49,7 @@ pub record RefAt (js : Journals) (run : List Step) (r : Ref) (i : ℕ) (s : Step
 
 -- Chains: each line of a chain was written before the next.
 abbrev pub ChainsStandInOrder : (Role → List (List Line) → Type 0) → Type 0
-ChainsStandInOrder IsLegal = (js : Journals) (skew : ℕ) (run : List Step) → Setting IsLegal js skew run
+ChainsStandInOrder AreLegal = (js : Journals) (skew : ℕ) (run : List Step) → Setting AreLegal js skew run
     → (chain : List Ref) (r q : Ref) (i j : ℕ) (s t : Step)
     → Leads js chain r q → RefAt js run r i s → RefAt js run q j t
     → (i ≤ j) × (2 ≤ length chain → i < j)
@@ -57,13 +57,13 @@ ChainsStandInOrder IsLegal = (js : Journals) (skew : ℕ) (run : List Step) → 
 -- Bounds: a line was written by the reading of a chain's last line and the skew, and not before that of a chain's first
 -- line less the skew.
 abbrev pub BoundsHold : (Role → List (List Line) → Type 0) → Type 0
-BoundsHold IsLegal = (js : Journals) (skew : ℕ) (run : List Step) → Setting IsLegal js skew run
+BoundsHold AreLegal = (js : Journals) (skew : ℕ) (run : List Step) → Setting AreLegal js skew run
     → (chain : List Ref) (r : Ref) (x i : ℕ) (s : Step) → RefAt js run r i s
     → (WrittenBy js chain r x → s.moment ≤ x + skew) × (WrittenFrom js chain r x → x ≤ s.moment + skew)
 
 -- Close lines: what a side wrote behind the volume that is its journal came at or after the interval's end.
 abbrev pub LateAfterClose : (Role → List (List Line) → Type 0) → Type 0
-LateAfterClose IsLegal = (js : Journals) (skew : ℕ) (run : List Step) → Setting IsLegal js skew run
+LateAfterClose AreLegal = (js : Journals) (skew : ℕ) (run : List Step) → Setting AreLegal js skew run
     → (to i : ℕ) (s : Step) → ClosesFrom (journal_of js s.side) (to + skew) → At run i s
     → volume_of js s.side ≤ closes s.side run i → to ≤ s.moment
 

@@ -38,10 +38,10 @@ IsWithin upto run i s = closes s.side run i < upto s.side
 
 -- A run of the pair, where the first volumes of each side, as many as `upto` says, are legal. What comes after them is
 -- free.
-pub record IsRun (IsLegal : Role → List (List Line) → Type 0) (upto : Role → ℕ) (run : List Step) : Type 0 where
+pub record IsRun (AreLegal : Role → List (List Line) → Type 0) (upto : Role → ℕ) (run : List Step) : Type 0 where
   -- moments never fall
   pub in_time : (i j : ℕ) (s t : Step) → i ≤ j → At run i s → At run j t → s.moment ≤ t.moment
-  pub legal : (side : Role) → IsLegal side (volumes_in (upto side) (lines_of side run))
+  pub legal : (side : Role) → AreLegal side (volumes_in (upto side) (lines_of side run))
   -- what a side takes in these volumes was sent before by its partner
   pub sent : (i : ℕ) (s : Step) (m : PartnerMessage) → At run i s → IsWithin upto run i s → s.line.event ≡ Take m
       → (j : ℕ) × (t : Step) × (j < i) × At run j t × (t.side ≡ partner_of s.side) × (t.line.event ≡ Send m)

@@ -27,7 +27,7 @@ pub struct Delegation {
 }
 
 impl Delegation {
-    /// What a lease delegates.
+    /// Returns what a lease delegates.
     pub fn of_lease(lease: &Lease) -> Delegation
         ensures { result ≡ of_lease lease.now }
     {

@@ -9,12 +9,12 @@ ghost use Rattle.attribution.specs.TestLaws.{OpenDecided, EndsDecided, ClearsDec
 ghost use Rattle.attribution.specs.Lawful.{Lawful, LegalIsLawful};
 ghost use Rattle.attribution.specs.Clocks.{EarlyByFirstSend, EarlyFitsNoClocks, FirstVolumesFit, VolumesFit};
 ghost use Rattle.attribution.specs.Clocks.{FittingNameOne, TimelyNameOne};
-ghost use Rattle.book_rules.specs.NextHead.{IsLegal};
+ghost use Rattle.volume_heads.specs.NextHead.{AreLegal};
 
 /// What is accepted is true in every run of the pair that leaves the journals, whatever volumes came before, with
 /// clocks within the skew and answers within the transit.
 pub fn accepted_is_true()
-    ensures { AcceptedIsTrue IsLegal }
+    ensures { AcceptedIsTrue AreLegal }
 {}
 
 /// Of all that servers may write that needs three facts alone: a serial of the journal is sent once, no lease is for
@@ -32,17 +32,17 @@ pub fn verdict_is_one()
 
 /// The lines of a chain were written in its order, in every run.
 pub fn chains_stand_in_order()
-    ensures { ChainsStandInOrder IsLegal }
+    ensures { ChainsStandInOrder AreLegal }
 {}
 
 /// A line's bounds hold under all clocks that are within the skew of true time.
 pub fn bounds_hold()
-    ensures { BoundsHold IsLegal }
+    ensures { BoundsHold AreLegal }
 {}
 
 /// What a side wrote behind the volume that is its journal was written at or after the end of the interval.
 pub fn late_after_close()
-    ensures { LateAfterClose IsLegal }
+    ensures { LateAfterClose AreLegal }
 {}
 
 /// Pieces that lie end to end meet every moment.

@@ -6,8 +6,8 @@ use causal_order::Ref;
 use claims::CertificateFault;
 use journal_lines::JournalFault;
 
-/// What an auditor answers about a certificate over two journals. Where it refuses, the first condition that
-/// isn't met, in this order.
+/// The answer of an auditor about a certificate over two journals. Where it refuses, the first condition that isn't
+/// met, in this order.
 #[derive(Clone, Copy, Debug, PartialEq, Eq)]
 pub enum Verdict {
     /// The certificate is true in every run of the pair that leaves the journals.

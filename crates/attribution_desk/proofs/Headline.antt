@@ -15,10 +15,11 @@ use Rattle.auditor.specs.Texts.{IsVerdictOfParsed, TextsAreTrueInEveryRun, Accep
 use Rattle.pair_ruling.specs.declared.ruling.Ruling.{Ruling}
 use Rattle.pair_ruling.specs.declared.ruling.Ruling.TheVariants.{Verdict, Clocks, Pair, Skew}
 use Rattle.pair_ruling.specs.Ruling.{verdict_status, status_of}
-use Rattle.attribution_desk.specs.declared.error.DeskError.{DeskError}
+use Rattle.desk_intake.specs.declared.error.DeskError.{DeskError}
 use Rattle.attribution_desk.specs.declared.outcome.Outcome.{Outcome}
 use Rattle.attribution_desk.specs.Rulings.{IsRulingOfParsed}
-use Rattle.attribution_desk.specs.Answer.{first_text, text_behind, IsAnswer}
+use Rattle.attribution_desk.specs.Answer.{IsDeskAnswer}
+use Rattle.desk_intake.specs.Input.{first_text, text_behind}
 use Rattle.attribution_desk.specs.Batch.{AreRuled, status_of_all, IsBatch}
 use Rattle.attribution_desk.specs.Running.{IsWritten}
 use Rattle.attribution_desk.specs.Headline.{IsTrueInEveryRun, AreTrueInEveryRun}
@@ -91,7 +92,7 @@ module _ (law : AcceptedTextsAreTrue) where
       law a b text skew transit (accepted_ruling (journal_of_side Primary a) (journal_of_side Secondary b) skew transit (certificate_of text) r h none)
 
   -- one certificate
-  pub answer_true : (input line : List ℕ) (skew transit status : ℕ) → IsAnswer input skew transit line status → status ≡ 0 → IsTrueInEveryRun input skew transit
+  pub answer_true : (input line : List ℕ) (skew transit status : ℕ) → IsDeskAnswer input skew transit line status → status ≡ 0 → IsTrueInEveryRun input skew transit
   answer_true input line skew transit status h none =
       ruled_true (first_text input) (first_text (text_behind input)) (text_behind (text_behind input)) skew transit h.0 h.1 (sym h.3 ∙ none)
 

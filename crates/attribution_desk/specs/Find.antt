@@ -7,7 +7,7 @@ use Rattle.certificate.specs.Spelling.{certificate_text}
 use Rattle.pair_ruling.specs.declared.ruling.Ruling.{Ruling}
 use Rattle.pair_ruling.specs.declared.ruling.Ruling.TheVariants.{Verdict}
 use Rattle.pair_ruling.specs.Ruling.{ruling_line, status_of}
-use Rattle.evidence_search.specs.declared.query.Query.{Query}
+use Rattle.plain_search.specs.declared.query.Query.{Query}
 use Rattle.evidence_search.specs.Claim.{Claims, IsShown, HasNoPlainEvidence}
 
 -- the line and the status of a ruling on the journals

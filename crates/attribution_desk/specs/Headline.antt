@@ -1,9 +1,9 @@
 -- What is true where the desk's status is 0: the theorem, at the door.
 use Rattle.std.specs.Prelude.{⊤, ℕ, List, All}
 use Rattle.auditor.specs.Texts.{TextsAreTrueInEveryRun}
-use Rattle.attribution_desk.specs.declared.command.Command.{Command}
-use Rattle.attribution_desk.specs.declared.command.Command.TheVariants.{Audit, Batch, Timeline, Clocks, Find, Who}
-use Rattle.attribution_desk.specs.Answer.{first_text, text_behind}
+use Rattle.desk_words.specs.declared.command.Command.{Command}
+use Rattle.desk_words.specs.declared.command.Command.TheVariants.{Audit, Batch, Timeline, Clocks, Find, Who}
+use Rattle.desk_intake.specs.Input.{first_text, text_behind}
 use Rattle.attribution_desk.specs.Batch.{AreTexts}
 
 -- the certificate is true in every run of the pair that leaves the two journals in front of it

@@ -1,6 +1,3 @@
-pub mod Words
-pub mod Given
-pub mod Input
 pub mod Rulings
 pub mod Answer
 pub mod Batch
@@ -8,7 +5,6 @@ pub mod Timeline
 pub mod Running
 pub mod Headline
 pub mod Warnings
-pub mod Intake
 pub mod Telling
 pub mod Claims
 pub mod Find

@@ -1,9 +1,9 @@
 -- What carrying out a command comes to.
 use Rattle.std.specs.Prelude.{ℕ, List, Option, IfSome}
 use Rattle.std.specs.Io.KnownBytes.{Appends}
-use Rattle.attribution_desk.specs.declared.command.Command.{Command}
-use Rattle.attribution_desk.specs.declared.command.Command.TheVariants.{Audit, Batch, Timeline, Clocks, Find, Who}
-use Rattle.attribution_desk.specs.Answer.{IsAnswer}
+use Rattle.desk_words.specs.declared.command.Command.{Command}
+use Rattle.desk_words.specs.declared.command.Command.TheVariants.{Audit, Batch, Timeline, Clocks, Find, Who}
+use Rattle.attribution_desk.specs.Answer.{IsDeskAnswer}
 use Rattle.attribution_desk.specs.Batch.{IsBatch}
 use Rattle.attribution_desk.specs.Timeline.{IsTimeline}
 use Rattle.attribution_desk.specs.Clocks.{IsClocks}
@@ -11,7 +11,7 @@ use Rattle.attribution_desk.specs.Searching.{IsFind, IsWho}
 
 -- the text and the status with which a command answers this input
 abbrev pub Answers : Command → List ℕ → List ℕ → ℕ → Type 0
-Answers (Audit skew transit) input text status = IsAnswer input skew transit text status
+Answers (Audit skew transit) input text status = IsDeskAnswer input skew transit text status
 Answers (Batch skew transit workers) input text status = IsBatch input skew transit text status
 Answers Timeline input text status = IsTimeline input text status
 Answers Clocks input text status = IsClocks input text status

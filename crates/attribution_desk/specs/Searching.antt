@@ -6,17 +6,17 @@ use Rattle.journal_lines.specs.declared.fault.JournalFault.{JournalFault}
 use Rattle.journal_text.specs.Faults.{journal_of_side}
 use Rattle.causal_order.specs.Journals.{Journals, journals_of}
 use Rattle.attribution.specs.declared.verdict.Verdict.TheVariants.{Journal as JournalVerdict}
-use Rattle.evidence_search.specs.declared.query.Query.{Query}
-use Rattle.evidence_search.specs.declared.query.HolderQuery.{HolderQuery}
+use Rattle.plain_search.specs.declared.query.Query.{Query}
+use Rattle.plain_search.specs.declared.query.HolderQuery.{HolderQuery}
 use Rattle.pair_ruling.specs.declared.ruling.Ruling.{Ruling}
 use Rattle.pair_ruling.specs.declared.ruling.Ruling.TheVariants.{Verdict}
 use Rattle.pair_ruling.specs.Ruled.{IsRuledOut, IsFit}
 use Rattle.pair_ruling.specs.Ties.{AreTied, IsDoubted}
-use Rattle.attribution_desk.specs.declared.settings.Settings.{Settings}
-use Rattle.attribution_desk.specs.declared.settings.Settings.TheVariants.{MustAgree, MayDiffer}
+use Rattle.desk_words.specs.declared.settings.Settings.{Settings}
+use Rattle.desk_words.specs.declared.settings.Settings.TheVariants.{MustAgree, MayDiffer}
 use Rattle.attribution_desk.specs.declared.searching.Search.{Search}
 use Rattle.attribution_desk.specs.declared.searching.Search.TheVariants.{Find, Who}
-use Rattle.attribution_desk.specs.Answer.{first_text, text_behind}
+use Rattle.desk_intake.specs.Input.{first_text, text_behind}
 use Rattle.attribution_desk.specs.Find.{IsRulingText, IsFinding}
 use Rattle.attribution_desk.specs.Who.{IsHolding}
 
@@ -58,7 +58,8 @@ IsSearchOf (Ok a) (Ok b) q text status = IsSearchOn a b q text status
 -- of an input: journal A, and journal B, which is all that follows
 abbrev pub IsSearch : List ℕ → Search → List ℕ → ℕ → Type 0
 IsSearch input q text status =
-    IsSearchOf (journal_of_side Primary (first_text input)) (journal_of_side Secondary (text_behind input)) q text status
+    IsSearchOf (journal_of_side Primary (first_text input)) (journal_of_side Secondary (text_behind input))
+    q text status
 
 abbrev pub IsFind : List ℕ → Query → List ℕ → ℕ → Type 0
 IsFind input q text status = IsSearch input (Find q) text status

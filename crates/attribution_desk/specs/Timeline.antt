@@ -16,7 +16,7 @@ use Rattle.journal_merge.specs.Answer.{IsAnswer as IsMerge}
 use Rattle.attribution.specs.declared.verdict.Verdict.{Verdict}
 use Rattle.attribution.specs.declared.verdict.Verdict.TheVariants.{Journal as JournalVerdict, Unsent, Differs, Circular}
 use Rattle.attribution.specs.VerdictText.{place_text, verdict_line}
-use Rattle.attribution_desk.specs.Answer.{first_text, text_behind}
+use Rattle.desk_intake.specs.Input.{first_text, text_behind}
 
 -- a line as its journal has it, its number replaced by its reference
 abbrev pub entry_line : Ref → Option Line → List ℕ

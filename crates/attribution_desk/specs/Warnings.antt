@@ -5,14 +5,15 @@ use Rattle.journal_lines.specs.declared.line.Journal.{Journal}
 use Rattle.journal_lines.specs.declared.fault.JournalFault.{JournalFault}
 use Rattle.journal_text.specs.Faults.{journal_of_side}
 use Rattle.pair_ruling.specs.Ties.{IsWarning}
-use Rattle.attribution_desk.specs.declared.command.Command.{Command}
-use Rattle.attribution_desk.specs.declared.command.Command.TheVariants.{Audit, Batch, Timeline, Clocks, Find, Who}
+use Rattle.desk_words.specs.declared.command.Command.{Command}
+use Rattle.desk_words.specs.declared.command.Command.TheVariants.{Audit, Batch, Timeline, Clocks, Find, Who}
 use Rattle.attribution_desk.specs.declared.searching.Search.{Search}
 use Rattle.attribution_desk.specs.declared.searching.Search.TheVariants.{Find as FindEvidence, Who as FindHolder}
-use Rattle.attribution_desk.specs.Answer.{first_text, text_behind}
+use Rattle.desk_intake.specs.Input.{first_text, text_behind}
 
 -- of what two texts are as journals; none where one is no journal
-abbrev pub IsWarningOf : Result Journal JournalFault → Result Journal JournalFault → (skew transit : ℕ) → List ℕ → Type 0
+abbrev pub IsWarningOf : Result Journal JournalFault → Result Journal JournalFault → (skew transit : ℕ)
+    → List ℕ → Type 0
 IsWarningOf (Ok a) (Ok b) skew transit text = IsWarning a b skew transit text
 IsWarningOf (Ok a) (Err fault) skew transit text = text ≡ []
 IsWarningOf (Err fault) b skew transit text = text ≡ []
@@ -20,7 +21,9 @@ IsWarningOf (Err fault) b skew transit text = text ≡ []
 -- of an input of two journals and certificates
 abbrev pub IsJudgingWarning : List ℕ → (skew transit : ℕ) → List ℕ → Type 0
 IsJudgingWarning input skew transit text =
-    IsWarningOf (journal_of_side Primary (first_text input)) (journal_of_side Secondary (first_text (text_behind input)))
+    IsWarningOf
+    (journal_of_side Primary (first_text input))
+    (journal_of_side Secondary (first_text (text_behind input)))
     skew transit text
 
 -- who asks for evidence is warned, who asks for a name is refused

@@ -5,7 +5,7 @@ use Rattle.time_text.specs.Time.{IsTimeText}
 use Rattle.causal_order.specs.Journals.{Journals}
 use Rattle.claims.specs.declared.certificate.Certificate.{Certificate}
 use Rattle.certificate.specs.Spelling.{line_text, holder_words, interval_words, certificate_text}
-use Rattle.evidence_search.specs.declared.query.HolderQuery.{HolderQuery}
+use Rattle.plain_search.specs.declared.query.HolderQuery.{HolderQuery}
 use Rattle.evidence_search.specs.Claim.{IsRound, IsAcceptedOf, IsWidest, HasNoPlainHolder}
 
 -- the interval as clocks show its ends

@@ -3,11 +3,11 @@
 ghost use Rattle.std.specs.Prelude.{◌≡◌, IfOk, IfErr};
 ghost use Rattle.pair_ruling.specs.Ruling.{ruling_line as line_of, status_of};
 
-use crate::error::DeskError;
+use desk_intake::DeskError;
 use pair_ruling::{Ruling, ruling_line, status_of};
 use std::alloc::Global;
 
-/// What is written, and the status that goes with it.
+/// The text that is written, and the status that goes with it.
 #[derive(Debug, Drop)]
 pub struct Answer {
     /// One line with its line feed, or a timeline.

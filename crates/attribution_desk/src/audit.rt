@@ -3,19 +3,16 @@
 ghost use Rattle.std.specs.Prelude.{◌≡◌, ◌⊎◌, true, IfOk, IfSome, IfErr, IsErrOf};
 ghost use Rattle.std.specs.Result.{ForOk};
 ghost use Rattle.journal_text.specs.Closed.{IsClosed};
-ghost use Rattle.attribution_desk.specs.Answer.{IsAnswerOf, IsAnswer};
+ghost use Rattle.attribution_desk.specs.Answer.{IsAnswerOf, IsDeskAnswer};
 ghost use Rattle.attribution_desk.specs.Running.{IsWritten};
 ghost use Rattle.attribution_desk.specs.Headline.{IsTrueInEveryRun};
 ghost use Rattle.attribution_desk.specs.Warnings.{IsJudgingWarning};
 
 use crate::answer::Answer;
-use crate::error::DeskError;
-use crate::intake::{Intake, ReadInput};
 use crate::judging::ruling_on_parsed;
 use crate::outcome::{Outcome, warnings_on};
-use crate::taking::{Taking, halvings_for, take_all};
-use crate::watched::Watched;
 use auditor::accepted_texts_are_true;
+use desk_intake::{DeskError, Intake, ReadInput, Taking, Watched, halvings_for, take_all};
 use lead_time::{Skew, Transit};
 use std::alloc::Global;
 use std::io::{Read, Write};
@@ -56,7 +53,7 @@ pub fn judge<T: Threads + Sync>(
     skew: Skew,
     transit: Transit,
 ) -> Result<Answer, DeskError>
-    ensures answer { IfOk result (λ answer. IsAnswer input.now skew transit answer.line.items answer.status) }
+    ensures answer { IfOk result (λ answer. IsDeskAnswer input.now skew transit answer.line.items answer.status) }
     // What is accepted is true in every run of the pair that leaves these journals, with each clock within the skew of
     // true time and each answer within the transit.
     ensures headline { IfOk result (λ answer. answer.status ≡ 0 → IsTrueInEveryRun input.now skew transit) }
@@ -76,7 +73,7 @@ pub(crate) fn audit_input<T: Threads + Sync, R: Read, W: Write>(
     reader: &mut Watched<R>,
     writer: &mut Watched<W>,
 ) -> Result<Outcome, DeskError>
-    ensures written { IfOk result (λ outcome. IsWritten (λ input. IsAnswer input skew transit)
+    ensures written { IfOk result (λ outcome. IsWritten (λ input. IsDeskAnswer input skew transit)
         (R.remaining reader.old.device) (W.contents writer.old.device) (W.contents writer.new.device) outcome.status) }
     ensures warned { IfOk result (λ outcome. IfSome (R.remaining reader.old.device)
         (λ input. IsJudgingWarning input skew transit outcome.warnings.items)) }

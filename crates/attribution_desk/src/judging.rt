@@ -6,12 +6,12 @@ ghost use Rattle.certificate.specs.Faults.{certificate_of};
 ghost use Rattle.journal_text.specs.Closed.{IsClosed};
 ghost use Rattle.attribution_desk.specs.Rulings.{IsRulingOfJournals, IsRulingOfParsed};
 
-use crate::error::DeskError;
 use attribution::Verdict;
 use auditor::audit;
 use binding_rules::Role;
 use certificate::CertificateError;
 use claims::Certificate;
+use desk_intake::DeskError;
 use journal_lines::{Journal, JournalFault};
 use journal_merge::placing_holds;
 use lead_time::{Skew, Transit};
@@ -20,7 +20,7 @@ use pair_ruling::{Ruled, Ruling, rule_pair};
 use std::alloc::Global;
 use std::thread::Threads;
 
-/// What stands against the two journals; else the verdict of `audit`.
+/// Returns what stands against the two journals; else the verdict of `audit`.
 fn ruling_on_journals(
     rt: &(impl Threads + Sync),
     alloc: Global,

@@ -3,13 +3,13 @@
 ghost use Rattle.std.specs.Prelude.{◌≡◌, [], IfOk, IfErr};
 ghost use Rattle.attribution_desk.specs.Warnings.{IsWarningOf};
 
-use crate::error::DeskError;
+use desk_intake::DeskError;
 use journal_lines::{Journal, JournalFault};
 use lead_time::{Skew, Transit};
 use pair_ruling::warnings;
 use std::alloc::Global;
 
-/// What is told beside the answer that was written.
+/// The status and the warnings that go with the answer that was written.
 #[derive(Debug, Drop)]
 pub struct Outcome {
     /// 0 where everything was accepted or found, else 1.

@@ -8,8 +8,8 @@ use Rattle.journal_lines.specs.declared.line.Line.{Line}
 use Rattle.journal_lines.specs.Head.{volume_number}
 use Rattle.causal_order.specs.Journals.{journals_of}
 use Rattle.book_rules.specs.declared.rule.Rule.TheVariants.{Sequence}
-use Rattle.book_rules.specs.Book.{Book, blank}
-use Rattle.book_rules.specs.Effects.{after}
+use Rattle.book_state.specs.Book.{Book, blank}
+use Rattle.book_state.specs.Effects.{after}
 use Rattle.book_rules.specs.VolumeRules.{KeepsSequence}
 use Rattle.book_rules.specs.Volumes.{AreSteps}
 use Rattle.attribution.specs.declared.verdict.Verdict.TheVariants.{Accepted}

@@ -14,7 +14,7 @@ use Rattle.certificate.specs.Laws.{CertificatesAreSpelled}
 use Rattle.attribution.specs.declared.verdict.Verdict.{Verdict}
 use Rattle.attribution.specs.declared.verdict.Verdict.TheVariants.{Accepted}
 use Rattle.attribution.specs.FirstRefusal.{IsVerdict}
-use Rattle.book_rules.specs.NextHead.{IsLegal}
+use Rattle.volume_heads.specs.NextHead.{AreLegal}
 use Rattle.attribution.proofs.Refusals.{accepted_from}
 use Rattle.attribution.proofs.Headline.{headline}
 use Rattle.attribution.proofs.Lawful.{lawful}
@@ -39,7 +39,7 @@ accepted_parsed spelled a b certificate skew transit r accepted h ja jb claim ra
     let first = subst (λ x. IsVerdictOfParsed x b skew transit (certificate_of certificate) Accepted) ra read in
     let second = subst (λ x. IsVerdictOfParsed (Ok ja) x skew transit (certificate_of certificate) Accepted) rb first in
     let third : IsVerdictOfJournals ja jb skew transit claim Accepted = subst (λ x. IsVerdictOfParsed (Ok ja) (Ok jb) skew transit x Accepted) rc second in
-    headline IsLegal lawful (journals_of ja jb) skew transit claim (accepted_from (journals_of ja jb) skew transit claim (over_certificate ja jb skew transit claim third))
+    headline AreLegal lawful (journals_of ja jb) skew transit claim (accepted_from (journals_of ja jb) skew transit claim (over_certificate ja jb skew transit claim third))
 
 -- over a legal pair the verdict is that on the certificate
 pub over_legal : (a b : Lines) (skew transit : ℕ) (claim : Claim) (js : Journals) (v : Verdict) (m : Merged) → IsChecked a b (Legal m) → js ≡ journals_of a b → IsVerdict js skew transit claim v

@@ -13,7 +13,7 @@ use Rattle.certificate.specs.Spelling.{certificate_text, IsWritten as IsWrittenC
 use Rattle.certificate.specs.Faults.{certificate_of}
 use Rattle.attribution.specs.declared.verdict.Verdict.{Verdict}
 use Rattle.attribution.specs.declared.verdict.Verdict.TheVariants.{Accepted, Journal, Certificate}
-use Rattle.book_rules.specs.NextHead.{IsLegal}
+use Rattle.volume_heads.specs.NextHead.{AreLegal}
 use Rattle.attribution.specs.Acceptance.{IsAccepted, IsTrueInEveryRun}
 use Rattle.attribution.specs.FirstRefusal.{IsVerdict}
 use Rattle.auditor.specs.Pair.{IsPairRefused, IsPairLegal}
@@ -60,13 +60,13 @@ abbrev pub ParsedIsTrueInEveryRun : Result Lines JournalFault → Result Lines J
     → Type 0
 ParsedIsTrueInEveryRun a b certificate skew transit =
     (ja jb : Lines) (claim : Claim) → a ≡ Ok ja → b ≡ Ok jb → SpellsCertificate certificate claim
-    → IsTrueInEveryRun IsLegal (journals_of ja jb) skew transit claim
+    → IsTrueInEveryRun AreLegal (journals_of ja jb) skew transit claim
 
 -- the certificate that the third text spells is true in every run that leaves the journals that the first two spell
 abbrev pub TextsAreTrueInEveryRun : (a b certificate : List ℕ) → (skew transit : ℕ) → Type 0
 TextsAreTrueInEveryRun a b certificate skew transit = (ja jb : Lines) (claim : Claim)
     → SpellsJournal Primary a ja → SpellsJournal Secondary b jb → SpellsCertificate certificate claim
-    → IsTrueInEveryRun IsLegal (journals_of ja jb) skew transit claim
+    → IsTrueInEveryRun AreLegal (journals_of ja jb) skew transit claim
 
 -- ---- laws of verdicts on texts
 

@@ -3,7 +3,7 @@
 ghost use Rattle.std.specs.Prelude.{◌≡◌, ◌↔◌, IsTrue, MatchOption};
 ghost use Rattle.attribution.specs.Acceptance.{IsTrueInEveryRun, Reaches};
 ghost use Rattle.attribution.specs.FirstRefusal.{IsMet, Refuses, IsVerdict};
-ghost use Rattle.book_rules.specs.NextHead.{IsLegal};
+ghost use Rattle.volume_heads.specs.NextHead.{AreLegal};
 
 use crate::foreign::{first_unreasoned, least_uncovered};
 use crate::opened::is_past_open;
@@ -98,7 +98,7 @@ pub fn audit<S: LineSource>(
     // What is accepted is true in every run of the pair that leaves the source's journals, whatever volumes came
     // before, with each clock within the skew of true time and each answer within the transit.
     ensures headline { result ≡ Verdict.Accepted
-        → IsTrueInEveryRun IsLegal (S.journals source.now) skew transit certificate.now }
+        → IsTrueInEveryRun AreLegal (S.journals source.now) skew transit certificate.now }
 {
     judgment(source, certificate, skew, transit)
 }

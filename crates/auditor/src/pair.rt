@@ -12,7 +12,7 @@ use journal_lines::Journal;
 use journal_merge::{MergeError, Merged, merge};
 use std::alloc::Global;
 
-/// What two journals come to, whatever is claimed over them.
+/// The finding on two journals, whatever is claimed over them.
 #[derive(Debug, Drop)]
 pub enum Checked {
     /// Both keep the rules and could both be true: their lines in one order.

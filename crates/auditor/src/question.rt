@@ -8,7 +8,7 @@ use attribution::Delegation;
 use journal_lines::Event;
 use prefix_range::Prefix;
 
-/// What is asked of an event.
+/// A question that is asked of an event.
 #[derive(Clone, Copy, Debug, PartialEq, Eq)]
 pub enum Question {
     /// Whether it grants or carries a prefix that overlaps this one, or gives one back.

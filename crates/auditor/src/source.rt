@@ -25,7 +25,7 @@ pub trait LineSource: Lines {
     /// What a walk over the releases of a delegation has yet to give.
     ghost returned: { Self → DelegationValue → WalkValue → List RefValue };
 
-    /// What the clock showed when the side's journal was closed.
+    /// Returns what the clock showed when the side's journal was closed.
     fn close_reading(&self, side: Role) -> Reading
         ensures { ClosesAt (journal_of (Self.journals self.now) side) result };
 

@@ -21,7 +21,7 @@ use journal_text::{JournalError, read_side, text_gives_what_it_spells, written_i
 use lead_time::{Skew, Transit};
 use std::alloc::Global;
 
-/// What refuses the two journals; else the verdict of `audit`.
+/// Returns what refuses the two journals; else the verdict of `audit`.
 fn verdict_on_journals(
     alloc: Global,
     primary: &Journal,

@@ -11,7 +11,7 @@ use server_book::{Book, BookError, IaAnswer, Order, Reply, answer_of, order_of};
 use std::alloc::Global;
 use text_fields::push_octets;
 
-/// What is told of a refusal, if anything.
+/// Returns what is told of a refusal, if anything.
 fn refused(error: &BookError) -> Result<IaAnswer, Fault> {
     match error {
         BookError::NoPrefix => Ok(IaAnswer::NoPrefix),
@@ -20,7 +20,7 @@ fn refused(error: &BookError) -> Result<IaAnswer, Fault> {
     }
 }
 
-/// What an order gets.
+/// Returns what an order gets.
 fn applied(book: &mut Book, now: Reading, order: &Order) -> Result<IaAnswer, Fault> {
     match &book.apply(now, order) {
         Ok(Reply::Granted { prefix, valid }) => Ok(IaAnswer::Given {
@@ -32,7 +32,7 @@ fn applied(book: &mut Book, now: Reading, order: &Order) -> Result<IaAnswer, Fau
     }
 }
 
-/// What a Request would get.
+/// Returns what a Request would get.
 fn offered(book: &Book, now: Reading, order: &Order) -> Result<IaAnswer, Fault> {
     let Order::Request(asked) = order else {
         return Err(Fault::Words);
@@ -43,7 +43,7 @@ fn offered(book: &Book, now: Reading, order: &Order) -> Result<IaAnswer, Fault> 
     }
 }
 
-/// What becomes of a message's IA_PD at a place.
+/// Returns what becomes of a message's IA_PD at a place.
 fn served(
     book: &mut Book,
     now: Reading,
@@ -59,7 +59,7 @@ fn served(
     }
 }
 
-/// What becomes of each IA_PD of a message.
+/// Returns what becomes of each IA_PD of a message.
 fn all_served(
     alloc: Global,
     book: &mut Book,

@@ -96,7 +96,7 @@ impl Probe {
     }
 }
 
-/// What stands in a line's place.
+/// Returns what stands in a line's place.
 fn answered(alloc: Global, probe: &mut Probe, line: &str) -> io::Result<Vec<u8>> {
     let mut out = Vec::new(alloc);
     if line.is_empty() || line.starts_with('#') {

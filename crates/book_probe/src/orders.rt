@@ -20,7 +20,7 @@ fn named(word: &str) -> Result<Prefix, Fault> {
     read_canonical(word.as_bytes()).map_err(|_| Fault::Words)
 }
 
-/// What a client asks about.
+/// Returns what a client asks about.
 pub fn asked_in(words: &mut Words<'_>) -> Result<Asked, Fault> {
     let client = words.client()?;
     let iaid = words.iaid()?;
@@ -93,7 +93,7 @@ fn order_in(alloc: Global, words: &mut Words<'_>) -> Result<Order, Fault> {
     }
 }
 
-/// What a book makes of an order.
+/// Appends what a book makes of an order.
 fn add_applied(
     alloc: Global,
     out: &mut Vec<u8>,

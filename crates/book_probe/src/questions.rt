@@ -50,7 +50,7 @@ fn add_side(out: &mut Vec<u8>, unit: &Unit, side: Side) -> Result<(), AllocError
     }
 }
 
-/// What a book knows of the unit of a prefix.
+/// Appends what a book knows of the unit of a prefix.
 fn add_known(out: &mut Vec<u8>, book: &Book, prefix: Prefix, side: Side) -> Result<(), AllocError> {
     match &book.unit(prefix) {
         Some(unit) => add_side(out, unit, side),

@@ -8,7 +8,7 @@ use crate::replies::add_opening_refusal;
 use crate::words::Words;
 use binding_rules::Role;
 use line_words::{add_duid, add_number, add_word};
-use server_book::Settings;
+use server_book::{Settings, read_settings};
 use std::alloc::{AllocError, Global};
 
 /// A text with the characters that its escapes stand for.
@@ -37,9 +37,9 @@ fn add_fit(out: &mut Vec<u8>, settings: &Settings) -> Result<(), AllocError> {
     add_number(out, settings.pools().len() as u64)
 }
 
-/// What octets are as settings.
+/// Appends what octets are as settings.
 fn add_read(alloc: Global, out: &mut Vec<u8>, octets: &[u8]) -> Result<(), Fault> {
-    match &Settings::read(alloc, octets) {
+    match &read_settings(alloc, octets) {
         Ok(settings) => Ok(add_fit(out, settings)?),
         Err(error) => Ok(add_opening_refusal(out, error)?),
     }

@@ -5,14 +5,14 @@ use crate::replies::{add_opening_refusal, add_refusal};
 use crate::shelf::Shelf;
 use crate::words::Words;
 use line_words::add_word;
-use server_book::{Book, BookError, OpenError, Settings};
+use server_book::{Book, BookError, OpenError, read_settings};
 use std::alloc::Global;
 
 fn opened(alloc: Global, settings: &str, words: &mut Words<'_>) -> Result<Book, OpenError> {
     let Ok(now) = words.reading() else {
         return Err(OpenError::Settings);
     };
-    let settings = Settings::read(alloc, settings.as_bytes())?;
+    let settings = read_settings(alloc, settings.as_bytes())?;
     Book::open(alloc, now, &settings)
 }
 

@@ -1,17 +1,7 @@
-pub mod Ranges
-pub mod PlaceLaws
-pub mod TableLaws
-pub mod MarkLaws
-pub mod Orders
 pub mod RuleGroups
 pub mod RuleNumbers
 pub mod EffectLaws
 pub mod StepLaws
 pub mod Replays
 pub mod OneVerdict
-pub mod HeadSteps
-pub mod Settings
-pub mod NextHead
-pub mod Sorting
-pub mod OneNext
 pub mod OwnReplies

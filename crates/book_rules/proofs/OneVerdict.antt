@@ -3,9 +3,9 @@ use Rattle.std.proofs.Common.{◌≡◌, List, [], ◌∷◌, ◌++◌, length, 
 use Rattle.std.proofs.lemmas.Bool.{cases_lt}
 use Rattle.journal_lines.specs.declared.line.Line.{Line}
 use Rattle.book_rules.specs.declared.rule.Rule.{Rule}
-use Rattle.book_rules.specs.Book.{Book, blank}
+use Rattle.book_state.specs.Book.{Book, blank}
 use Rattle.book_rules.specs.Rules.{Keeps, IsStep, IsLeastBroken, rule_number}
-use Rattle.book_rules.specs.Effects.{after}
+use Rattle.book_state.specs.Effects.{after}
 use Rattle.book_rules.specs.Volumes.{AreSteps, book_after}
 use Rattle.book_rules.specs.Laws.{LegalIsUnbroken, OneFirstBroken}
 use Rattle.book_rules.proofs.RuleNumbers.{one_number}

@@ -7,7 +7,7 @@ use Rattle.journal_lines.specs.declared.line.Line.{Line}
 use Rattle.book_rules.specs.declared.rule.TheConstants.{RULES}
 use Rattle.book_rules.specs.declared.rule.Rule.{Rule}
 use Rattle.book_rules.specs.declared.rule.Rule.TheVariants.{Sequence, Opening, Pools, Unit as UnitRule, Waiting, Grant, Lifetime, Release, Expiry, Backup, Reclaim, Serial, Update, Reply, Contact, Down, Restart, Head, Transit, Seize}
-use Rattle.book_rules.specs.Book.{Book}
+use Rattle.book_state.specs.Book.{Book}
 use Rattle.book_rules.specs.Rules.{rule_number, Keeps, IsStep, IsLeastBroken}
 
 abbrev AreNumbered : ℕ → List Rule → Type 0

@@ -1,8 +1,8 @@
 -- For bodies only: what keeps a table's counters within their limits.
 use Rattle.std.specs.Prelude.{◌+◌, ◌^◌, ◌≤◌}
 use Rattle.prefix_range.specs.Prefix.{Prefix}
-use Rattle.book_rules.specs.declared.standing.Standing.{Standing}
-use Rattle.book_rules.specs.Places.{Delegable, unit_at}
+use Rattle.book_state.specs.declared.standing.Standing.{Standing}
+use Rattle.book_state.specs.Places.{Delegable, unit_at}
 
 -- each line counts at most one change of a unit, one message and one restart, and a later volume begins with at most
 -- 2^48 of each

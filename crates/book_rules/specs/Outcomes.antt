@@ -8,7 +8,7 @@ use Rattle.binding_rules.specs.declared.taking.Outcome.{Outcome}
 use Rattle.binding_rules.specs.declared.taking.Outcome.TheVariants.{Accept, Drop}
 use Rattle.binding_rules.specs.Table.{outcome_of}
 use Rattle.binding_rules.specs.Reply.{after_reply}
-use Rattle.book_rules.specs.Book.{Book, is_unit}
+use Rattle.book_state.specs.Book.{Book, is_unit}
 
 -- a reply that changes nothing is dropped
 abbrev pub reply_outcome : Option UnitValue → Outcome

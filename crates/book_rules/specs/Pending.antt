@@ -4,7 +4,7 @@ use Rattle.prefix_range.specs.Prefix.{Prefix}
 use Rattle.binding_rules.specs.declared.role.Role.{Role}
 use Rattle.binding_rules.specs.declared.update.BindReply.{BindReply}
 use Rattle.journal_lines.specs.declared.line.Line.{Line}
-use Rattle.book_rules.specs.Book.{blank}
+use Rattle.book_state.specs.Book.{blank}
 use Rattle.book_rules.specs.Volumes.{book_after}
 
 -- what lines leave a unit to reply is about that unit

@@ -53,7 +53,7 @@ pub enum Rule {
 }
 
 /// The rules, by their numbers.
-pub const RULES: [Rule; 20] = [
+pub(crate) const RULES: [Rule; 20] = [
     Rule::Sequence,
     Rule::Opening,
     Rule::Pools,

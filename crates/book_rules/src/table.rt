@@ -2,11 +2,14 @@
 
 ghost use Rattle.book_rules.specs.Fits.{Fits};
 
-use crate::standing::Standing;
-use crate::units::Units;
+use book_state::{Standing, Units};
+
+mod looking;
+mod making;
+mod replaying;
 
 /// The state of a server's book: its settings, its numbers, and each unit as the lines so far left it. Contracts see
-/// the book of specs/Book by `state`.
+/// the `Book` of `book_state` by `state`.
 #[derive(Drop)]
 pub struct Table {
     pub(crate) standing: Standing,

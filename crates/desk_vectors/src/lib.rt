@@ -1,5 +1,5 @@
-//! Vectors from outside for the texts and the desk where no example can show them: texts in chunks and parts, devices that
-//! fail, lines that no text gives, and what a certificate that was read is written as.
+//! Vectors from outside for the texts and the desk where no example can show them: texts in chunks and parts, devices
+//! that fail, lines that no text gives, and what a certificate that was read is written as.
 #![tactic(auto)]
 
 #[cfg(test)]

@@ -23,15 +23,16 @@ use Rattle.attribution.proofs.Tiling.{pieces_meet}
 use Rattle.attribution.proofs.Refusals.{one_lease, accepted_from, verdict_from, one_verdict}
 use Rattle.attribution.proofs.Deciding.{tells_told}
 use Rattle.auditor.proofs.Leases.{one_told}
-use Rattle.evidence_search.specs.declared.query.Query.{Query}
-use Rattle.evidence_search.specs.declared.reach.Candidate.{Candidate}
-use Rattle.evidence_search.specs.declared.reach.Reach.{Reach}
-use Rattle.evidence_search.specs.Plain.{IsOneLine, IsPlainWhy, IsPlainClear, IsPlainPiece, IsPlainForeign, IsPlain}
+use Rattle.plain_search.specs.declared.query.Query.{Query}
+use Rattle.plain_search.specs.declared.reach.Candidate.{Candidate}
+use Rattle.plain_search.specs.declared.reach.Reach.{Reach}
+use Rattle.plain_search.specs.Plain.{IsOneLine, IsPlainWhy, IsPlainClear, IsPlainPiece, IsPlainForeign, IsPlain}
 use Rattle.evidence_search.specs.Claim.{Claims, IsShown, HasNoPlainEvidence}
-use Rattle.evidence_search.specs.Search.{IsReadAt, IsPastPartners, IsCandidate, IsKeptTo, AreKeptTo, CarriesTo, begin_of, CarriesAt, IsReach, HasGap, piece_with, certificate_with, IsPlainEntry, AreEntries, IsFound, ReachTo, IsAside, AreForeign, IsInTheWay, IsPutTogether}
-use Rattle.evidence_search.proofs.Orders.{partner_differs, read_line, line_read, one_reading, by_alone, from_alone, by_one, from_one, before_shown, shown_before}
-use Rattle.evidence_search.proofs.Kept.{weaker}
-use Rattle.evidence_search.proofs.Tiling.{all_has}
+use Rattle.evidence_search.specs.Search.{certificate_with, IsPutTogether}
+use Rattle.plain_search.specs.Search.{IsReadAt, IsPastPartners, IsCandidate, IsKeptTo, AreKeptTo, CarriesTo, begin_of, CarriesAt, IsReach, HasGap, piece_with, IsPlainEntry, AreEntries, IsFound, ReachTo, IsAside, AreForeign, IsInTheWay}
+use Rattle.plain_search.proofs.Orders.{partner_differs, read_line, line_read, one_reading, by_alone, from_alone, by_one, from_one, before_shown, shown_before}
+use Rattle.plain_search.proofs.Kept.{weaker}
+use Rattle.plain_search.proofs.Tiling.{all_has}
 
 -- ---- certificates of a query
 

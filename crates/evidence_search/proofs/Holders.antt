@@ -11,14 +11,15 @@ use Rattle.attribution.specs.Tests.{lease_of}
 use Rattle.attribution.proofs.Refusals.{accepted_from}
 use Rattle.auditor.specs.Closing.{ClosesAt}
 use Rattle.auditor.proofs.Leases.{one_granted}
-use Rattle.evidence_search.specs.declared.query.HolderQuery.{HolderQuery}
-use Rattle.evidence_search.specs.declared.reach.Reach.{Reach}
+use Rattle.plain_search.specs.declared.query.HolderQuery.{HolderQuery}
+use Rattle.plain_search.specs.declared.reach.Reach.{Reach}
 use Rattle.evidence_search.specs.Claim.{HasNoPlainEvidence, held_by, HasNoPlainHolder}
-use Rattle.evidence_search.specs.Search.{CarriesAt, IsReach, HasMoment, IsClientAt}
-use Rattle.evidence_search.proofs.Candidates.{no_lease, grants_at, none_at, reached}
-use Rattle.evidence_search.proofs.Carrying.{carried_listed}
+use Rattle.evidence_search.specs.Search.{HasMoment, IsClientAt}
+use Rattle.plain_search.specs.Search.{CarriesAt, IsReach}
+use Rattle.plain_search.proofs.Candidates.{no_lease, grants_at, none_at, reached}
+use Rattle.plain_search.proofs.Carrying.{carried_listed}
 use Rattle.evidence_search.proofs.Complete.{none_over_gap}
-use Rattle.evidence_search.proofs.Walked.{Passed, passed_none, passed_on, passed_all}
+use Rattle.plain_search.proofs.Walked.{Passed, passed_none, passed_on, passed_all}
 
 -- ---- the client of a line
 

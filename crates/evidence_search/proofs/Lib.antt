@@ -1,15 +1,3 @@
-pub mod Orders
-pub mod Walked
-pub mod Candidates
-pub mod Kept
-pub mod Carrying
-pub mod Cleared
-pub mod Sweeping
-pub mod Tiling
-pub mod Reasons
 pub mod Complete
 pub mod Holders
 pub mod Widened
-pub mod Collecting
-pub mod Halving
-pub mod Passing

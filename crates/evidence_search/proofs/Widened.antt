@@ -8,10 +8,10 @@ use Rattle.causal_order.specs.Journals.{Journals, journal_of}
 use Rattle.attribution.specs.Acceptance.{ClosesFrom, IsTrueInEveryRun}
 use Rattle.attribution.proofs.Refusals.{accepted_from}
 use Rattle.auditor.specs.Closing.{ClosesAt}
-use Rattle.book_rules.specs.NextHead.{IsLegal}
-use Rattle.evidence_search.specs.declared.query.Query.{Query}
-use Rattle.evidence_search.specs.declared.query.HolderQuery.{HolderQuery}
-use Rattle.evidence_search.specs.declared.error.FindError.{FindError}
+use Rattle.volume_heads.specs.NextHead.{AreLegal}
+use Rattle.plain_search.specs.declared.query.Query.{Query}
+use Rattle.plain_search.specs.declared.query.HolderQuery.{HolderQuery}
+use Rattle.plain_search.specs.declared.error.FindError.{FindError}
 use Rattle.evidence_search.specs.Claim.{asked, between, held_by, Claims, IsShown, HasNoPlainEvidence, IsRound, IsAcceptedOf, IsWidest}
 use Rattle.evidence_search.specs.Search.{IsShownRound}
 
@@ -19,7 +19,7 @@ pub past_reading : (lines : List Line) (reading limit : ℕ) → ClosesAt lines 
 past_reading lines reading limit h lt x = let is = h.each x.0 x.1 x.2 in let le = x.3 in absurd (omega arith)
 
 module _ (js : Journals) (q : Query) where
-  pub shown_round : (c : Certificate) (from to : ℕ) → from ≤ q.from → q.to ≤ to → Claims (between q from to) c → IsShown js (between q from to) c → IsTrueInEveryRun IsLegal js q.skew q.transit c
+  pub shown_round : (c : Certificate) (from to : ℕ) → from ≤ q.from → q.to ≤ to → Claims (between q from to) c → IsShown js (between q from to) c → IsTrueInEveryRun AreLegal js q.skew q.transit c
       → IsShownRound js q c
   shown_round c from to before behind claims shown true = record {
     holder = claims.holder;
@@ -65,7 +65,7 @@ module _ (js : Journals) (q : HolderQuery) (holder : List ℕ) where
   accepted_of (Err e) h = tt
   accepted_of (Ok c) h = record { verdict = h.shown.verdict }
 
-  pub true_of : (r : Result Certificate FindError) → IfOk r (IsShownRound js Held) → IfOk r (IsTrueInEveryRun IsLegal js q.skew q.transit)
+  pub true_of : (r : Result Certificate FindError) → IfOk r (IsShownRound js Held) → IfOk r (IsTrueInEveryRun AreLegal js q.skew q.transit)
   true_of (Err e) h = tt
   true_of (Ok c) h = h.headline
 

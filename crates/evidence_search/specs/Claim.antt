@@ -5,9 +5,9 @@ use Rattle.claims.specs.declared.certificate.Certificate.{Certificate}
 use Rattle.causal_order.specs.Journals.{Journals}
 use Rattle.attribution.specs.declared.verdict.Verdict.TheVariants.{Accepted}
 use Rattle.attribution.specs.FirstRefusal.{IsVerdict}
-use Rattle.evidence_search.specs.declared.query.Query.{Query}
-use Rattle.evidence_search.specs.declared.query.HolderQuery.{HolderQuery}
-use Rattle.evidence_search.specs.Plain.{IsPlain}
+use Rattle.plain_search.specs.declared.query.Query.{Query}
+use Rattle.plain_search.specs.declared.query.HolderQuery.{HolderQuery}
+use Rattle.plain_search.specs.Plain.{IsPlain}
 
 -- who is asked of, which prefix and interval, and the bounds on clocks and answers
 abbrev pub asked : (holder : List ℕ) → Prefix → (from to skew transit : ℕ) → Query

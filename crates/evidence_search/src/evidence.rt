@@ -4,15 +4,10 @@ ghost use Rattle.std.specs.Prelude.{◌≡◌, IfOk, IsErrOf, ◌<◌};
 ghost use Rattle.evidence_search.specs.Claim.{Claims, HasNoPlainEvidence};
 ghost use Rattle.evidence_search.specs.Search.{certificate_with, IsPutTogether};
 
-use crate::error::FindError;
-use crate::foreign::foreign_entries;
-use crate::linked_foreign::linked_foreign;
-use crate::linked_pieces::linked_pieces;
-use crate::messages::Messages;
-use crate::pieces::pieces;
-use crate::query::Query;
 use auditor::LineSource;
 use claims::{Certificate, ForeignList, PieceList};
+use message_search::{Messages, linked_foreign, linked_pieces};
+use plain_search::{FindError, Query, foreign_entries, pieces};
 use std::alloc::Global;
 
 /// A certificate of the query with these pieces and entries.

@@ -2,18 +2,17 @@
 
 ghost use Rattle.std.specs.Prelude.{◌≡◌, ◌↔◌, IsTrue, IfOk, IsErrOf};
 ghost use Rattle.attribution.specs.Acceptance.{IsTrueInEveryRun};
-ghost use Rattle.book_rules.specs.NextHead.{IsLegal};
+ghost use Rattle.volume_heads.specs.NextHead.{AreLegal};
 ghost use Rattle.evidence_search.specs.Claim.{asked, Claims, IsShown, HasNoPlainEvidence};
 
-use crate::error::FindError;
 use crate::evidence::{evidence, linked_evidence};
-use crate::messages::Messages;
-use crate::query::Query;
 use attribution::Verdict;
 use auditor::{LineSource, audit};
 use claims::Certificate;
 use client_id::Duid;
 use lead_time::{Reading, Skew, Transit};
+use message_search::Messages;
+use plain_search::{FindError, Query};
 use prefix_range::Prefix;
 use std::alloc::Global;
 
@@ -26,7 +25,7 @@ fn is_accepted(verdict: &Verdict) -> bool
 /// Whether the auditor accepts the certificate.
 fn is_shown<S: LineSource>(source: &S, query: &Query, certificate: &Certificate) -> bool
     ensures shown { IsTrue result ↔ IsShown (S.journals source.now) query.now certificate.now }
-    ensures headline { IsTrue result → IsTrueInEveryRun IsLegal (S.journals source.now) query.now.skew
+    ensures headline { IsTrue result → IsTrueInEveryRun AreLegal (S.journals source.now) query.now.skew
         query.now.transit certificate.now }
 {
     is_accepted(&audit(source, certificate, query.skew, query.transit))
@@ -34,7 +33,7 @@ fn is_shown<S: LineSource>(source: &S, query: &Query, certificate: &Certificate)
 
 /// The certificate that single lines make for the query, where the auditor accepts it.
 #[tactic(auto, using(crate::proofs::Complete::none_of_empty))]
-fn plain_search<S: LineSource>(
+fn line_search<S: LineSource>(
     alloc: Global,
     source: &S,
     query: &Query,
@@ -42,7 +41,7 @@ fn plain_search<S: LineSource>(
     ensures claims { IfOk result (Claims query.now) }
     ensures shown { IfOk result (IsShown (S.journals source.now) query.now) }
     ensures headline { IfOk result
-        (IsTrueInEveryRun IsLegal (S.journals source.now) query.now.skew query.now.transit) }
+        (IsTrueInEveryRun AreLegal (S.journals source.now) query.now.skew query.now.transit) }
     ensures none { IsErrOf result FindError.NoneFound → HasNoPlainEvidence (S.journals source.now) query.now }
 {
     if query.from >= query.to {
@@ -65,7 +64,7 @@ fn linked_search<S: LineSource>(
     ensures claims { IfOk result (Claims query.now) }
     ensures shown { IfOk result (IsShown (S.journals source.now) query.now) }
     ensures headline { IfOk result
-        (IsTrueInEveryRun IsLegal (S.journals source.now) query.now.skew query.now.transit) }
+        (IsTrueInEveryRun AreLegal (S.journals source.now) query.now.skew query.now.transit) }
 {
     let certificate = linked_evidence(alloc, source, messages, query)?;
     if !is_shown(source, query, &certificate) {
@@ -74,7 +73,7 @@ fn linked_search<S: LineSource>(
     Ok(certificate)
 }
 
-/// What single lines show of the query, or else what chains over these messages do, where there are any.
+/// Returns what single lines show of the query, or else what chains over these messages do, where there are any.
 pub fn search_over<S: LineSource>(
     alloc: Global,
     source: &S,
@@ -84,10 +83,10 @@ pub fn search_over<S: LineSource>(
     ensures claims { IfOk result (Claims query.now) }
     ensures shown { IfOk result (IsShown (S.journals source.now) query.now) }
     ensures headline { IfOk result
-        (IsTrueInEveryRun IsLegal (S.journals source.now) query.now.skew query.now.transit) }
+        (IsTrueInEveryRun AreLegal (S.journals source.now) query.now.skew query.now.transit) }
     ensures none { IsErrOf result FindError.NoneFound → HasNoPlainEvidence (S.journals source.now) query.now }
 {
-    let plain = plain_search(alloc, source, query);
+    let plain = line_search(alloc, source, query);
     let Some(messages) = messages else {
         return plain;
     };
@@ -97,15 +96,15 @@ pub fn search_over<S: LineSource>(
     }
 }
 
-/// What single lines show of the query, or else what chains do.
+/// Returns what single lines show of the query, or else what chains do.
 fn search<S: LineSource>(alloc: Global, source: &S, query: &Query) -> Result<Certificate, FindError>
     ensures claims { IfOk result (Claims query.now) }
     ensures shown { IfOk result (IsShown (S.journals source.now) query.now) }
     ensures headline { IfOk result
-        (IsTrueInEveryRun IsLegal (S.journals source.now) query.now.skew query.now.transit) }
+        (IsTrueInEveryRun AreLegal (S.journals source.now) query.now.skew query.now.transit) }
     ensures none { IsErrOf result FindError.NoneFound → HasNoPlainEvidence (S.journals source.now) query.now }
 {
-    match plain_search(alloc, source, query) {
+    match line_search(alloc, source, query) {
         Err(FindError::NoneFound) => {
             let messages = Messages::between(alloc, source)?;
             linked_search(alloc, source, &messages, query)
@@ -133,7 +132,7 @@ pub fn find_certificate<S: LineSource>(
     ensures shown { IfOk result (IsShown (S.journals source.now) (asked holder prefix from to skew transit)) }
     // What is found is true in every run of the pair that leaves the source's journals, whatever volumes came before,
     // with each clock within the skew of true time and each answer within the transit.
-    ensures headline { IfOk result (IsTrueInEveryRun IsLegal (S.journals source.now) skew transit) }
+    ensures headline { IfOk result (IsTrueInEveryRun AreLegal (S.journals source.now) skew transit) }
     ensures none { IsErrOf result FindError.NoneFound
         → HasNoPlainEvidence (S.journals source.now) (asked holder prefix from to skew transit) }
 {

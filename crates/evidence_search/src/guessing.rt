@@ -1,20 +1,17 @@
 //! How far round a query evidence may reach: guesses, which a search is asked about like any other interval.
 
 ghost use Rattle.std.specs.Prelude.{OnOk};
-ghost use Rattle.evidence_search.specs.Collected.{IsRecent};
+ghost use Rattle.plain_search.specs.Collected.{IsRecent};
 
-use crate::asking::reading_at;
-use crate::foreign::{begins_late, others_at};
-use crate::query::Query;
-use crate::reach::{Reach, reaches};
-use crate::recent::Recent;
-use crate::releases::first_returning;
 use attribution::{Delegation, Lasting};
 use auditor::LineSource;
 use binding_rules::Role;
 use causal_order::Ref;
 use journal_lines::Lease;
 use lead_time::Reading;
+use plain_search::{
+    Query, Reach, Recent, begins_late, first_returning, others_at, reaches, reading_at,
+};
 use std::alloc::{AllocError, Global};
 
 /// From when to when, in milliseconds.
@@ -40,7 +37,7 @@ impl Guess {
     }
 }
 
-/// What grants carry end to end round the moment. They stand in the order in which they begin.
+/// Returns what grants carry end to end round the moment. They stand in the order in which they begin.
 fn carried_round(reaches: &[Reach], moment: Reading) -> Guess {
     let mut carried = Guess { from: 0, to: 0 };
     for reach in reaches {
@@ -70,7 +67,7 @@ fn ended(query: &Query, lasting: Lasting, told: Reading) -> u64 {
     }
 }
 
-/// What another client's delegation leaves of the guess.
+/// Returns what another client's delegation leaves of the guess.
 fn beside<S: LineSource>(
     alloc: Global,
     source: &S,
@@ -99,7 +96,7 @@ fn beside<S: LineSource>(
     Ok(guess.not_before(over))
 }
 
-/// What the side's journal leaves of the guess: where it has earlier volumes, and where it was closed.
+/// Returns what the side's journal leaves of the guess: where it has earlier volumes, and where it was closed.
 fn shown_by<S: LineSource>(source: &S, query: &Query, side: Role, guess: Guess) -> Guess {
     let skew = query.skew.milliseconds();
     let closed = source.close_reading(side).milliseconds();

@@ -2,19 +2,12 @@
 
 ghost use Rattle.std.specs.Prelude.{◌≡◌, ◌↔◌, ◌+◌, List, ℕ, IsTrue, IfOk, IsErrOf, MatchOption, OnOk, Some};
 ghost use Rattle.attribution.specs.Acceptance.{IsTrueInEveryRun};
-ghost use Rattle.book_rules.specs.NextHead.{IsLegal};
+ghost use Rattle.volume_heads.specs.NextHead.{AreLegal};
 ghost use Rattle.evidence_search.specs.Claim.{held_by, HasNoPlainEvidence, IsRound, IsAcceptedOf, IsWidest};
 ghost use Rattle.evidence_search.specs.Claim.{HasNoPlainHolder};
-ghost use Rattle.evidence_search.specs.Collected.{IsRecent};
+ghost use Rattle.plain_search.specs.Collected.{IsRecent};
 ghost use Rattle.evidence_search.specs.Search.{HasMoment, IsClientAt};
 
-use crate::asking::lease_at;
-use crate::error::FindError;
-use crate::linked_pieces::linked_reach_at;
-use crate::messages::Messages;
-use crate::query::{HolderQuery, Query};
-use crate::reach::{Reach, reach_at};
-use crate::recent::Recent;
 use crate::widening::widest;
 use auditor::LineSource;
 use binding_rules::Role;
@@ -22,6 +15,8 @@ use causal_order::Ref;
 use claims::Certificate;
 use client_id::Duid;
 use lead_time::Reading;
+use message_search::{Messages, linked_reach_at};
+use plain_search::{FindError, HolderQuery, Query, Reach, Recent, lease_at, reach_at};
 use std::alloc::{AllocError, Global};
 
 /// Whether this client held the prefix from the moment to the next.
@@ -107,7 +102,7 @@ fn widest_of<S: LineSource>(
     ensures round { IfOk result (IsRound query.now) }
     ensures shown { IfOk result (IsAcceptedOf (S.journals source.now) query.now) }
     ensures headline { IfOk result
-        (IsTrueInEveryRun IsLegal (S.journals source.now) query.now.skew query.now.transit) }
+        (IsTrueInEveryRun AreLegal (S.journals source.now) query.now.skew query.now.transit) }
     ensures widest { IfOk result (IsWidest (S.journals source.now) query.now) }
     ensures none { IsErrOf result FindError.NoneFound
         → HasNoPlainEvidence (S.journals source.now) (held_by query.now holder) }
@@ -128,7 +123,7 @@ fn holder_over<S: LineSource>(
     ensures round { IfOk result (IsRound query.now) }
     ensures shown { IfOk result (IsAcceptedOf (S.journals source.now) query.now) }
     ensures headline { IfOk result
-        (IsTrueInEveryRun IsLegal (S.journals source.now) query.now.skew query.now.transit) }
+        (IsTrueInEveryRun AreLegal (S.journals source.now) query.now.skew query.now.transit) }
     ensures widest { IfOk result (IsWidest (S.journals source.now) query.now) }
     ensures none { IsErrOf result FindError.NoneFound → HasNoPlainHolder (S.journals source.now) query.now }
 {
@@ -167,7 +162,7 @@ pub fn find_holder<S: LineSource>(
     // What is found is true in every run of the pair that leaves the source's journals, whatever volumes came before,
     // with each clock within the skew of true time and each answer within the transit.
     ensures headline { IfOk result
-        (IsTrueInEveryRun IsLegal (S.journals source.now) query.now.skew query.now.transit) }
+        (IsTrueInEveryRun AreLegal (S.journals source.now) query.now.skew query.now.transit) }
     // Neither end can be moved outward by a millisecond.
     ensures widest { IfOk result (IsWidest (S.journals source.now) query.now) }
     ensures none { IsErrOf result FindError.NoneFound → HasNoPlainHolder (S.journals source.now) query.now }

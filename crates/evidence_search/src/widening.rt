@@ -7,16 +7,14 @@ ghost use Rattle.attribution.specs.Acceptance.{ClosesFrom};
 ghost use Rattle.evidence_search.specs.Claim.{between, HasNoPlainEvidence};
 ghost use Rattle.evidence_search.specs.Search.{IsShownRound};
 
-use crate::error::FindError;
 use crate::finding::search_over;
 use crate::guessing::guess_round;
-use crate::messages::Messages;
-use crate::query::Query;
-use crate::reach::less_skew;
 use auditor::LineSource;
 use binding_rules::Role;
 use claims::Certificate;
 use lead_time::{Reading, Skew};
+use message_search::Messages;
+use plain_search::{FindError, Query, less_skew};
 use std::alloc::Global;
 
 /// The moment of these milliseconds, which is no later than another.

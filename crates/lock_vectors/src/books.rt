@@ -2,7 +2,7 @@
 
 use client_id::{Duid, Iaid};
 use lead_time::Reading;
-use server_book::{Asked, Book, Order, Settings};
+use server_book::{Asked, Book, Order, read_settings};
 use std::alloc::Global;
 use std::test::Fail;
 
@@ -11,7 +11,7 @@ const PRIMARY: &[u8] =
 
 /// The primary's book, opened at 500: it has two lines.
 pub fn opened(alloc: Global) -> Result<Book, Fail> {
-    let settings = Settings::read(alloc, PRIMARY)?;
+    let settings = read_settings(alloc, PRIMARY)?;
     Ok(Book::open(alloc, Reading::new(500)?, &settings)?)
 }
 

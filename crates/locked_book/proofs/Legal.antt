@@ -9,13 +9,13 @@ use Rattle.journal_lines.specs.declared.line.Line.{Line}
 use Rattle.journal_lines.specs.declared.line.Journal.{Journal}
 use Rattle.journal_lines.specs.Head.{volume_number}
 use Rattle.book_rules.specs.declared.rule.Rule.TheVariants.{Sequence}
-use Rattle.book_rules.specs.Book.{Book, blank}
-use Rattle.book_rules.specs.Effects.{after}
+use Rattle.book_state.specs.Book.{Book, blank}
+use Rattle.book_state.specs.Effects.{after}
 use Rattle.book_rules.specs.VolumeRules.{KeepsSequence}
 use Rattle.book_rules.specs.Volumes.{AreSteps, book_after}
-use Rattle.server_book.specs.declared.reply.Reply.{Reply}
-use Rattle.server_book.specs.Answer.{reply_to}
-use Rattle.server_book.specs.Replayed.{IsLegal, state_of, with_line}
+use Rattle.order_book.specs.declared.reply.Reply.{Reply}
+use Rattle.order_book.specs.Answer.{reply_to}
+use Rattle.order_book.specs.Replayed.{IsLegal, state_of, with_line}
 use Rattle.locked_book.specs.declared.receipt.Receipt.{Receipt}
 use Rattle.locked_book.specs.Serving.{line_at, Stands}
 use Rattle.locked_book.specs.Telling.{AreTold, outcome_in, reply_behind}

@@ -5,11 +5,11 @@ use Rattle.std.proofs.Common.{ap, subst, sym, ◌∙◌, arith, length-append}
 use Rattle.binding_rules.specs.declared.taking.Outcome.{Outcome}
 use Rattle.journal_lines.specs.declared.line.Line.{Line}
 use Rattle.journal_lines.specs.declared.line.Journal.{Journal}
-use Rattle.book_rules.specs.Book.{Book}
-use Rattle.server_book.specs.declared.order.Order.{Order}
-use Rattle.server_book.specs.declared.reply.Reply.{Reply}
-use Rattle.server_book.specs.Answer.{reply_to, IsAnswer}
-use Rattle.server_book.specs.Replayed.{IsLegal, state_of, with_line}
+use Rattle.book_state.specs.Book.{Book}
+use Rattle.order_book.specs.declared.order.Order.{Order}
+use Rattle.order_book.specs.declared.reply.Reply.{Reply}
+use Rattle.order_book.specs.Answer.{reply_to, IsAnswer}
+use Rattle.order_book.specs.Replayed.{IsLegal, state_of, with_line}
 use Rattle.locked_book.specs.declared.receipt.Receipt.{Receipt}
 use Rattle.locked_book.specs.Closing.{AreAbove, IsReceiptOf}
 use Rattle.locked_book.specs.Serving.{Stands, last_receipt}

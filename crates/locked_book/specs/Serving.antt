@@ -5,13 +5,13 @@ use Rattle.prefix_range.specs.Prefix.{Prefix}
 use Rattle.binding_rules.specs.declared.unit.Unit.{Unit as UnitValue}
 use Rattle.journal_lines.specs.declared.line.Line.{Line}
 use Rattle.journal_lines.specs.declared.line.Journal.{Journal}
-use Rattle.book_rules.specs.Book.{Book as BookState, is_unit}
-use Rattle.server_book.specs.declared.order.Order.{Order}
-use Rattle.server_book.specs.declared.reply.Reply.TheVariants.{Granted}
-use Rattle.server_book.specs.Answer.{IsAnswer, IsFirstRefusal, IsRefusal}
-use Rattle.server_book.specs.Bindings.{IsLeastOf}
-use Rattle.server_book.specs.Queries.{IsToExpire, IsFirstExpiry, IsToSeize, HasReply, HasChange, HasMark}
-use Rattle.server_book.specs.Replayed.{state_of}
+use Rattle.book_state.specs.Book.{Book as BookState, is_unit}
+use Rattle.order_book.specs.declared.order.Order.{Order}
+use Rattle.order_book.specs.declared.reply.Reply.TheVariants.{Granted}
+use Rattle.order_book.specs.Answer.{IsAnswer, IsFirstRefusal, IsRefusal}
+use Rattle.unit_finder.specs.Units.{IsLeastOf}
+use Rattle.unit_finder.specs.Queries.{IsToExpire, IsFirstExpiry, IsToSeize, HasReply, HasChange, HasMark}
+use Rattle.order_book.specs.Replayed.{state_of}
 use Rattle.locked_book.specs.declared.receipt.Receipt.{Receipt}
 use Rattle.locked_book.specs.declared.receipt.Look.{Look}
 use Rattle.locked_book.specs.declared.receipt.Work.{Work}
@@ -55,12 +55,12 @@ IsShown lines last (Err _) = ⊥
 -- ---- answers at a journal, for a pass with this last receipt
 
 -- an order's, which adds a line
-abbrev pub IsServed : Journal → Option Receipt → ℕ → Order → Result Receipt ServeError → Type 0
-IsServed j last now order (Ok r) =
+abbrev pub IsPassServed : Journal → Option Receipt → ℕ → Order → Result Receipt ServeError → Type 0
+IsPassServed j last now order (Ok r) =
     Stands j.lines last × IsAnswer (state_of j) now order r.line r.reply × (r.number ≡ length j.lines + 1)
-IsServed j last now order (Err (Stranger number found)) = IsStrange j.lines last number found
-IsServed j last now order (Err (Book e)) = Stands j.lines last × IsRefusal (state_of j) now order e
-IsServed j last now order (Err Memory) = Stands j.lines last
+IsPassServed j last now order (Err (Stranger number found)) = IsStrange j.lines last number found
+IsPassServed j last now order (Err (Book e)) = Stands j.lines last × IsRefusal (state_of j) now order e
+IsPassServed j last now order (Err Memory) = Stands j.lines last
 
 -- an offer's: what a Request would be given
 abbrev pub IsOffered : Journal → Option Receipt → ℕ → Order → Result (Prefix × ℕ) ServeError → Type 0

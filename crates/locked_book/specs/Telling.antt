@@ -3,10 +3,10 @@ use Rattle.std.specs.Prelude.{◌≡◌, ℕ, ◌+◌, List, length, take, slice
 use Rattle.binding_rules.specs.declared.taking.Outcome.{Outcome}
 use Rattle.journal_lines.specs.declared.line.Line.{Line}
 use Rattle.journal_lines.specs.declared.line.Journal.{Journal}
-use Rattle.server_book.specs.declared.reply.Reply.{Reply}
-use Rattle.server_book.specs.declared.reply.Reply.TheVariants.{Taken}
-use Rattle.server_book.specs.Answer.{reply_to}
-use Rattle.server_book.specs.Replayed.{state_of}
+use Rattle.order_book.specs.declared.reply.Reply.{Reply}
+use Rattle.order_book.specs.declared.reply.Reply.TheVariants.{Taken}
+use Rattle.order_book.specs.Answer.{reply_to}
+use Rattle.order_book.specs.Replayed.{state_of}
 
 -- what was made of a message, where the reply tells it: a line alone doesn't
 abbrev pub outcome_in : Reply → Option Outcome

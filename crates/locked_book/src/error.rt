@@ -4,7 +4,7 @@ ghost use Rattle.std.specs.Prelude.{◌≡◌};
 ghost use Rattle.locked_book.specs.declared.error.ServeError.TheVariants.{Memory};
 
 use journal_lines::Line;
-use server_book::BookError;
+use order_book::BookError;
 use std::alloc::AllocError;
 use thiserror::Error;
 

@@ -6,6 +6,12 @@
 //! order and no longer. [`Kept`] is the value behind the lock: it stands in a module of its own, with private fields,
 //! so that only `enter` changes the book, and `enter` says the change in full.
 //!
+//! ```text
+//! let (shared, passes) = SharedBook::<N>::open(alloc, blank, book, 2)?; // one pass a thread
+//! let receipt = shared.serve(rt, &mut pass, now, &order)?; // one line, one receipt
+//! let book = shared.close(passes)?; // the opening, and a line for each receipt
+//! ```
+//!
 //! How many lines were added is counted in a ledger, of which each pass has a share: the number of its receipts. So
 //! an accepted `serve` is one accepted `enter`. What calls under the lock answer is in specs/Serving, what `close`
 //! promises in specs/Closing.

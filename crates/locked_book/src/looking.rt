@@ -1,15 +1,15 @@
 //! What is read of a book under the lock.
 
-ghost use Rattle.server_book.specs.Answer.{IsRequest};
-ghost use Rattle.server_book.specs.Replayed.{IsLegal};
+ghost use Rattle.order_book.specs.Answer.{IsRequest};
+ghost use Rattle.order_book.specs.Replayed.{IsLegal};
 ghost use Rattle.locked_book.specs.Serving.{IsLooked, IsOffered, IsWorkFound};
 
 use crate::error::ServeError;
 use crate::receipt::{Look, Receipt, Work};
 use crate::showing::show;
 use lead_time::Reading;
+use order_book::{Book, Order};
 use prefix_range::Prefix;
-use server_book::{Book, Order};
 
 /// The lines, this unit, whether the server waits and whether its partner is down.
 pub(crate) fn look_at(
@@ -30,7 +30,7 @@ pub(crate) fn look_at(
     })
 }
 
-/// What there is to do at a reading; of what is to be sent, for units that begin at an address or above.
+/// Returns what there is to do at a reading; of what is to be sent, for units that begin at an address or above.
 pub(crate) fn work_at(
     book: &Book,
     last: Option<Receipt>,
@@ -55,7 +55,7 @@ pub(crate) fn work_at(
     })
 }
 
-/// What a Request would be given.
+/// Returns what a Request would be given.
 pub(crate) fn offer_of(
     book: &Book,
     last: Option<Receipt>,

@@ -3,8 +3,8 @@
 use binding_rules::Unit;
 use journal_lines::Line;
 use lead_time::{End, Reading};
+use order_book::Reply;
 use prefix_range::Prefix;
-use server_book::Reply;
 
 /// One accepted order: the line that it added, the line's number (from 1) and the reply.
 #[derive(Clone, Copy, Debug, PartialEq, Eq)]
@@ -14,7 +14,7 @@ pub struct Receipt {
     pub reply: Reply,
 }
 
-/// What one look at the book found.
+/// The findings of one look at the book.
 #[derive(Clone, Copy, Debug, PartialEq, Eq)]
 pub struct Look {
     /// How many lines the journal has.
@@ -27,8 +27,8 @@ pub struct Look {
     pub down: Option<Reading>,
 }
 
-/// What there is to do in a book at a reading: of each kind the unit with the lowest address, if there is one. Where it
-/// was asked from an address on, that is for what is to be sent: the reply, the change and the mark.
+/// The work that there is in a book at a reading: of each kind the unit with the lowest address, if there is one. Where
+/// it was asked from an address on, that is for what is to be sent: the reply, the change and the mark.
 #[derive(Clone, Copy, Debug, PartialEq, Eq)]
 pub struct Work {
     /// How many lines the journal has.

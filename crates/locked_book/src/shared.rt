@@ -3,9 +3,9 @@
 ghost use Rattle.std.specs.Prelude.{◌≡◌, ◌≢◌, ◌+◌, ◌<◌, ◌≤◌, [], ◌∷◌, ◌++◌, length, replicate, ◌⊎◌};
 ghost use Rattle.std.specs.Prelude.{IfOk, IfErr, IfSome, OnErr, MatchResult};
 ghost use Rattle.journal_lines.specs.declared.line.Journal.{Journal};
-ghost use Rattle.server_book.specs.Answer.{IsRequest};
-ghost use Rattle.server_book.specs.Replayed.{IsLegal};
-ghost use Rattle.locked_book.specs.Serving.{last_receipt, IsServed, IsLooked, IsOffered, IsWorkFound};
+ghost use Rattle.order_book.specs.Answer.{IsRequest};
+ghost use Rattle.order_book.specs.Replayed.{IsLegal};
+ghost use Rattle.locked_book.specs.Serving.{last_receipt, IsPassServed, IsLooked, IsOffered, IsWorkFound};
 ghost use Rattle.locked_book.specs.Closing.{receipt_count, IsWhole, new_pass};
 ghost use Rattle.locked_book.specs.declared.error.CloseFault.TheVariants.{MissingPass, ReceiptMismatch};
 ghost use Rattle.locked_book.specs.declared.error.LockFault.TheVariants.{Passes};
@@ -17,8 +17,8 @@ use crate::name::BookName;
 use crate::receipt::{Look, Receipt, Work};
 use journal_lines::Line;
 use lead_time::Reading;
+use order_book::{Book, Order};
 use prefix_range::Prefix;
-use server_book::{Book, Order};
 use std::alloc::Global;
 use std::marker::Model;
 use std::sync::ledger::Blank;
@@ -109,7 +109,8 @@ impl<N: BookName> SharedBook<N> {
         now: Reading,
         order: &Order,
     ) -> Result<Receipt, ServeError>
-        ensures served { (j : Journal) × IsLegal j × IsServed j (last_receipt pass.old.receipts) now order.now result }
+        ensures served { (j : Journal) × IsLegal j
+            × IsPassServed j (last_receipt pass.old.receipts) now order.now result }
         ensures accepted { IfOk result (λ r. (pass.new.receipts ≡ pass.old.receipts ++ r ∷ [])
             × (pass.new.share ≡ pass.old.share + 1)) }
         ensures above { IfOk result (λ r. IfSome (last_receipt pass.old.receipts) (λ last. last.number < r.number)) }
@@ -118,8 +119,8 @@ impl<N: BookName> SharedBook<N> {
         self.kept.lock(rt).enter(pass, now, order)
     }
 
-    /// What the book has now: how many lines, this unit, whether it waits, and whether its partner is down. It writes
-    /// no line and takes no memory. The one refusal is `Stranger`.
+    /// Returns what the book has now: how many lines, this unit, whether it waits, and whether its partner is down. It
+    /// writes no line and takes no memory. The one refusal is `Stranger`.
     pub fn look<R: Wait>(
         &self,
         rt: &R,
@@ -134,8 +135,8 @@ impl<N: BookName> SharedBook<N> {
         look_at(kept.book(), last, prefix)
     }
 
-    /// What there is to do in the book at a reading, with one look. It writes no line and takes no memory. The one
-    /// refusal is `Stranger`.
+    /// Returns what there is to do in the book at a reading, with one look. It writes no line and takes no memory. The
+    /// one refusal is `Stranger`.
     pub fn work<R: Wait>(
         &self,
         rt: &R,
@@ -165,8 +166,8 @@ impl<N: BookName> SharedBook<N> {
         work_at(kept.book(), last, now, from)
     }
 
-    /// What the client of a Request would be given now: a prefix for so many seconds. It writes no line and takes no
-    /// memory. The refusals: `Stranger`, `Book`.
+    /// Returns what the client of a Request would be given now: a prefix for so many seconds. It writes no line and
+    /// takes no memory. The refusals: `Stranger`, `Book`.
     pub fn offer<R: Wait>(
         &self,
         rt: &R,

@@ -1,15 +1,15 @@
 //! What is told of a line.
 
 ghost use Rattle.std.specs.Prelude.{◌≡◌};
-ghost use Rattle.book_rules.specs.Book.{Book};
-ghost use Rattle.server_book.specs.Answer.{reply_to};
+ghost use Rattle.book_state.specs.Book.{Book};
+ghost use Rattle.order_book.specs.Answer.{reply_to};
 ghost use Rattle.locked_book.specs.Telling.{outcome_in};
 
 use binding_rules::Outcome;
 use journal_lines::{Event, Line};
-use server_book::Reply;
+use order_book::Reply;
 
-/// What was made of a message, where the reply tells it.
+/// Returns what was made of a message, where the reply tells it.
 pub(crate) fn outcome_in(reply: &Reply) -> Option<Outcome>
     ensures { result ≡ outcome_in reply.now }
 {

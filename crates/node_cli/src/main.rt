@@ -49,7 +49,7 @@ fn units_of(settings: &NodeSettings) -> usize {
     units
 }
 
-/// What a command writes, and the status, or the fault that its run ended by.
+/// The text that a command writes, and the status, or the fault that its run ended by.
 #[derive(Drop)]
 struct Outcome {
     octets: Vec<u8>,
@@ -75,7 +75,7 @@ impl Outcome {
     }
 }
 
-/// What a command comes to.
+/// Returns what a command comes to.
 fn answer<R: Threads + Wait + Sync + Net + Clock, P: Print + Sync>(
     rt: &R,
     alloc: Global,

@@ -21,20 +21,20 @@ use std::thread;
 use std::thread::Threads;
 use std::time::Clock as Handle;
 
-/// What the workers leave: their passes, and how many datagrams they received in all or why one of them ended.
+/// The return of the workers: their passes, and how many datagrams they received in all or why one of them ended.
 struct Done<N: BookName> {
     passes: Vec<Pass<N>>,
     received: Result<u32, NodeError>,
 }
 
-/// What a node leaves: the text of its closed journal, and how many datagrams it received or why a worker ended.
+/// The return of a node: the text of its closed journal, and how many datagrams it received or why a worker ended.
 #[derive(Drop)]
 pub struct Run {
     pub journal: Vec<u8>,
     pub received: Result<u32, NodeError>,
 }
 
-/// What the workers of a node and its end of the link have in common.
+/// The parts that the workers of a node and its end of the link have in common.
 #[derive(Drop)]
 struct Node<'a, R, D, C, P> {
     rt: &'a R,

@@ -10,7 +10,7 @@ use text_fields::number_of;
 /// The most datagrams of a run.
 const MOST_DATAGRAMS: u32 = 1_000_000;
 
-/// What the node is asked to do.
+/// A command of the node.
 #[derive(Clone, Copy, Debug, PartialEq, Eq)]
 pub enum Command {
     /// Say what the settings on standard input are worth.

@@ -12,18 +12,18 @@ use Rattle.dhcp6_pd.specs.declared.message.IaPd.{IaPd}
 use Rattle.journal_lines.specs.declared.event.Event.{Event}
 use Rattle.journal_lines.specs.declared.event.Event.TheVariants.{Take as TakeLine}
 use Rattle.journal_lines.specs.declared.line.Journal.{Journal}
-use Rattle.book_rules.specs.Book.{Book}
-use Rattle.server_book.specs.declared.order.Order.{Order}
-use Rattle.server_book.specs.declared.order.Order.TheVariants.{Request, Renew, Release, Expire, Backup, Reclaim, Seize}
-use Rattle.server_book.specs.declared.order.Order.TheVariants.{SendUpdate, SendReply, SendContact, Take, State, Restart}
-use Rattle.server_book.specs.declared.order.Order.TheVariants.{Close}
-use Rattle.server_book.specs.declared.order.Asked.{Asked}
+use Rattle.book_state.specs.Book.{Book}
+use Rattle.order_book.specs.declared.order.Order.{Order}
+use Rattle.order_book.specs.declared.order.Order.TheVariants.{Request, Renew, Release, Expire, Backup, Reclaim, Seize}
+use Rattle.order_book.specs.declared.order.Order.TheVariants.{SendUpdate, SendReply, SendContact, Take, State, Restart}
+use Rattle.order_book.specs.declared.order.Order.TheVariants.{Close}
+use Rattle.order_book.specs.declared.order.Asked.{Asked}
 use Rattle.server_book.specs.Messages.{order_by, order_of, asked_in}
-use Rattle.server_book.specs.Named.{IsNamed}
-use Rattle.server_book.specs.Replayed.{IsLegal, state_of}
+use Rattle.order_book.specs.Named.{IsNamed}
+use Rattle.order_book.specs.Replayed.{IsLegal, state_of}
 use Rattle.locked_book.specs.declared.error.ServeError.{ServeError}
 use Rattle.locked_book.specs.declared.receipt.Receipt.{Receipt}
-use Rattle.locked_book.specs.Serving.{PassState, IsServed, last_receipt}
+use Rattle.locked_book.specs.Serving.{PassState, IsPassServed, last_receipt}
 use Rattle.node_threads.specs.Receipts.{taken_by, taken_after, last_taken, IsNewer, AreNewer, Goes, IsOther}
 
 -- ---- lists
@@ -75,7 +75,7 @@ one_goes old new r all newer = record { added = r ∷ []; all = all; newer = (ne
 
 -- what an order does that isn't a take
 pub other_goes : (old new : PassState) (now : ℕ) (order : Order) (result : Result Receipt ServeError)
-    → ((j : Journal) × IsLegal j × IsServed j (last_receipt old.receipts) now order result)
+    → ((j : Journal) × IsLegal j × IsPassServed j (last_receipt old.receipts) now order result)
     → IfOk result (λ r. (new.receipts ≡ old.receipts ++ r ∷ []) × (new.share ≡ old.share + 1))
     → OnErr result (new ≡ old) → IsOther order → Goes old.receipts new.receipts
 other_goes old new now order (Ok r) served accepted refused other =
@@ -86,7 +86,7 @@ other_goes old new now order (Err e) served accepted refused other =
 
 -- what a take does of a newer message
 pub take_goes : (old new : PassState) (now : ℕ) (m : PartnerMessage) (result : Result Receipt ServeError)
-    → ((j : Journal) × IsLegal j × IsServed j (last_receipt old.receipts) now (Take m) result)
+    → ((j : Journal) × IsLegal j × IsPassServed j (last_receipt old.receipts) now (Take m) result)
     → IfOk result (λ r. (new.receipts ≡ old.receipts ++ r ∷ []) × (new.share ≡ old.share + 1))
     → OnErr result (new ≡ old) → last_taken old.receipts < m.serial → Goes old.receipts new.receipts
 take_goes old new now m (Ok r) served accepted refused newer =

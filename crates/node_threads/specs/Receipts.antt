@@ -3,8 +3,8 @@ use Rattle.std.specs.Prelude.{◌≡◌, ◌<◌, ℕ, ⊤, List, [], ◌∷◌,
 use Rattle.journal_lines.specs.declared.event.Event.{Event}
 use Rattle.journal_lines.specs.declared.event.Event.TheVariants.{Take}
 use Rattle.locked_book.specs.declared.receipt.Receipt.{Receipt}
-use Rattle.server_book.specs.declared.order.Order.{Order}
-use Rattle.server_book.specs.declared.order.Order.TheVariants.{Take as TakeOrder}
+use Rattle.order_book.specs.declared.order.Order.{Order}
+use Rattle.order_book.specs.declared.order.Order.TheVariants.{Take as TakeOrder}
 
 -- the serial of the last message that was taken, where before the event it was `last`
 abbrev pub taken_by : ℕ → Event → ℕ

@@ -1,7 +1,7 @@
 //! The answer to one message.
 
 ghost use Rattle.std.specs.Prelude.{◌≡◌, ◌≤◌, length, IfOk, IfSome, IfErr};
-ghost use Rattle.server_book.specs.Answer.{IsRequest};
+ghost use Rattle.order_book.specs.Answer.{IsRequest};
 ghost use Rattle.node_threads.specs.Receipts.{Goes, IsOther};
 
 use crate::error::NodeError;
@@ -15,7 +15,7 @@ use server_book::{BookError, IaAnswer, Order, Reply, answer_of, order_of};
 use std::alloc::Global;
 use std::sync::Wait;
 
-/// What the client is told of a refusal, or `None` where its message isn't answered. `Stranger` is handed on.
+/// Returns what the client is told of a refusal, or `None` where its message isn't answered. `Stranger` is handed on.
 fn told_of(refusal: ServeError) -> Result<Option<IaAnswer>, NodeError> {
     match refusal {
         ServeError::Book(BookError::NoBinding) => Ok(Some(IaAnswer::NoBinding)),
@@ -25,7 +25,7 @@ fn told_of(refusal: ServeError) -> Result<Option<IaAnswer>, NodeError> {
     }
 }
 
-/// What the client is told of an order that was served.
+/// Returns what the client is told of an order that was served.
 fn told_by(reply: &Reply) -> Option<IaAnswer> {
     match reply {
         Reply::Granted { prefix, valid } => Some(IaAnswer::Given {
@@ -37,7 +37,7 @@ fn told_by(reply: &Reply) -> Option<IaAnswer> {
     }
 }
 
-/// What a Request would be given.
+/// Returns what a Request would be given.
 fn offered<N: BookName, R: Wait>(
     rt: &R,
     shared: &SharedBook<N>,
@@ -54,7 +54,7 @@ fn offered<N: BookName, R: Wait>(
     }
 }
 
-/// What an order ends in.
+/// Returns what an order ends in.
 fn served<N: BookName, R: Wait>(
     rt: &R,
     shared: &SharedBook<N>,
@@ -71,7 +71,7 @@ fn served<N: BookName, R: Wait>(
     }
 }
 
-/// What an order of a message of this type ends in: a SOLICIT's is offered.
+/// Returns what an order of a message of this type ends in: a SOLICIT's is offered.
 fn ordered<N: BookName, R: Wait>(
     rt: &R,
     shared: &SharedBook<N>,
@@ -116,8 +116,8 @@ fn seizes<N: BookName, R: Wait>(
     }
 }
 
-/// What an IA_PD of the message ends in, at a place from 0. Where no prefix is left and the partner is down, a unit is
-/// taken over, and it is ordered once more.
+/// Returns what an IA_PD of the message ends in, at a place from 0. Where no prefix is left and the partner is down, a
+/// unit is taken over, and it is ordered once more.
 fn ended<N: BookName, R: Wait>(
     rt: &R,
     shared: &SharedBook<N>,
@@ -141,7 +141,7 @@ fn ended<N: BookName, R: Wait>(
     }
 }
 
-/// What each IA_PD of the message ends in, or `None` where it isn't answered.
+/// Returns what each IA_PD of the message ends in, or `None` where it isn't answered.
 fn all_ended<N: BookName, R: Wait>(
     rt: &R,
     alloc: Global,

@@ -4,9 +4,9 @@ use crate::error::NetFault;
 use lead_time::Reading;
 use std::time::{Clock as Handle, SystemTime};
 
-/// What tells the time.
+/// A clock that tells the time.
 pub trait Clock {
-    /// What the clock shows now, in milliseconds.
+    /// Returns what the clock shows now, in milliseconds.
     fn now(&self) -> Result<Reading, NetFault>;
 }
 

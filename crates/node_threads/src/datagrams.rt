@@ -5,7 +5,7 @@ ghost use Rattle.std.specs.Prelude.{◌≡◌, ◌≤◌, length, IfOk};
 use crate::error::NetFault;
 use std::net::{SocketAddr, UdpSocket};
 
-/// What several workers receive from and send by at once.
+/// A socket that several workers receive from and send by at once.
 pub trait Datagrams {
     /// Who sent a datagram, and to whom its answer goes.
     type Peer: Drop + Send;

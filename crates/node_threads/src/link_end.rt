@@ -27,7 +27,7 @@ pub(crate) struct LinkEnd<'a, N: BookName, R: Wait, C: Clock> {
     pub clock: &'a C,
 }
 
-/// What became of an order that a later turn may give again.
+/// The fate of an order that a later turn may give again.
 #[derive(Clone, Copy, Debug, PartialEq, Eq)]
 pub(crate) enum Fate {
     Done,
@@ -109,7 +109,7 @@ impl<'a, N: BookName, R: Wait, C: Clock> LinkEnd<'a, N, R, C> {
         }
     }
 
-    /// What there is to do; of what is to be sent, for units that begin at an address or above.
+    /// Returns what there is to do; of what is to be sent, for units that begin at an address or above.
     pub(crate) fn work(
         &self,
         pass: &mut Pass<N>,
@@ -124,7 +124,7 @@ impl<'a, N: BookName, R: Wait, C: Clock> LinkEnd<'a, N, R, C> {
         }
     }
 
-    /// What the book has of a unit.
+    /// Returns what the book has of a unit.
     pub(crate) fn look(&self, pass: &mut Pass<N>, prefix: &Prefix) -> Result<Look, NodeError>
         ensures { pass.new ≡ pass.old }
     {

@@ -10,6 +10,7 @@ use crate::messages::{write_message, write_word};
 use crate::talk::{Again, Talk, lines_at};
 use crate::wire::Wire;
 use binding_rules::{Counter, Status, Unit};
+use book_state::MOST_UNITS;
 use failover_message::FrameKind;
 use journal_lines::Event;
 use lead_time::Reading;
@@ -18,10 +19,7 @@ use prefix_range::Prefix;
 use server_book::Order;
 use std::sync::Wait;
 
-/// The most units of a server: no more messages of a kind are sent in a turn.
-const MOST_UNITS: u32 = 65_536;
-
-/// What there may be to tell of a unit.
+/// The matters that there may be to tell of a unit.
 #[derive(Clone, Copy, Debug, PartialEq, Eq)]
 enum Matter {
     /// The reply to the partner's update.
@@ -41,8 +39,8 @@ fn first_of(work: &Work, matter: Matter) -> Option<Prefix> {
     }
 }
 
-/// What an update of a unit would tell, if it is this that there is to tell: a marked unit's only update is that it was
-/// seized.
+/// Returns what an update of a unit would tell, if it is this that there is to tell: a marked unit's only update is
+/// that it was seized.
 fn status_of(unit: &Unit, matter: Matter) -> Option<Status> {
     match (matter, unit.marked) {
         (Matter::Mark, true) => Some(Status::Seized),
@@ -147,7 +145,7 @@ impl<'a, N: BookName, R: Wait, C: Clock> LinkEnd<'a, N, R, C> {
         self.tell_each(pass, talk, now, Matter::Change, work.change, wire)
     }
 
-    /// What there is to do, once the lowest lease that has ended is ended.
+    /// Returns what there is to do, once the lowest lease that has ended is ended.
     fn work_left(&self, pass: &mut Pass<N>, now: Reading) -> Result<Work, NodeError>
         ensures { Goes pass.old.receipts pass.new.receipts }
     {

@@ -35,7 +35,7 @@ struct Telling {
     term: u32,
 }
 
-/// What the receipts tell, each of which is looked at once.
+/// The memory of what the receipts tell, each of which is looked at once.
 #[derive(Drop)]
 pub(crate) struct Told {
     /// How many of the receipts were looked at.
@@ -51,7 +51,7 @@ pub(crate) struct Told {
 }
 
 impl Told {
-    /// What no receipt tells.
+    /// Returns what no receipt tells.
     pub(crate) fn nothing(alloc: Global) -> Told {
         Told {
             seen: 0,

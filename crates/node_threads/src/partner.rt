@@ -1,6 +1,6 @@
 //! What a node takes its partner for.
 
-/// What a node takes its partner for.
+/// The state of the partner, as a node takes it.
 #[derive(Clone, Copy, Debug, PartialEq, Eq)]
 pub enum Partner {
     /// It has its own units to give.

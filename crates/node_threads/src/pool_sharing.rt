@@ -10,7 +10,7 @@ use crate::messages::write_word;
 use crate::talk::{Phase, Talk};
 use crate::wire::Wire;
 use binding_rules::{Role, Status};
-use book_rules::Pool;
+use book_state::{MOST_UNITS, Pool};
 use client_id::Iaid;
 use failover_message::FrameKind;
 use locked_book::{BookName, Pass, ServeError};
@@ -18,9 +18,6 @@ use pool_balance::choose;
 use prefix_range::{Prefix, unit};
 use server_book::{Asked, BookError, Order};
 use std::sync::Wait;
-
-/// The most units of a server.
-const MOST_UNITS: u32 = 65_536;
 
 impl<'a, N: BookName, R: Wait, C: Clock> LinkEnd<'a, N, R, C> {
     /// Whether this server has a unit to give. It asks what it would give to a client of its own name, which has none.

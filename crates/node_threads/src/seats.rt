@@ -87,7 +87,7 @@ pub fn serve_seats<
     thread::for_each_mut(rt, seats, workers, &work);
 }
 
-/// What both have received, or why the first of those that failed did.
+/// Returns what both have received, or why the first of those that failed did.
 fn added(one: Result<u32, NodeError>, other: Result<u32, NodeError>) -> Result<u32, NodeError>
     ensures { result ≡ with_next one other }
 {

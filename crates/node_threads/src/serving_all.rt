@@ -1,7 +1,7 @@
 //! Several workers over one book.
 
 ghost use Rattle.std.specs.Prelude.{◌≡◌, ◌<◌, ◌≤◌, ◌⊎◌, length, take, IfOk, IsErrOf};
-ghost use Rattle.server_book.specs.Replayed.{IsLegal};
+ghost use Rattle.order_book.specs.Replayed.{IsLegal};
 
 use crate::clock::Clock;
 use crate::datagrams::Datagrams;
@@ -18,7 +18,7 @@ use std::sync::ledger::Blank;
 use std::thread::Threads;
 use thiserror::Error;
 
-/// What workers leave.
+/// The book and the passes that workers leave.
 #[derive(Drop)]
 pub struct Left {
     /// The book with their lines. It isn't closed.

@@ -2,11 +2,12 @@
 
 ghost use Rattle.std.specs.Prelude.{◌≡◌, ◌≤◌, Some, IfOk, IfSome, IsErrOf};
 ghost use Rattle.toml.specs.Data.{Members};
-ghost use Rattle.server_book.specs.Document.{IsDocument, named_in};
-ghost use Rattle.server_book.specs.Settings.{ServerSettings, AreWithin};
-ghost use Rattle.book_rules.specs.Places.{AreDisjoint};
+ghost use Rattle.settings_text.specs.Document.{IsDocument, named_in};
+ghost use Rattle.server_settings.specs.Settings.{ServerSettings, AreWithin};
+ghost use Rattle.book_state.specs.Places.{AreDisjoint};
 
 use server_book::{OpenError, Settings};
+use settings_text::settings_in;
 use std::alloc::Global;
 use std::net::SocketAddr;
 use toml::Table;
@@ -92,7 +93,7 @@ impl NodeSettings {
         let Some(ways) = ways_in(&table) else {
             return Err(OpenError::Settings);
         };
-        let server = Settings::read(alloc, text)?;
+        let server = settings_in(alloc, &table)?;
         Ok(NodeSettings { server, ways })
     }
 }

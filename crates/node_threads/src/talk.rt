@@ -15,7 +15,7 @@ pub(crate) enum Phase {
     Ended,
 }
 
-/// What the partner asked to be told again (RFC 8156, section 5: UPDREQ, UPDREQALL).
+/// The updates that the partner asked to be told again (RFC 8156, section 5: UPDREQ, UPDREQALL).
 #[derive(Clone, Copy, Debug, PartialEq, Eq)]
 pub(crate) enum Again {
     Nothing,
@@ -32,7 +32,7 @@ pub(crate) struct Settled {
     own: usize,
 }
 
-/// What one connection of the link has come to.
+/// The state of one connection of the link.
 #[derive(Drop)]
 pub(crate) struct Talk {
     pub phase: Phase,

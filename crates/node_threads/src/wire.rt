@@ -7,7 +7,7 @@ use std::io::{ErrorKind, Read, Write};
 use std::net::OpenStream;
 use std::time::Duration;
 
-/// What a read of a wire got.
+/// The outcome of a read of a wire.
 #[derive(Clone, Copy, Debug, PartialEq, Eq)]
 pub enum Got {
     /// So many octets, at the front of the buffer.
@@ -18,7 +18,7 @@ pub enum Got {
     End,
 }
 
-/// What the partners' link goes over.
+/// A wire that carries the partners' link.
 pub trait Wire {
     /// Waits for octets, at most a second, and puts them at the front of the buffer.
     fn read(&mut self, buffer: &mut [u8]) -> Result<Got, NetFault>

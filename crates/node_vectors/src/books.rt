@@ -3,7 +3,7 @@
 use binding_rules::{Role, ServerState};
 use client_id::Duid;
 use lead_time::Reading;
-use server_book::{Book, Order, Settings};
+use server_book::{Book, Order, Settings, read_settings};
 use std::alloc::Global;
 use std::process::Abort;
 use std::test::Fail;
@@ -35,7 +35,7 @@ pub fn settings_of(alloc: Global, role: Role, pool: &[u8]) -> Result<Settings, F
     })?;
     text.extend_from_slice(SHARED)?;
     text.extend_from_slice(pool)?;
-    Ok(Settings::read(alloc, &text)?)
+    Ok(read_settings(alloc, &text)?)
 }
 
 /// A server's book, opened at 9000: it has two lines.

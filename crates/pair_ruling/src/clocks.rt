@@ -10,7 +10,7 @@ use journal_merge::{Behind, LeastSkew, least_skew};
 use std::alloc::{AllocError, Global};
 use text_fields::push_number;
 
-/// What is found of two journals' clocks.
+/// The finding on two journals' clocks.
 #[derive(Clone, Copy, Debug, PartialEq, Eq)]
 pub enum Clocked {
     /// Clocks within this skew and no less fit the two, which keep the rules.

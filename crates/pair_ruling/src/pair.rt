@@ -11,7 +11,7 @@ use journal_merge::{Merged, first_early};
 use lead_time::Skew;
 use std::alloc::Global;
 
-/// What two journals come to, whatever is claimed over them.
+/// The finding on two journals, whatever is claimed over them.
 #[derive(Debug, Drop)]
 pub enum Ruled {
     /// Both keep the rules and some run with clocks within the skew leaves them: their lines in one order.

@@ -8,7 +8,7 @@ use attribution::{Verdict, push_place, verdict_line};
 use causal_order::Ref;
 use std::alloc::{AllocError, Global};
 
-/// What the desk rules on a certificate over two journals.
+/// The desk's ruling on a certificate over two journals.
 #[derive(Clone, Copy, Debug, PartialEq, Eq)]
 pub enum Ruling {
     /// The verdict of the audit.

@@ -106,8 +106,8 @@ fn are_both_covered(primary: &Journal, secondary: &Journal, skew: Skew, transit:
     is_covered(primary, skew, transit) && is_covered(secondary, skew, transit)
 }
 
-/// What speaks against asking this of the two journals, K2 before K3: that their settings differ, or that one's own
-/// line says a greater skew or transit. None where nothing does.
+/// Returns what speaks against asking this of the two journals, K2 before K3: that their settings differ, or that one's
+/// own line says a greater skew or transit. None where nothing does.
 pub fn doubt(primary: &Journal, secondary: &Journal, skew: Skew, transit: Transit) -> Option<Ruling>
     ensures { MatchOption result (AreTied primary.now secondary.now skew transit)
         (IsDoubted primary.now secondary.now skew transit) }

@@ -5,7 +5,7 @@ use client_id::{Duid, Iaid};
 use lead_time::Reading;
 use pair_world::{World, are_alike};
 use prefix_range::{Prefix, read_text};
-use server_book::{Asked, Settings};
+use server_book::{Asked, read_settings};
 use std::alloc::Global;
 use std::process::Abort;
 use std::test::Fail;
@@ -55,8 +55,8 @@ pub fn client(text: &[u8]) -> Result<Duid, Fail> {
 
 /// The world of two servers of these settings, opened at 10000.
 pub fn opened(alloc: Global, first: &[u8], second: &[u8]) -> Result<World, Fail> {
-    let first = Settings::read(alloc, first)?;
-    let second = Settings::read(alloc, second)?;
+    let first = read_settings(alloc, first)?;
+    let second = read_settings(alloc, second)?;
     if !are_alike(&first, &second) {
         return Err(Fail::from("the settings differ"));
     }

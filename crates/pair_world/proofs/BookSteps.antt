@@ -21,12 +21,12 @@ use Rattle.journal_lines.specs.declared.event.Event.{Event}
 use Rattle.journal_lines.specs.declared.event.Lease.{Lease}
 use Rattle.journal_lines.specs.declared.line.Line.{Line}
 use Rattle.book_rules.specs.declared.rule.Rule.TheVariants.{Backup as BackupRule, Contact as ContactRule, Down as DownRule, Expiry, Grant as GrantRule, Lifetime, Reclaim as ReclaimRule, Release as ReleaseRule, Reply as ReplyRule, Restart as RestartRule, Seize as SeizeRule, Update as UpdateRule, Waiting as WaitingRule}
-use Rattle.book_rules.specs.Book.{Book, IsCalm, is_unit}
+use Rattle.book_state.specs.Book.{Book, IsCalm, is_unit}
 use Rattle.book_rules.specs.UnitRules.{IsActiveFor, IsSeizable, takeover}
-use Rattle.book_rules.specs.MessageRules.{IsAnswer, IsTold}
+use Rattle.book_rules.specs.MessageRules.{IsContactAnswer, IsTold}
 use Rattle.book_rules.specs.Rules.{IsStep}
-use Rattle.book_rules.specs.Effects.{changed, effect, expired, granted, learned, or_as_was, same_prefix, seized, taken_body}
-use Rattle.book_rules.specs.NextHead.{is_head}
+use Rattle.book_state.specs.Effects.{changed, effect, expired, granted, learned, or_as_was, same_prefix, seized, taken_body}
+use Rattle.volume_heads.specs.NextHead.{is_head}
 use Rattle.pair_world.specs.UnitWorld.{Entry, Gives, GivesBack, IsAlone, IsGrantable, IsIn, MaySay, Server, Setting, granted as one_granted}
 use Rattle.pair_world.proofs.Books.{Moves, same_prefix_is, same_prefix_self, sent_contact, sent_reply, sent_update}
 use Rattle.pair_world.proofs.Effects.{by_test}
@@ -115,7 +115,7 @@ module _ (s : Setting) (place : Prefix) (side : Role) (K : ℕ → List Entry �
   not_calm (inl d) calm = let e = sym d.1 ∙ calm.0 in absurd (cc)
   not_calm (inr m) calm = let e = sym m ∙ calm.1 place unit in absurd (cc)
 
-  may_say : (ask answer : ℕ) → ask ≡ (if b.waiting then b.restart else 0) → IsAnswer b answer → MaySay here (record { ask = ask; answer = answer })
+  may_say : (ask answer : ℕ) → ask ≡ (if b.waiting then b.restart else 0) → IsContactAnswer b answer → MaySay here (record { ask = ask; answer = answer })
   may_say ask answer is answers = (
     subst (λ z. z ≤ b.restart) (sym is) (by_test (λ z. z ≤ b.restart) b.waiting b.restart 0 (λ _. omega arith) (λ _. omega arith)),
     by_word answers (λ on. inr (λ off. not_calm off on.0, on.1)) (λ off. inl off.1),

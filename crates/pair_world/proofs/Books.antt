@@ -20,7 +20,7 @@ use Rattle.binding_rules.specs.Table.{after_update}
 use Rattle.binding_rules.specs.Giving.{is_own}
 use Rattle.binding_rules.specs.Unit.{status_of}
 use Rattle.book_rules.specs.MessageRules.{IsTold}
-use Rattle.book_rules.specs.Effects.{changed, expired, or_as_was, same_prefix, seized}
+use Rattle.book_state.specs.Effects.{changed, expired, or_as_was, same_prefix, seized}
 use Rattle.book_rules.specs.UnitRules.{takeover}
 use Rattle.pair_world.specs.UnitWorld.{Contact, Entry, Gives, GivesBack, IsGrantable, IsIn, IsWithinLead, MaySay, Server, Setting, asked_by, contacted, granted}
 

@@ -12,9 +12,9 @@ use Rattle.binding_rules.specs.Role.{partner_of}
 use Rattle.binding_rules.specs.Unit.{status_of}
 use Rattle.journal_lines.specs.declared.event.Lease.{Lease}
 use Rattle.journal_lines.specs.declared.event.Event.TheVariants.{Release}
-use Rattle.book_rules.specs.Book.{Book, IsCalm, is_in, is_unit}
-use Rattle.book_rules.specs.declared.pool.Pool.{Pool}
-use Rattle.server_book.specs.Settings.{ServerSettings}
+use Rattle.book_state.specs.Book.{Book, IsCalm, is_in, is_unit}
+use Rattle.book_state.specs.declared.pool.Pool.{Pool}
+use Rattle.server_settings.specs.Settings.{ServerSettings}
 use Rattle.attribution.specs.Run.{IsValidAt, StartInTime}
 use Rattle.pair_world.specs.PairSafe.{BooksKeep, AckWasTold, EndsInTime, IsTheirs, PartnerStandsBack, StandsBack}
 use Rattle.pair_world.specs.UnitWorld.{IsIn}
@@ -31,7 +31,7 @@ use Rattle.pair_world.proofs.Phases.{by_word}
 use Rattle.pair_world.proofs.Books.{sent_contact}
 use Rattle.pair_world.proofs.Lists.{numbered_in}
 use Rattle.pair_world.proofs.Valid.{valid_runs}
-use Rattle.pair_world.specs.Kept.{Kept}
+use Rattle.pair_world.specs.Kept.{PairKept}
 
 -- each of the pair's two books, as the run leads to it
 book_at : (s : ServerSettings) (w : PairWorld) → Good s w → (side : Role) → book side w ≡ book_in side w.run
@@ -141,5 +141,5 @@ pub books_keep : BooksKeep
 books_keep s t w c p unit =
     let is = good s t w c in
     let kept = (is.run.known p (unit_at s w is Primary p unit)).kept in
-    subst (λ x. Kept (setting_of s) w.moment (log_of p w.run []) x (server_of p (book Secondary w) (messages Secondary w.run []) w.stopped_b)) (ap (λ b. server_of p b (messages Primary w.run []) w.stopped_a) (sym (book_at s w is Primary)))
-    (subst (λ x. Kept (setting_of s) w.moment (log_of p w.run []) (server_of p (book_in Primary w.run) (messages Primary w.run []) w.stopped_a) x) (ap (λ b. server_of p b (messages Secondary w.run []) w.stopped_b) (sym (book_at s w is Secondary))) kept)
+    subst (λ x. PairKept (setting_of s) w.moment (log_of p w.run []) x (server_of p (book Secondary w) (messages Secondary w.run []) w.stopped_b)) (ap (λ b. server_of p b (messages Primary w.run []) w.stopped_a) (sym (book_at s w is Primary)))
+    (subst (λ x. PairKept (setting_of s) w.moment (log_of p w.run []) (server_of p (book_in Primary w.run) (messages Primary w.run []) w.stopped_a) x) (ap (λ b. server_of p b (messages Secondary w.run []) w.stopped_b) (sym (book_at s w is Secondary))) kept)

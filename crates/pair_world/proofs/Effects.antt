@@ -21,7 +21,7 @@ use Rattle.binding_rules.specs.Reply.{after_reply, is_accept, settled, unmarked,
 use Rattle.binding_rules.specs.Unit.{same_binding, status_of, freed}
 use Rattle.pair_world.proofs.Phases.{or_eq, or_le, own_fewer}
 use Rattle.pair_world.proofs.Words.{code_low, code_high, same_is}
-use Rattle.book_rules.specs.Effects.{or_as_was, changed, expired}
+use Rattle.book_state.specs.Effects.{or_as_was, changed, expired}
 use Rattle.binding_rules.specs.Giving.{is_own}
 
 pub by_test : {T : Type 0} (P : T → Type 0) (t : Bool) (x y : T) → (t ≡ true → P x) → (t ≡ false → P y) → P (if t then x else y)

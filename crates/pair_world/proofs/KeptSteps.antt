@@ -20,7 +20,7 @@ use Rattle.binding_rules.specs.declared.update.Update.{Update}
 use Rattle.binding_rules.specs.Reply.{after_reply, is_accept, unmarked, count_unmarked}
 use Rattle.binding_rules.specs.Role.{partner_of}
 use Rattle.binding_rules.specs.Table.{after_update, answered}
-use Rattle.book_rules.specs.Effects.{expired, or_as_was, seized, changed}
+use Rattle.book_state.specs.Effects.{expired, or_as_was, seized, changed}
 use Rattle.binding_rules.specs.Giving.{is_own}
 use Rattle.binding_rules.specs.Unit.{status_of}
 use Rattle.book_rules.specs.UnitRules.{takeover}

@@ -11,9 +11,9 @@ use Rattle.journal_lines.specs.declared.event.Event.TheVariants.{Backup, Base, C
 use Rattle.journal_lines.specs.declared.event.Event.{Event}
 use Rattle.journal_lines.specs.declared.line.Line.{Line}
 use Rattle.book_rules.specs.Volumes.{AreSteps, book_after}
-use Rattle.book_rules.specs.Book.{Book}
+use Rattle.book_state.specs.Book.{Book}
 use Rattle.book_rules.specs.Rules.{IsStep}
-use Rattle.book_rules.specs.Effects.{after}
+use Rattle.book_state.specs.Effects.{after}
 use Rattle.attribution.specs.Run.{At, Step, lines_of}
 use Rattle.pair_world.specs.UnitWorld.{Entry, IsIn}
 use Rattle.pair_world.specs.PairWorld.{IsNumbered, message_in, messages_of, with_sent}

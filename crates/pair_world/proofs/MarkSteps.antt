@@ -17,7 +17,7 @@ use Rattle.binding_rules.specs.declared.unit.UnitStatus.{UnitStatus}
 use Rattle.binding_rules.specs.declared.unit.Unit.{Unit as UnitValue}
 use Rattle.binding_rules.specs.declared.update.Update.{Update}
 use Rattle.binding_rules.specs.Table.{answered, partners_pool}
-use Rattle.book_rules.specs.Effects.{changed, seized, own_pool}
+use Rattle.book_state.specs.Effects.{changed, seized, own_pool}
 use Rattle.binding_rules.specs.Reply.{is_accept}
 use Rattle.binding_rules.specs.Role.{partner_of}
 use Rattle.pair_world.proofs.Phases.{by_word}

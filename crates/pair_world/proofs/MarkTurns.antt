@@ -15,7 +15,7 @@ use Rattle.binding_rules.specs.declared.unit.Unit.{Unit as UnitValue}
 use Rattle.binding_rules.specs.declared.update.Update.{Update}
 use Rattle.binding_rules.specs.Reply.{count_unmarked, is_accept, unmarked}
 use Rattle.book_rules.specs.MessageRules.{due_update}
-use Rattle.book_rules.specs.Effects.{seized}
+use Rattle.book_state.specs.Effects.{seized}
 use Rattle.pair_world.proofs.Marks.{seize}
 use Rattle.pair_world.proofs.Unmarks.{Raised, Tells, OrDue, OrDueEnd, unmark_a, unmark_b}
 use Rattle.pair_world.proofs.Words.{no_word, no_end_silent, new_mark, same_marks}

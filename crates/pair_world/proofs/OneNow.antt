@@ -9,13 +9,13 @@ use Rattle.std.proofs.lemmas.List.Elements.{All-head}
 use Rattle.std.proofs.lemmas.Slice.Eq.{bytes_eq-Decides}
 use Rattle.prefix_range.specs.Prefix.{Prefix, IsPrefix}
 use Rattle.binding_rules.specs.declared.unit.Binding.{Binding}
-use Rattle.book_rules.specs.Book.{is_unit}
-use Rattle.server_book.specs.declared.reply.Reply.{Reply}
-use Rattle.server_book.specs.Settings.{ServerSettings}
+use Rattle.book_state.specs.Book.{is_unit}
+use Rattle.order_book.specs.declared.reply.Reply.{Reply}
+use Rattle.server_settings.specs.Settings.{ServerSettings}
 use Rattle.attribution.specs.Run.{StartInTime}
 use Rattle.pair_world.specs.declared.event.Event.{Event}
 use Rattle.pair_world.specs.declared.error.WorldError.{WorldError}
-use Rattle.pair_world.specs.PairWorld.{PairWorld, IsStep, Reaches}
+use Rattle.pair_world.specs.PairWorld.{PairWorld, IsWorldStep, Reaches}
 use Rattle.pair_world.specs.Holders.{client_cmp, HasSome, AreHolders}
 use Rattle.pair_world.specs.PairSafe.{Comes, StepStays, RunStays, OneHolderNow}
 use Rattle.pair_world.proofs.Worlds.{Good, good}
@@ -24,8 +24,8 @@ use Rattle.pair_world.proofs.Results.{shared, one_binding}
 use Rattle.binding_rules.specs.declared.role.Role.TheVariants.{Primary}
 
 -- one step more
-reaches_on : (u w v : PairWorld) (es : List Event) (e : Event) (answer : Result Reply WorldError) → Reaches u es w → IsStep w e answer v → Reaches u (es ++ e ∷ []) v
-reaches_on u w v [] e answer r step = (answer, v, subst (λ z. IsStep z e answer v) r step, refl)
+reaches_on : (u w v : PairWorld) (es : List Event) (e : Event) (answer : Result Reply WorldError) → Reaches u es w → IsWorldStep w e answer v → Reaches u (es ++ e ∷ []) v
+reaches_on u w v [] e answer r step = (answer, v, subst (λ z. IsWorldStep z e answer v) r step, refl)
 reaches_on u w v (x ∷ xs) e answer r step = (r.0, r.1, r.2, reaches_on r.1 w v xs e answer r.3 step)
 
 pub step_stays : StepStays

@@ -9,13 +9,13 @@ use Rattle.binding_rules.specs.Role.{is_side}
 use Rattle.journal_lines.specs.declared.event.Event.TheVariants.{Backup, Base, Carry, Close, Expire, Grant, Open, Pool as PoolLine, Reclaim, Release, Restart, Seize, Send, State, Take, Transit as TransitLine, Unit as UnitLine}
 use Rattle.journal_lines.specs.declared.event.Event.{Event}
 use Rattle.journal_lines.specs.declared.line.Line.{Line}
-use Rattle.book_rules.specs.Book.{Book, blank}
-use Rattle.book_rules.specs.declared.pool.Pool.{Pool}
-use Rattle.book_rules.specs.Effects.{after, effect}
+use Rattle.book_state.specs.Book.{Book, blank}
+use Rattle.book_state.specs.declared.pool.Pool.{Pool}
+use Rattle.book_state.specs.Effects.{after, effect}
 use Rattle.book_rules.specs.Volumes.{book_after}
-use Rattle.book_rules.specs.NextHead.{lines_from, pool_event, transit_events}
-use Rattle.server_book.specs.Settings.{ServerSettings, opening}
-use Rattle.server_book.specs.Replayed.{state_of}
+use Rattle.volume_heads.specs.NextHead.{lines_from, pool_event, transit_events}
+use Rattle.server_settings.specs.Settings.{ServerSettings, opening}
+use Rattle.order_book.specs.Replayed.{state_of}
 use Rattle.attribution.specs.Run.{Step}
 use Rattle.pair_world.specs.UnitWorld.{Entry}
 use Rattle.pair_world.specs.PairWorld.{steps_of}

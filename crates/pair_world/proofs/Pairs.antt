@@ -12,11 +12,11 @@ use Rattle.binding_rules.specs.declared.role.Role.{Role}
 use Rattle.journal_lines.specs.declared.event.Event.TheVariants.{Backup, Base, Carry, Close, Expire, Grant, Open, Pool as PoolLine, Reclaim, Release, Restart, Seize, Send, State, Take, Transit as TransitLine, Unit as UnitLine}
 use Rattle.journal_lines.specs.declared.event.Event.{Event}
 use Rattle.journal_lines.specs.declared.line.Line.{Line}
-use Rattle.book_rules.specs.Book.{Book, is_unit}
+use Rattle.book_state.specs.Book.{Book, is_unit}
 use Rattle.book_rules.specs.Rules.{IsStep}
-use Rattle.book_rules.specs.declared.pool.Pool.{Pool}
-use Rattle.book_rules.specs.Effects.{after, effect, learned, taken_body}
-use Rattle.book_rules.specs.NextHead.{is_head}
+use Rattle.book_state.specs.declared.pool.Pool.{Pool}
+use Rattle.book_state.specs.Effects.{after, effect, learned, taken_body}
+use Rattle.volume_heads.specs.NextHead.{is_head}
 use Rattle.pair_world.specs.UnitWorld.{Entry, Server, Setting}
 use Rattle.pair_world.proofs.BookSteps.{Agrees, IsDownFor, IsFed, MayWrite, step, stopped_after}
 use Rattle.pair_world.proofs.Safety.{Invariant, KnownFrom, moves, passes}

@@ -6,8 +6,8 @@ use Rattle.pair_world.specs.UnitInRun.{holder_of, log_of}
 use Rattle.prefix_range.specs.Prefix.{HasAddress, IsPrefix, Prefix}
 use Rattle.binding_rules.specs.declared.unit.Binding.{Binding}
 use Rattle.journal_lines.specs.declared.event.Lease.{Lease}
-use Rattle.book_rules.specs.Book.{is_unit}
-use Rattle.server_book.specs.Settings.{ServerSettings}
+use Rattle.book_state.specs.Book.{is_unit}
+use Rattle.server_settings.specs.Settings.{ServerSettings}
 use Rattle.attribution.specs.Run.{IsValidAt, StartInTime}
 use Rattle.pair_world.specs.PairSafe.{AddressSafe, LeaseSafe, MayOpen, WorldIsRun}
 use Rattle.pair_world.specs.UnitSafe.{HasUnit}

@@ -3,7 +3,7 @@ use Rattle.std.specs.Prelude.{◌≡◌, ℕ, ◌+◌, ◌<◌, List, [], ◌∷
 use Rattle.std.proofs.Common.{suc, refl, sym, ◌∙◌, ap, subst, add-one, drop-cons}
 use Rattle.std.proofs.Math.Seq.{take-suc}
 use Rattle.std.proofs.lemmas.List.{take-append-drop}
-use Rattle.server_book.specs.declared.reply.Reply.{Reply}
+use Rattle.order_book.specs.declared.reply.Reply.{Reply}
 use Rattle.pair_world.specs.declared.event.Event.{Event}
 use Rattle.pair_world.specs.declared.error.WorldError.{WorldError}
 use Rattle.pair_world.specs.PairWorld.{PairWorld, IsDone, IsRefused, AreDone, StopsAt}

@@ -4,7 +4,7 @@ use Rattle.std.proofs.Common.{arith, inl, inr, refl, sym, ap}
 use Rattle.std.proofs.lemmas.Bool.{cases_lt}
 use Rattle.pair_world.specs.Acks.{OwnEnds}
 use Rattle.pair_world.specs.Phases.{Due, DueAtB, Own}
-use Rattle.pair_world.specs.Kept.{Ends, IsActiveOf, Kept, Waits}
+use Rattle.pair_world.specs.Kept.{Ends, IsActiveOf, PairKept, Waits}
 use Rattle.pair_world.specs.Said.{Answer, InCalm, Says, SaysEnd, SaysMark, Word, active_code, code}
 use Rattle.binding_rules.specs.declared.unit.Binding.{Binding}
 use Rattle.pair_world.specs.UnitSafe.{EndsInTime, HasUnit, IsAckTold, OneHolder, PartnerDownLaws, PartnerWaits, Runs}
@@ -28,7 +28,7 @@ active_code_of : (status : UnitStatus) (j k : Binding) → IsActiveOf status j �
 active_code_of status j k x = ap (code k) x
 
 -- while the unit is marked at one server, no grant of the other's runs
-across : (s : Setting) (now : ℕ) (log : List Entry) (a b : Server) → Kept s now log a b → (j k : Binding) (end end' : ℕ)
+across : (s : Setting) (now : ℕ) (log : List Entry) (a b : Server) → PairKept s now log a b → (j k : Binding) (end end' : ℕ)
     → Runs s.transit log Primary j end → now < end → Runs s.transit log Secondary k end' → now < end' → j ≡ k
 across s now log a b inv j k end end' r lt r' lt' =
     let x = (inv.ends_a.own_end j end r lt).0 in
@@ -42,14 +42,14 @@ across s now log a b inv j k end end' r lt r' lt' =
     (λ p. let z = inv.ends_b.none_marked p k end' r' in absurd (omega arith))
     (λ q. let z = inv.ends_a.none_marked q j end r in absurd (omega arith))
 
-one_of_two : (s : Setting) (now : ℕ) (log : List Entry) (a b : Server) → Kept s now log a b → (x y : Role) (j k : Binding) (end end' : ℕ)
+one_of_two : (s : Setting) (now : ℕ) (log : List Entry) (a b : Server) → PairKept s now log a b → (x y : Role) (j k : Binding) (end end' : ℕ)
     → Runs s.transit log x j end → now < end → Runs s.transit log y k end' → now < end' → j ≡ k
 one_of_two s now log a b inv Primary Primary j k end end' r lt r' lt' = active_once a.unit.status j k (inv.ends_a.own_end j end r lt).0 (inv.ends_a.own_end k end' r' lt').0
 one_of_two s now log a b inv Secondary Secondary j k end end' r lt r' lt' = active_once b.unit.status j k (inv.ends_b.own_end j end r lt).0 (inv.ends_b.own_end k end' r' lt').0
 one_of_two s now log a b inv Primary Secondary j k end end' r lt r' lt' = across s now log a b inv j k end end' r lt r' lt'
 one_of_two s now log a b inv Secondary Primary j k end end' r lt r' lt' = sym (across s now log a b inv k j end' end r' lt' r lt)
 
-one_from_now : (s : Setting) (now : ℕ) (log : List Entry) (a b : Server) → Kept s now log a b → (m : ℕ) → now ≤ m → (j k : Binding)
+one_from_now : (s : Setting) (now : ℕ) (log : List Entry) (a b : Server) → PairKept s now log a b → (m : ℕ) → now ≤ m → (j k : Binding)
     → HasUnit s.transit log j m → HasUnit s.transit log k m → j ≡ k
 one_from_now s now log a b inv m le j k h h' =
     let r = held_runs s.transit now m log j inv.past le h in
@@ -63,7 +63,7 @@ abbrev pub Alone : ℕ → List Entry → Type 0
 Alone transit log = (m : ℕ) (j k : Binding) → HasUnit transit log j m → HasUnit transit log k m → j ≡ k
 
 pub record Invariant (s : Setting) (now : ℕ) (log : List Entry) (a b : Server) : Type 0 where
-  pub kept : Kept s now log a b
+  pub kept : PairKept s now log a b
   pub alone : Alone s.transit log
 
 no_word_yet : (s : Setting) (k : Binding) (c m n : ℕ) → Word k first c m n → ⊥
@@ -168,7 +168,7 @@ before_gives transit now m log side holder valid k lt (inl h) = let le = h.1 in 
 before_gives transit now m log side holder valid k lt (inr h) = h
 
 pub alone_gives : (s : Setting) (now : ℕ) (log : List Entry) (side : Role) (holder : Binding) (valid : ℕ) (a b : Server) → Alone s.transit log
-    → Kept s now (Gives side holder now valid ∷ log) a b → Alone s.transit (Gives side holder now valid ∷ log)
+    → PairKept s now (Gives side holder now valid ∷ log) a b → Alone s.transit (Gives side holder now valid ∷ log)
 alone_gives s now log side holder valid a b alone kept m j k h h' = by_word (cases_lt m now)
     (λ lt. alone m j k (before_gives s.transit now m log side holder valid j lt h) (before_gives s.transit now m log side holder valid k lt h'))
     (λ le. one_from_now s now (Gives side holder now valid ∷ log) a b kept m le j k h h')
@@ -176,7 +176,7 @@ alone_gives s now log side holder valid a b alone kept m j k h h' = by_word (cas
 pub alone_gives_back : (s : Setting) (now : ℕ) (log : List Entry) (holder : Binding) → Alone s.transit log → Alone s.transit (GivesBack holder now ∷ log)
 alone_gives_back s now log holder alone m j k h h' = alone m j k h.1 h'.1
 
-pub passes : (s : Setting) (now : ℕ) (log : List Entry) (a b : Server) (n : ℕ) → Kept s now log a b → Kept s (now + n) log a b
+pub passes : (s : Setting) (now : ℕ) (log : List Entry) (a b : Server) (n : ℕ) → PairKept s now log a b → PairKept s (now + n) log a b
 passes s now log a b n kept = record {
   calm = kept.calm;
   marked_a = kept.marked_a;
@@ -287,7 +287,7 @@ all_keep s (e ∷ es) w inv run = all_keep s es (next s w e) (each_keeps s w e i
 pub one_holder : OneHolder
 one_holder s es run m j k h h' = (all_keep s es start (at_start s) run).alone m j k h h'
 
-laws : (s : Setting) (w : UnitWorld) (side : Role) → Kept s w.now w.log w.a w.b
+laws : (s : Setting) (w : UnitWorld) (side : Role) → PairKept s w.now w.log w.a w.b
     → PartnerWaits (server side w) (server (partner_of side) w) × IsAckTold side (server side w) (server (partner_of side) w) × EndsInTime s side w
 laws s w Primary kept = (kept.servers.there.law, ack_told Primary s w.now w.log w.a w.b kept, in_time Primary s w.now w.log w.a w.b kept)
 laws s w Secondary kept = (kept.servers.back.law, ack_told Secondary s w.now w.log w.b w.a kept, in_time Secondary s w.now w.log w.b w.a kept)

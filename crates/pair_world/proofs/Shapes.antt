@@ -10,13 +10,13 @@ use Rattle.journal_lines.specs.declared.event.Event.TheVariants.{Backup, Base, C
 use Rattle.journal_lines.specs.declared.event.Event.{Event}
 use Rattle.journal_lines.specs.declared.event.Lease.{Lease}
 use Rattle.journal_lines.specs.declared.line.Line.{Line}
-use Rattle.book_rules.specs.Book.{Book}
-use Rattle.book_rules.specs.NextHead.{is_head}
-use Rattle.server_book.specs.declared.order.Asked.{Asked}
-use Rattle.server_book.specs.declared.order.Order.TheVariants.{Backup as BackupOrder, Close as CloseOrder, Expire as ExpireOrder, Reclaim as ReclaimOrder, Release as ReleaseOrder, Renew, Request, Restart as RestartOrder, Seize as SeizeOrder, SendContact, SendReply, SendUpdate, State as StateOrder, Take as TakeOrder}
-use Rattle.server_book.specs.Bindings.{IsBound, IsOffered}
-use Rattle.server_book.specs.Named.{IsNamed, lease_of, message_of}
-use Rattle.server_book.specs.declared.order.Order.{Order}
+use Rattle.book_state.specs.Book.{Book}
+use Rattle.volume_heads.specs.NextHead.{is_head}
+use Rattle.order_book.specs.declared.order.Asked.{Asked}
+use Rattle.order_book.specs.declared.order.Order.TheVariants.{Backup as BackupOrder, Close as CloseOrder, Expire as ExpireOrder, Reclaim as ReclaimOrder, Release as ReleaseOrder, Renew, Request, Restart as RestartOrder, Seize as SeizeOrder, SendContact, SendReply, SendUpdate, State as StateOrder, Take as TakeOrder}
+use Rattle.order_book.specs.Bindings.{IsBound, IsOffered}
+use Rattle.order_book.specs.Named.{IsNamed, lease_of, message_of}
+use Rattle.order_book.specs.declared.order.Order.{Order}
 use Rattle.pair_world.specs.PairWorld.{IsDownAllowed, IsFedBy, WasSent}
 use Rattle.pair_world.specs.UnitWorld.{IsIn}
 use Rattle.pair_world.proofs.BookSteps.{IsDownFor, IsFed, MayWrite}

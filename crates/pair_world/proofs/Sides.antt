@@ -17,9 +17,9 @@ use Rattle.binding_rules.specs.Reply.{is_accept, unmarked}
 use Rattle.binding_rules.specs.Role.{partner_of}
 use Rattle.binding_rules.specs.Table.{answered}
 use Rattle.binding_rules.specs.Unit.{same_binding, status_of}
-use Rattle.book_rules.specs.Effects.{changed, expired, seized}
+use Rattle.book_state.specs.Effects.{changed, expired, seized}
 use Rattle.book_rules.specs.MessageRules.{IsTold}
-use Rattle.pair_world.specs.Kept.{Ends, IsActiveOf, IsPast, Kept, Servers}
+use Rattle.pair_world.specs.Kept.{Ends, IsActiveOf, IsPast, PairKept, Servers}
 use Rattle.pair_world.specs.Said.{DueOf, InCalm, InMark, Says, SaysMark, binding_of, code, due_code}
 use Rattle.pair_world.specs.UnitWorld.{Contact, Entry, IsGrantable, IsIn, Server, Setting, granted}
 use Rattle.pair_world.proofs.Effects.{accepted_as, accepts_as, replied}
@@ -45,8 +45,8 @@ pub record KeptBy (side : Role) (s : Setting) (now : ℕ) (log : List Entry) (x 
   pub past : IsPast now log
 
 abbrev pub KeptFrom : Role → Setting → ℕ → List Entry → Server → Server → Type 0
-KeptFrom Primary s now log x y = Kept s now log x y
-KeptFrom Secondary s now log x y = Kept s now log y x
+KeptFrom Primary s now log x y = PairKept s now log x y
+KeptFrom Secondary s now log x y = PairKept s now log y x
 
 pub seen_from : (side : Role) (s : Setting) (now : ℕ) (log : List Entry) (x y : Server) → KeptFrom side s now log x y → KeptBy side s now log x y
 seen_from Primary s now log x y kept = record {

@@ -18,7 +18,7 @@ use Rattle.binding_rules.specs.declared.unit.UnitStatus.{UnitStatus}
 use Rattle.binding_rules.specs.declared.unit.Unit.{Unit as UnitValue}
 use Rattle.binding_rules.specs.declared.update.Update.{Update}
 use Rattle.binding_rules.specs.Table.{answered}
-use Rattle.book_rules.specs.Effects.{changed, expired}
+use Rattle.book_state.specs.Effects.{changed, expired}
 use Rattle.binding_rules.specs.Reply.{is_accept}
 use Rattle.binding_rules.specs.Unit.{status_of}
 use Rattle.pair_world.proofs.PhasesA.{grant_a, end_a, move_a, take_active_a, take_over_a, reply_keep_a, reply_free_a}

@@ -18,7 +18,7 @@ use Rattle.binding_rules.specs.declared.unit.UnitStatus.{UnitStatus}
 use Rattle.binding_rules.specs.declared.unit.Unit.{Unit as UnitValue}
 use Rattle.binding_rules.specs.declared.update.Update.{Update}
 use Rattle.binding_rules.specs.Table.{answered}
-use Rattle.book_rules.specs.Effects.{changed, expired}
+use Rattle.book_state.specs.Effects.{changed, expired}
 use Rattle.binding_rules.specs.Reply.{is_accept}
 use Rattle.binding_rules.specs.Unit.{status_of}
 use Rattle.pair_world.proofs.PhasesB.{grant_b, end_b, take_active_b, take_over_b, take_backup_b, take_free_b, reply_keep_b, reply_free_b}

@@ -10,11 +10,11 @@ use Rattle.journal_lines.specs.declared.line.Line.{Line}
 use Rattle.journal_lines.specs.declared.event.Event.TheVariants.{Send, Take}
 use Rattle.journal_lines.specs.Close.{is_close, until_close}
 use Rattle.book_rules.specs.Volumes.{AreSteps, book_after}
-use Rattle.book_rules.specs.Book.{Book, blank}
-use Rattle.book_rules.specs.NextHead.{IsLegal}
+use Rattle.book_state.specs.Book.{Book, blank}
+use Rattle.volume_heads.specs.NextHead.{AreLegal}
 use Rattle.book_rules.specs.Rules.{IsStep}
 use Rattle.book_rules.specs.declared.rule.Rule.TheVariants.{Sequence}
-use Rattle.book_rules.specs.Effects.{after}
+use Rattle.book_state.specs.Effects.{after}
 use Rattle.attribution.specs.Run.{At, IsRun, KeepsSkew, Step, lines_of}
 use Rattle.pair_world.specs.PairWorld.{steps_of}
 use Rattle.pair_world.specs.PairSafe.{first_volume}
@@ -115,7 +115,7 @@ until b (l ∷ ls) h = by_close (is_close l.event) refl (until (after b l) ls h.
   by_close true e rest = ap (λ z. l ∷ z) (sym (no_more (after b l) ls e h.1))
   by_close false e rest = ap (λ z. l ∷ z) rest
 
-pub is_run : (skew moment : ℕ) (run : List Step) → Trace skew moment run → IsRun IsLegal first_volume run × KeepsSkew skew first_volume run
+pub is_run : (skew moment : ℕ) (run : List Step) → Trace skew moment run → IsRun AreLegal first_volume run × KeepsSkew skew first_volume run
 is_run skew moment run h = (
   record {
     in_time = h.in_time;

@@ -5,9 +5,9 @@ use Rattle.std.proofs.lemmas.List.Elements.{All-head, All-tail}
 use Rattle.std.proofs.lemmas.Bool.{and_parts, eqb-true, or_cases}
 use Rattle.std.proofs.lemmas.Nat.{shr_split}
 use Rattle.prefix_range.specs.Prefix.{HasAddress, IsPrefix, Prefix, size_of}
-use Rattle.book_rules.specs.Places.{AreDisjoint, IsPool}
-use Rattle.book_rules.specs.declared.pool.Pool.{Pool}
-use Rattle.book_rules.specs.Book.{is_in, is_unit}
+use Rattle.book_state.specs.Places.{AreDisjoint, IsPool}
+use Rattle.book_state.specs.declared.pool.Pool.{Pool}
+use Rattle.book_state.specs.Book.{is_in, is_unit}
 use Rattle.pair_world.proofs.Phases.{by_word}
 
 -- equal first bits are equal at a shorter length too

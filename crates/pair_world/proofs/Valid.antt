@@ -8,7 +8,7 @@ use Rattle.binding_rules.specs.declared.role.Role.{Role}
 use Rattle.journal_lines.specs.declared.event.Event.TheVariants.{Backup, Base, Carry, Close, Expire, Grant, Open, Pool as PoolLine, Reclaim, Release, Restart, Seize, Send, State, Take, Transit as TransitLine, Unit as UnitLine}
 use Rattle.journal_lines.specs.declared.event.Event.{Event}
 use Rattle.journal_lines.specs.declared.event.Lease.{Lease}
-use Rattle.book_rules.specs.Effects.{same_prefix}
+use Rattle.book_state.specs.Effects.{same_prefix}
 use Rattle.attribution.specs.Run.{At, Step}
 use Rattle.pair_world.specs.UnitWorld.{Entry, Gives, GivesBack}
 use Rattle.pair_world.specs.UnitSafe.{HasUnit, Runs}

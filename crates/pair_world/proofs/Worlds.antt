@@ -1,7 +1,7 @@
 -- Every world that a list of events leads to is good: its run is a run of the pair, and at each unit the invariant holds.
 use Rattle.std.specs.Prelude.{◌≡◌, ◌+◌, ◌≤◌, ◌∷◌, ◌++◌, [], Bool, Err, List, Ok, Result, false, max, true, ℕ}
 use Rattle.std.proofs.Common.{◌∙◌, ap, append-nil, ap₂, arith, refl, subst, suc, sym, zero}
-use Rattle.pair_world.specs.Kept.{Kept}
+use Rattle.pair_world.specs.Kept.{PairKept}
 use Rattle.pair_world.specs.UnitInRun.{messages, server_of, setting_of}
 use Rattle.prefix_range.specs.Prefix.{IsPrefix, Prefix}
 use Rattle.lead_time.specs.Lease.{allowed_lifetime}
@@ -16,20 +16,20 @@ use Rattle.journal_lines.specs.declared.line.Line.{Line}
 use Rattle.journal_lines.specs.declared.volume.Head.TheVariants.{One}
 use Rattle.journal_lines.specs.Head.{volume_number}
 use Rattle.book_rules.specs.Volumes.{AreSteps, book_after}
-use Rattle.book_rules.specs.Book.{Book, blank, is_unit}
-use Rattle.book_rules.specs.Rules.{IsStep as IsBookStep}
+use Rattle.book_state.specs.Book.{Book, blank, is_unit}
+use Rattle.book_rules.specs.Rules.{IsStep}
 use Rattle.book_rules.specs.declared.rule.Rule.TheVariants.{Lifetime, Unit as UnitRule}
-use Rattle.book_rules.specs.declared.pool.Pool.{Pool}
-use Rattle.server_book.specs.declared.order.Order.{Order}
-use Rattle.server_book.specs.declared.reply.Reply.{Reply}
-use Rattle.server_book.specs.declared.order.Order.TheVariants.{Restart as RestartOrder, Take as TakeOrder}
-use Rattle.server_book.specs.Settings.{ServerSettings, opening}
-use Rattle.server_book.proofs.FirstLines.{opening_is_legal}
-use Rattle.server_book.specs.Replayed.{state_of, with_line}
-use Rattle.server_book.specs.Answer.{IsAnswer}
+use Rattle.book_state.specs.declared.pool.Pool.{Pool}
+use Rattle.order_book.specs.declared.order.Order.{Order}
+use Rattle.order_book.specs.declared.reply.Reply.{Reply}
+use Rattle.order_book.specs.declared.order.Order.TheVariants.{Restart as RestartOrder, Take as TakeOrder}
+use Rattle.server_settings.specs.Settings.{ServerSettings, opening}
+use Rattle.order_book.proofs.FirstLines.{opening_is_legal}
+use Rattle.order_book.specs.Replayed.{state_of, with_line}
+use Rattle.order_book.specs.Answer.{IsAnswer}
 use Rattle.binding_rules.specs.Role.{partner_of}
 use Rattle.attribution.specs.Run.{At, Step, lines_of}
-use Rattle.pair_world.specs.PairWorld.{Answers, AreAlike, IsDone, IsDownAllowed, IsFedBy, IsStep, PairWorld, Reaches, book, is_stopped, journal, new_world, steps_of, with_stop, written}
+use Rattle.pair_world.specs.PairWorld.{Answers, AreAlike, IsDone, IsDownAllowed, IsFedBy, IsWorldStep, PairWorld, Reaches, book, is_stopped, journal, new_world, steps_of, with_stop, written}
 use Rattle.pair_world.specs.PairSafe.{Comes, MayOpen}
 use Rattle.pair_world.specs.declared.event.Event.TheVariants.{Deliver, Pass, Restart as RestartEvent, Serve, Stop}
 use Rattle.pair_world.specs.UnitWorld.{IsIn, Setting, first}
@@ -106,7 +106,7 @@ head_gifts pools ss h i t g at is = absurd (none ss h i at) where
 valid_short : (life mclt acked now valid : ℕ) → life ≤ 31536000 → valid ≡ allowed_lifetime life mclt acked now → valid ≤ 31536000
 valid_short life mclt acked now valid le is = omega arith
 
-gift : (pools : List Pool) (b : Book) (l : Line) (g : Lease) → b.pools ≡ pools → b.life ≤ 31536000 → IsBookStep b l → l.event ≡ Grant g → (g.valid ≤ 31536000) × (is_unit pools g.prefix ≡ true)
+gift : (pools : List Pool) (b : Book) (l : Line) (g : Lease) → b.pools ≡ pools → b.life ≤ 31536000 → IsStep b l → l.event ≡ Grant g → (g.valid ≤ 31536000) × (is_unit pools g.prefix ≡ true)
 gift pools b l g same short step is =
     let r7 = rw is at (step Lifetime) in
     let r4 = rw is at (step UnitRule) in
@@ -155,7 +155,7 @@ module _ (s : ServerSettings) (moment : ℕ) (run : List Step) (stopped : Role �
       let ahead : l.reading ≤ moment + s.skew = subst (λ z. z ≤ moment + s.skew) (sym answer.line.reading) r.0 in
       let behind : moment ≤ l.reading + s.skew = subst (λ z. moment ≤ z + s.skew) (sym answer.line.reading) r.1 in
       let may = writes l.event refl in
-      let legal : IsBookStep (book_in side run) l = subst (λ b. IsBookStep b l) book_is_in answer.line.legal in
+      let legal : IsStep (book_in side run) l = subst (λ b. IsStep b l) book_is_in answer.line.legal in
       let sent : (m : PartnerMessage) → l.event ≡ Take m → IsIn (messages other run []) m =
       λ m e. let n = sh.fed m e in numbered_in other run (journals other).lines n.0 m (good.journal other).lines n.1 in
       let own = good.journal side in
@@ -267,7 +267,7 @@ good_new moment s t opens =
           subst (λ es. Invariant (setting_of s) moment es (server_of p (book_in Primary run) (messages Primary run []) false) (server_of p (book_in Secondary run) (messages Secondary run []) false)) (sym (log_heads p run [] all))
           (subst (λ x. Invariant (setting_of s) moment [] x (server_of p (book_in Secondary run) (messages Secondary run []) false)) (sym server_a)
           (subst (λ x. Invariant (setting_of s) moment [] first x) (sym server_b)
-          (record { kept = subst (λ n. Kept (setting_of s) n [] first first) zero_plus (passes (setting_of s) 0 [] first first moment (at_start (setting_of s)).kept); alone = λ m j k h h'. absurd h })))
+          (record { kept = subst (λ n. PairKept (setting_of s) n [] first first) zero_plus (passes (setting_of s) 0 [] first first moment (at_start (setting_of s)).kept); alone = λ m j k h h'. absurd h })))
 
 module _ (s : ServerSettings) (w : PairWorld) (good : Good s w) where
   pass_good : (n : ℕ) → Good s (record w { moment = w.moment + n })
@@ -290,7 +290,7 @@ module _ (s : ServerSettings) (w : PairWorld) (good : Good s w) where
   done_good v (RestartEvent side clock) reply d = let x = d.1 in subst (Good s) (sym x.2) (restart_good side s w good clock x.0 reply x.1)
   done_good v (Pass ms) reply d = subst (Good s) (sym d.2) (pass_good ms)
 
-  step_good : (v : PairWorld) (e : WorldEvent) (answer : Result Reply WorldError) → IsStep w e answer v → Good s v
+  step_good : (v : PairWorld) (e : WorldEvent) (answer : Result Reply WorldError) → IsWorldStep w e answer v → Good s v
   step_good v e (Ok reply) d = done_good v e reply d
   step_good v e (Err error) d = subst (Good s) (sym d.1) good
 

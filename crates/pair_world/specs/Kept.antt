@@ -63,7 +63,7 @@ pub record Ends (s : Setting) (now : ℕ) (log : List Entry) (side : Role) (u : 
   pub none_marked : mark ≡ true → (k : Binding) (end : ℕ) → Runs s.transit log side k end → end ≤ now
 
 -- At each moment, with what was granted and given back so far.
-pub record Kept (s : Setting) (now : ℕ) (log : List Entry) (a b : Server) : Type 0 where
+pub record PairKept (s : Setting) (now : ℕ) (log : List Entry) (a b : Server) : Type 0 where
   pub calm : a.unit.marked ≡ false → b.unit.marked ≡ false → (k : Binding) → InCalm k a b
   pub marked_a : a.unit.marked ≡ true → (k : Binding) → InMark Primary k a b
   pub marked_b : b.unit.marked ≡ true → (k : Binding) → InMark Secondary k b a

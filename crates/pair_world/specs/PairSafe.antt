@@ -1,7 +1,7 @@
 -- Pair safety: what every world of two books keeps, whatever is served, delivered, stopped and restarted.
 use Rattle.std.specs.Prelude.{◌≡◌, ◌≢◌, ◌⊎◌, ℕ, ◌+◌, ◌*◌, ◌^◌, ◌≤◌, false, true, List, max, Some}
 use Rattle.std.specs.Prelude.{length, Result, []}
-use Rattle.server_book.specs.declared.reply.Reply.{Reply}
+use Rattle.order_book.specs.declared.reply.Reply.{Reply}
 use Rattle.prefix_range.specs.Prefix.{Prefix, IsPrefix, HasAddress}
 use Rattle.binding_rules.specs.declared.role.Role.{Role}
 use Rattle.binding_rules.specs.declared.role.Role.TheVariants.{Primary, Secondary}
@@ -12,16 +12,16 @@ use Rattle.binding_rules.specs.declared.update.Status.TheVariants.{Active as Act
 use Rattle.binding_rules.specs.Unit.{status_of}
 use Rattle.binding_rules.specs.Giving.{is_own}
 use Rattle.journal_lines.specs.declared.event.Lease.{Lease}
-use Rattle.book_rules.specs.Book.{IsUnit, IsCalm}
-use Rattle.book_rules.specs.NextHead.{IsLegal}
-use Rattle.server_book.specs.Settings.{ServerSettings, AreFit}
+use Rattle.book_state.specs.Book.{IsUnit, IsCalm}
+use Rattle.volume_heads.specs.NextHead.{AreLegal}
+use Rattle.server_settings.specs.Settings.{ServerSettings, AreFit}
 use Rattle.attribution.specs.Run.{lines_of, IsRun, KeepsSkew, StartInTime, IsValidAt, Holds}
 use Rattle.pair_world.specs.declared.event.Event.{Event}
 use Rattle.pair_world.specs.PairWorld.{PairWorld, journal, book, is_stopped, AreAlike, new_world, WasSent, Reaches}
-use Rattle.pair_world.specs.PairWorld.{IsStep, AreDone}
+use Rattle.pair_world.specs.PairWorld.{IsWorldStep, AreDone}
 use Rattle.pair_world.specs.Holders.{AreHolders}
 use Rattle.pair_world.specs.declared.error.WorldError.{WorldError}
-use Rattle.pair_world.specs.Kept.{Kept}
+use Rattle.pair_world.specs.Kept.{PairKept}
 use Rattle.pair_world.specs.UnitInRun.{setting_of, log_of, server_of, messages}
 
 -- settings by which the pair may open at a moment: each within its limits, and alike
@@ -42,7 +42,7 @@ pub record Comes (s t : ServerSettings) (w : PairWorld) : Type 0 where
 abbrev pub StepStays : Type 0
 StepStays =
     (s t : ServerSettings) (w v : PairWorld) (e : Event) (answer : Result Reply WorldError) → Comes s t w
-    → IsStep w e answer v → Comes s t v
+    → IsWorldStep w e answer v → Comes s t v
 
 abbrev pub RunStays : Type 0
 RunStays =
@@ -56,7 +56,7 @@ first_volume side = 1
 
 -- The world's run is a run of the pair, its clocks keep the skew, and its journals are the lines of its sides.
 pub record IsPairRun (s : ServerSettings) (w : PairWorld) : Type 0 where
-  pub run : IsRun IsLegal first_volume w.run
+  pub run : IsRun AreLegal first_volume w.run
   pub skew : KeepsSkew s.skew first_volume w.run
   pub lines : (side : Role) → (journal side w).lines ≡ lines_of side w.run
 
@@ -92,7 +92,7 @@ OneHolderNow =
 abbrev pub BooksKeep : Type 0
 BooksKeep =
     (s t : ServerSettings) (w : PairWorld) → Comes s t w → (p : Prefix) → IsUnit (book Primary w) p
-    → Kept (setting_of s) w.moment (log_of p w.run [])
+    → PairKept (setting_of s) w.moment (log_of p w.run [])
     (server_of p (book Primary w) (messages Primary w.run []) w.stopped_a)
     (server_of p (book Secondary w) (messages Secondary w.run []) w.stopped_b)
 

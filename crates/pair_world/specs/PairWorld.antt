@@ -10,14 +10,14 @@ use Rattle.journal_lines.specs.declared.event.Event.{Event as LineEvent}
 use Rattle.journal_lines.specs.declared.event.Event.TheVariants.{Send}
 use Rattle.journal_lines.specs.declared.line.Line.{Line}
 use Rattle.journal_lines.specs.declared.line.Journal.{Journal}
-use Rattle.book_rules.specs.Book.{Book}
-use Rattle.server_book.specs.declared.order.Order.{Order}
-use Rattle.server_book.specs.declared.order.Order.TheVariants.{Take, State, Restart as RestartOrder}
-use Rattle.server_book.specs.declared.reply.Reply.{Reply}
-use Rattle.server_book.specs.declared.reply.Reply.TheVariants.{Done}
-use Rattle.server_book.specs.Replayed.{state_of, with_line}
-use Rattle.server_book.specs.Settings.{ServerSettings, opening}
-use Rattle.server_book.specs.Answer.{IsAnswer, IsFirstRefusal}
+use Rattle.book_state.specs.Book.{Book}
+use Rattle.order_book.specs.declared.order.Order.{Order}
+use Rattle.order_book.specs.declared.order.Order.TheVariants.{Take, State, Restart as RestartOrder}
+use Rattle.order_book.specs.declared.reply.Reply.{Reply}
+use Rattle.order_book.specs.declared.reply.Reply.TheVariants.{Done}
+use Rattle.order_book.specs.Replayed.{state_of, with_line}
+use Rattle.server_settings.specs.Settings.{ServerSettings, opening}
+use Rattle.order_book.specs.Answer.{IsAnswer, IsFirstRefusal}
 use Rattle.attribution.specs.Run.{Step}
 use Rattle.pair_world.specs.declared.event.Event.{Event}
 use Rattle.pair_world.specs.declared.event.Event.TheVariants.{Serve, Deliver, Stop, Restart, Pass}
@@ -195,14 +195,14 @@ IsRefused w e Memory = ⊤
 IsRefused w e error = IsFirstFailure w e error
 
 -- One step: what is refused changes nothing.
-abbrev pub IsStep : PairWorld → Event → Result Reply WorldError → PairWorld → Type 0
-IsStep w e (Ok reply) v = IsDone w e reply v
-IsStep w e (Err error) v = IsRefused w e error × (v ≡ w)
+abbrev pub IsWorldStep : PairWorld → Event → Result Reply WorldError → PairWorld → Type 0
+IsWorldStep w e (Ok reply) v = IsDone w e reply v
+IsWorldStep w e (Err error) v = IsRefused w e error × (v ≡ w)
 
 -- the worlds after a list of events, each done or refused
 abbrev pub Reaches : PairWorld → List Event → PairWorld → Type 0
 Reaches w [] v = v ≡ w
-Reaches w (e ∷ es) v = (answer : Result Reply WorldError) × (u : PairWorld) × IsStep w e answer u × Reaches u es v
+Reaches w (e ∷ es) v = (answer : Result Reply WorldError) × (u : PairWorld) × IsWorldStep w e answer u × Reaches u es v
 
 -- all of the events are done, one behind the other
 abbrev pub AreDone : PairWorld → List Event → PairWorld → Type 0

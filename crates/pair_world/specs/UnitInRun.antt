@@ -12,9 +12,9 @@ use Rattle.binding_rules.specs.declared.update.Update.{Update}
 use Rattle.binding_rules.specs.Role.{is_side}
 use Rattle.journal_lines.specs.declared.event.Event.{Event}
 use Rattle.journal_lines.specs.declared.event.Event.TheVariants.{Grant, Release, Send}
-use Rattle.book_rules.specs.Book.{Book}
-use Rattle.book_rules.specs.Effects.{same_prefix}
-use Rattle.server_book.specs.Settings.{ServerSettings}
+use Rattle.book_state.specs.Book.{Book}
+use Rattle.book_state.specs.Effects.{same_prefix}
+use Rattle.server_settings.specs.Settings.{ServerSettings}
 use Rattle.attribution.specs.Run.{Step}
 use Rattle.pair_world.specs.UnitWorld.{Contact, Entry, Gives, GivesBack, Server, Setting}
 

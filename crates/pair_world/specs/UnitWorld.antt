@@ -19,7 +19,7 @@ use Rattle.binding_rules.specs.Table.{after_update}
 use Rattle.binding_rules.specs.Reply.{after_reply}
 use Rattle.book_rules.specs.UnitRules.{IsActiveFor, takeover}
 use Rattle.book_rules.specs.MessageRules.{IsTold}
-use Rattle.book_rules.specs.Effects.{changed, expired, or_as_was, seized}
+use Rattle.book_state.specs.Effects.{changed, expired, or_as_was, seized}
 
 -- what doesn't change in a run
 pub record Setting : Type 0 where

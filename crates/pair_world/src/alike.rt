@@ -5,7 +5,7 @@ ghost use Rattle.pair_world.specs.PairWorld.{AreAlike};
 
 use binding_rules::Role;
 use book_rules::Pool;
-use server_book::Settings;
+use server_settings::Settings;
 
 fn is_same(one: &[Pool], other: &[Pool]) -> bool
     ensures { IsTrue result ↔ (one.now ≡ other.now) }

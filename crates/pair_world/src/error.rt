@@ -3,7 +3,7 @@
 ghost use Rattle.std.specs.Prelude.{◌≡◌};
 ghost use Rattle.pair_world.specs.declared.error.WorldError.TheVariants.{Memory};
 
-use server_book::BookError;
+use order_book::BookError;
 use std::alloc::{AllocError, AllocFailed};
 use thiserror::Error;
 

@@ -2,7 +2,7 @@
 
 use binding_rules::Role;
 use lead_time::Reading;
-use server_book::Order;
+use order_book::Order;
 
 /// One event of the pair, or time that passes. A clock is what the server's clock shows as the event happens.
 #[derive(Clone, Copy, Debug, PartialEq, Eq)]

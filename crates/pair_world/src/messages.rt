@@ -7,7 +7,7 @@ ghost use Rattle.pair_world.specs.PairWorld.{message_in, IsNumbered, WasSent};
 use binding_rules::PartnerMessage;
 use journal_lines::{Event, Line};
 
-/// What a line sends.
+/// Returns what a line sends.
 fn message_in(line: &Line) -> Option<PartnerMessage>
     ensures { result ≡ message_in line.now.event }
 {

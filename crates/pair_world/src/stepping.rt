@@ -2,8 +2,8 @@
 
 ghost use Rattle.std.specs.Prelude.{◌≡◌, ◌++◌, ◌∷◌, ◌↔◌, [], IsTrue, IfOk, IfErr};
 ghost use Rattle.journal_lines.specs.declared.line.Line.{Line as LineValue};
-ghost use Rattle.server_book.specs.Replayed.{state_of, with_line};
-ghost use Rattle.server_book.specs.Answer.{IsAnswer};
+ghost use Rattle.order_book.specs.Replayed.{state_of, with_line};
+ghost use Rattle.order_book.specs.Answer.{IsAnswer};
 ghost use Rattle.pair_world.specs.declared.event.Event.TheVariants.{Serve, Deliver, Stop as StopEvent, Restart, Pass};
 ghost use Rattle.pair_world.specs.PairWorld.{journal, book, is_stopped, with_stop, written, IsFedBy, IsDownAllowed};
 ghost use Rattle.pair_world.specs.PairWorld.{IsBookRefusal, IsDone, IsRefused, AreDone, StopsAt};
@@ -16,7 +16,7 @@ use crate::world::World;
 use binding_rules::{Role, ServerState};
 use journal_lines::Line;
 use lead_time::Reading;
-use server_book::{Book, BookError, Order, Reply};
+use order_book::{Book, BookError, Order, Reply};
 
 /// Does what is ordered in a book, and adds the line to the run.
 fn write(

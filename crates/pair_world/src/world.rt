@@ -1,7 +1,7 @@
 //! A pair of servers in true time.
 
 ghost use Rattle.std.specs.Prelude.{◌≡◌, ◌++◌, ◌↔◌, IsTrue, IfOk, IfErr, OnOk};
-ghost use Rattle.server_book.specs.Settings.{opening};
+ghost use Rattle.server_settings.specs.Settings.{opening};
 ghost use Rattle.pair_world.specs.PairWorld.{journal, is_stopped, IsNear, AreAlike, steps_of, new_world};
 
 use crate::error::WorldError;
@@ -9,7 +9,8 @@ use crate::run_step::Step;
 use binding_rules::Role;
 use journal_lines::Line;
 use lead_time::{Reading, Skew, Transit};
-use server_book::{Book, Settings};
+use order_book::Book;
+use server_settings::Settings;
 use std::alloc::{AllocError, Global};
 use std::marker::Model;
 

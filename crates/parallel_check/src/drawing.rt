@@ -20,7 +20,7 @@ pub struct Found {
     pub verdict: Verdict,
 }
 
-/// What a worker gives back: its seat, and what it found unless a growth was refused.
+/// The return of a worker: its seat, and what it found unless a growth was refused.
 #[derive(Drop)]
 pub struct Done {
     pub seat: Ticket,

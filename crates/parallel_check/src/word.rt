@@ -9,7 +9,7 @@ use atomic_table::{Join, Play, Seat, Shared, Split, Table, TableRule};
 use std::alloc::{AllocError, Global};
 use std::collections::LinkedList;
 
-/// What a seat knows: the limit, how many parts it has, how many of them have drawn at or past the limit, and the
+/// The knowledge of a seat: the limit, how many parts it has, how many of them have drawn at or past the limit, and the
 /// numbers that it drew. No value of it is made.
 pub struct View {
     pub limit: u64,

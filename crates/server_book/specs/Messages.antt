@@ -12,9 +12,9 @@ use Rattle.dhcp6_pd.specs.declared.message.IaReply.{IaReply}
 use Rattle.dhcp6_pd.specs.declared.message.IaReplyAnswer.{IaReplyAnswer}
 use Rattle.dhcp6_pd.specs.declared.message.IaReplyAnswer.TheVariants.{Given as GivenReply, NoPrefix as NoPrefixReply}
 use Rattle.dhcp6_pd.specs.declared.message.IaReplyAnswer.TheVariants.{NoBinding as NoBindingReply}
-use Rattle.server_book.specs.declared.order.Asked.{Asked}
-use Rattle.server_book.specs.declared.order.Order.{Order}
-use Rattle.server_book.specs.declared.order.Order.TheVariants.{Request, Renew, Release}
+use Rattle.order_book.specs.declared.order.Asked.{Asked}
+use Rattle.order_book.specs.declared.order.Order.{Order}
+use Rattle.order_book.specs.declared.order.Order.TheVariants.{Request, Renew, Release}
 use Rattle.server_book.specs.declared.messages.IaAnswer.{IaAnswer}
 use Rattle.server_book.specs.declared.messages.IaAnswer.TheVariants.{Given, NoPrefix, NoBinding, Released}
 

@@ -1,57 +1,19 @@
-//! A server's book: its journal, and what it answers to each order.
+//! A server's book as its clients use it: what a message of theirs orders, and the message that answers it.
 //!
-//! A [`Book`] is all that a server knows of its delegations. `apply` does what it is ordered to: it appends the one
-//! line that the order gets and replies, or refuses and leaves the book as it was. `offer` says what a Request would be
-//! given. `open` begins a book by [`Settings`], which `read` takes out of TOML text; `replay` makes one of the lines of
-//! a journal, exactly where they break no rule. Contracts see a book as its journal, and `state_of` (specs/Replayed) is
-//! the book that the journal leads to.
-//!
-//! What an order is answered stands apart from the code: which unit it is about in specs/Bindings, the event that it
-//! names in specs/Named, its line and reply or its first refusal in specs/Answer. That it has one of these, and not
-//! both, is a law. `order_of` and `answer_of` take a client's message to orders and back (specs/Messages).
+//! `order_of` takes the order of each IA_PD out of a client's message, and `answer_of` makes the message that answers
+//! it, of what became of each (specs/Messages). The book that does what is ordered is that of `order_book`, its
+//! settings are those of `server_settings` and `settings_text`: this crate hands their items on, so that who serves
+//! clients names one crate.
 //!
 //! ```text
-//! let mut book = Book::open(alloc, now, &Settings::read(alloc, text)?)?;
-//! let reply = book.apply(now, &Order::Request(asked))?; // Granted { prefix, valid }
+//! let mut book = Book::open(alloc, now, &read_settings(alloc, text)?)?;
+//! let order = order_of(&message, 0); // that of the message's first IA_PD
 //! ```
 #![tactic(auto)]
 
-mod answering;
-mod book;
-mod chart;
-mod charting;
-mod document;
-mod ending;
-mod error;
-mod heading;
-mod holding;
-mod keeping;
-mod laws;
-mod leases;
-mod leasing;
-mod looking;
-mod marking;
-mod marks;
 mod messages;
-mod naming;
-mod opening;
-mod order;
-mod owing;
-mod pool_chart;
-mod queries;
-mod register;
-mod replaying;
-mod reply;
-mod rolling;
-mod searching;
-mod serving;
-mod settings;
-mod subject;
 
-pub use book::Book;
-pub use error::{BookError, OpenError};
-pub use laws::{answer_is_one, opening_is_legal};
 pub use messages::{IaAnswer, answer_of, order_of};
-pub use order::{Asked, Order};
-pub use reply::Reply;
-pub use settings::Settings;
+pub use order_book::{Asked, Book, BookError, Order, Reply, answer_is_one, opening_is_legal};
+pub use server_settings::{OpenError, Settings};
+pub use settings_text::read_settings;

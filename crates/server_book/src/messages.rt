@@ -4,18 +4,17 @@ ghost use Rattle.std.specs.Prelude.{◌≡◌, ◌≤◌, ◌++◌, [], length, 
 ghost use Rattle.server_book.specs.Messages.{asked_in, order_by, order_of, written_of, and_reply, replies_of};
 ghost use Rattle.server_book.specs.Messages.{kind_of, is_release, answer_of};
 
-use crate::error::BookError;
-use crate::order::{Asked, Order};
 use client_id::{Duid, Iaid};
 use dhcp6_pd::{
     ClientKind, ClientMessage, IaPd, IaReply, IaReplyAnswer, InterfaceId, Relay, RelayList,
     ServerKind, ServerMessage,
 };
 use lists::Listed;
+use order_book::{Asked, BookError, Order};
 use prefix_range::Prefix;
 use std::alloc::{AllocError, Global};
 
-/// What became of one IA_PD of a client's message.
+/// The outcome of one IA_PD of a client's message.
 #[derive(Clone, Copy, Debug, PartialEq, Eq)]
 pub enum IaAnswer {
     /// The client has this prefix for so many seconds.

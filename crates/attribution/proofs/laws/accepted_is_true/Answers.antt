@@ -1,7 +1,7 @@
-use Rattle.book_rules.specs.NextHead.{IsLegal}
+use Rattle.volume_heads.specs.NextHead.{AreLegal}
 use Rattle.attribution.proofs.Lawful.{lawful}
 use Rattle.attribution.proofs.Headline.{headline}
 use Rattle.attribution.proofs.laws.accepted_is_true.Goals as goal
 
 pub returns : goal.returns
-returns c = headline IsLegal lawful
+returns c = headline AreLegal lawful

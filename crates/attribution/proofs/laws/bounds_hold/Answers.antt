@@ -1,7 +1,7 @@
-use Rattle.book_rules.specs.NextHead.{IsLegal}
+use Rattle.volume_heads.specs.NextHead.{AreLegal}
 use Rattle.attribution.proofs.Lawful.{lawful}
 use Rattle.attribution.proofs.Headline.{bounds_hold}
 use Rattle.attribution.proofs.laws.bounds_hold.Goals as goal
 
 pub returns : goal.returns
-returns c = bounds_hold IsLegal lawful
+returns c = bounds_hold AreLegal lawful

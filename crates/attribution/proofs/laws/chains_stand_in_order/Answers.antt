@@ -1,7 +1,7 @@
-use Rattle.book_rules.specs.NextHead.{IsLegal}
+use Rattle.volume_heads.specs.NextHead.{AreLegal}
 use Rattle.attribution.proofs.Lawful.{lawful}
 use Rattle.attribution.proofs.Headline.{chains_stand_in_order}
 use Rattle.attribution.proofs.laws.chains_stand_in_order.Goals as goal
 
 pub returns : goal.returns
-returns c = chains_stand_in_order IsLegal lawful
+returns c = chains_stand_in_order AreLegal lawful

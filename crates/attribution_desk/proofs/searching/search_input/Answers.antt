@@ -3,7 +3,7 @@ use Rattle.binding_rules.specs.declared.role.Role.TheVariants.{Primary, Secondar
 use Rattle.std.specs.Io.KnownBytes.{Appends}
 use Rattle.attribution_desk.specs.Searching.{IsSearchOf, IsSearch}
 use Rattle.attribution_desk.specs.Warnings.{WarnsOf, IsSearchWarning}
-use Rattle.attribution_desk.proofs.Intakes.{parsed_closed}
+use Rattle.desk_intake.proofs.Intakes.{parsed_closed}
 use Rattle.attribution_desk.proofs.AllRead.{written, of_pair, of_known}
 use Rattle.attribution_desk.proofs.searching.search_input.Goals as goal
 

@@ -1,4 +1,4 @@
-use Rattle.evidence_search.proofs.Collecting.{none_recent}
+use Rattle.plain_search.proofs.Collecting.{none_recent}
 use Rattle.evidence_search.proofs.guessing.guess_round.Goals as goal
 
 pub loop-at-init : goal.loop-at-init

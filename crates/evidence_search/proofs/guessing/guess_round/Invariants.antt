@@ -1,5 +1,5 @@
 use Rattle.std.proofs.Common.{length}
-use Rattle.evidence_search.specs.Collected.{IsRecent}
+use Rattle.plain_search.specs.Collected.{IsRecent}
 use Rattle.evidence_search.proofs.guessing.guess_round.Given as goal
 
 abbrev pub invariant-loop-at : goal.invariant-loop-at

@@ -1,6 +1,6 @@
 use Rattle.std.proofs.Common.{subst, ◌≡◌, ◌≤◌, ℕ, MatchOption, true, false}
-use Rattle.evidence_search.specs.declared.query.Query.{Query}
-use Rattle.evidence_search.specs.Search.{CarriesAt, IsReach}
+use Rattle.plain_search.specs.declared.query.Query.{Query}
+use Rattle.plain_search.specs.Search.{CarriesAt, IsReach}
 use Rattle.evidence_search.proofs.Holders.{not_carried}
 use Rattle.evidence_search.proofs.holder.client_at.Goals as goal
 

@@ -1,6 +1,6 @@
 use Rattle.std.proofs.Common.{ap, Err, subst, IfSome}
 use Rattle.evidence_search.specs.Claim.{held_by, HasNoPlainEvidence}
-use Rattle.evidence_search.proofs.Collecting.{none_recent}
+use Rattle.plain_search.proofs.Collecting.{none_recent}
 use Rattle.evidence_search.proofs.Holders.{none_asked, asked_on, names_none, asked_client, all_asked}
 use Rattle.evidence_search.proofs.holder.holder_over.Goals as goal
 

@@ -1,5 +1,5 @@
 use Rattle.std.proofs.Common.{length}
-use Rattle.evidence_search.specs.Collected.{IsRecent}
+use Rattle.plain_search.specs.Collected.{IsRecent}
 use Rattle.evidence_search.proofs.Holders.{AreAsked}
 use Rattle.evidence_search.proofs.holder.holder_over.Given as goal
 

@@ -1,6 +1,6 @@
 use Rattle.std.proofs.Common.{subst, ◌≡◌, ◌+◌, ℕ, IfOk}
 use Rattle.claims.specs.declared.certificate.Certificate.{Certificate}
-use Rattle.evidence_search.specs.declared.query.Query.{Query}
+use Rattle.plain_search.specs.declared.query.Query.{Query}
 use Rattle.evidence_search.specs.Claim.{between, HasNoPlainEvidence}
 use Rattle.evidence_search.specs.Search.{IsShownRound}
 use Rattle.evidence_search.proofs.Widened.{round_of, accepted_of, true_of, widest_of}

@@ -1,7 +1,7 @@
 use Rattle.std.proofs.Common.{rules}
 use Rattle.std.proofs.lemmas.Slice.Eq.{slice_eq-Decides}
-use Rattle.book_rules.specs.contracts.pool.PoolPartialEq.TheImpl.{eq-value}
-use Rattle.book_rules.specs.declared.pool.Pool.{Pool}
+use Rattle.book_state.specs.contracts.pool.PoolPartialEq.TheImpl.{eq-value}
+use Rattle.book_state.specs.declared.pool.Pool.{Pool}
 use Rattle.pair_world.proofs.alike.is_same.Goals as goal
 
 pub returns : goal.returns

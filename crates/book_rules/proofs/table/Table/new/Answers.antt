@@ -1,9 +1,9 @@
 use Rattle.std.proofs.Common.{arith, ap, ◌∙◌, ◌≡◌, [], refl}
 use Rattle.std.proofs.Math.Path.{fun_ext}
 use Rattle.prefix_range.specs.Prefix.{Prefix}
-use Rattle.book_rules.specs.Places.{Delegable, unit_at}
+use Rattle.book_state.specs.Places.{Delegable, unit_at}
 use Rattle.binding_rules.specs.Unit.{fresh}
-use Rattle.book_rules.proofs.TableLaws.{none_changed}
+use Rattle.book_state.proofs.TableLaws.{none_changed}
 use Rattle.book_rules.proofs.table.Table.new.Goals as goal
 
 pub invariant_of-result : goal.invariant_of-result

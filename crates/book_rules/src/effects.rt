@@ -1,0 +1,5 @@
+//! What a line makes of a table.
+
+mod entering;
+mod line_changes;
+mod outcomes;

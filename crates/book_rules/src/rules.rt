@@ -1,0 +1,6 @@
+//! The twenty rules: what each asks of a line.
+
+mod checking;
+pub(crate) mod message;
+mod unit;
+pub(crate) mod volume;

@@ -1,0 +1,5 @@
+pub mod Ranges
+pub mod PlaceLaws
+pub mod TableLaws
+pub mod MarkLaws
+pub mod Orders

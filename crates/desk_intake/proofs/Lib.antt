@@ -1,0 +1,4 @@
+pub mod Lines
+pub mod EndLines
+pub mod Intakes
+pub mod Chunks

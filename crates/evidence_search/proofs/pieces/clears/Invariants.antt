@@ -1,9 +1,0 @@
-use Rattle.std.proofs.Common.{length}
-use Rattle.evidence_search.proofs.Cleared.{AreCleared}
-use Rattle.evidence_search.proofs.pieces.clears.Given as goal
-
-abbrev pub invariant-loop-release : goal.invariant-loop-release
-invariant-loop-release g l = AreCleared (g.S.Lines.journals l.source) l.skew l.grant l.delegation (g.S.LineSource.returned l.source l.delegation l.walk) l.clears
-
-abbrev pub decreases-loop-release : goal.decreases-loop-release
-decreases-loop-release g l = length (g.S.LineSource.returned l.source l.delegation l.walk)

@@ -1,8 +1,0 @@
-use Rattle.std.proofs.Common.{sym, subst, List}
-use Rattle.evidence_search.specs.declared.reach.Reach.{Reach}
-use Rattle.evidence_search.specs.Search.{AreAllReaches}
-use Rattle.evidence_search.proofs.pieces.pieces.Goals as goal
-
-pub pieces_of-requires-clause-all : goal.pieces_of-requires-clause-all
-pieces_of-requires-clause-all g c =
-    subst (λ (xs : List Reach). AreAllReaches (g.S.Lines.journals c.args.source.now) c.args.query.now xs) (sym c.deref.ensures.value) c.in_ok-reaches.ensures.all

@@ -1,5 +1,0 @@
-use Rattle.evidence_search.proofs.Sweeping.{all_sorted}
-use Rattle.evidence_search.proofs.reach.reaches.Goals as goal
-
-pub returns-clause-all : goal.returns-clause-all
-returns-clause-all g c = all_sorted (g.S.Lines.journals c.args.source.now) c.args.query.now _ _ c.in_ok-sort.ensures.same c.in_ok-reaches.ensures.all

@@ -1,0 +1,13 @@
+pub mod Refusals
+pub mod Kept
+pub mod OneName
+pub mod OneAnswer
+pub mod FirstLines
+pub mod Owed
+pub mod OwedLaws
+pub mod Due
+pub mod KeptUnits
+pub mod KeptLines
+pub mod Counts
+pub mod Rolls
+pub mod NextBooks

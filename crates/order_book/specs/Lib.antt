@@ -1,0 +1,8 @@
+pub mod Replayed
+pub mod Bindings
+pub mod Named
+pub mod Answer
+pub mod Laws
+pub mod NextBook
+pub mod Owed
+pub mod Keeping

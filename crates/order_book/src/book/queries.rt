@@ -1,0 +1,56 @@
+//! Which units of a book wait for something to be done.
+
+ghost use Rattle.unit_finder.specs.Units.{IsLeastOf};
+ghost use Rattle.unit_finder.specs.Queries.{IsToExpire, IsFirstExpiry, IsToSeize, HasReply, HasChange, HasMark};
+ghost use Rattle.order_book.specs.Replayed.{state_of};
+
+use crate::book::Book;
+use lead_time::{End, Reading};
+use prefix_range::Prefix;
+use unit_finder::{Wanted, first_end, lowest, lowest_from};
+
+impl Book {
+    /// The lowest unit that an Expire ends at a reading: its lease has ended, by this server's clock and by what the
+    /// partner told.
+    pub fn first_to_expire(&self, now: Reading) -> Option<Prefix>
+        ensures { IsLeastOf (IsToExpire (state_of self.now) now) result }
+    {
+        lowest(self.register(), &Wanted::Expirable(now))
+    }
+
+    /// The first reading at which an Expire ends a unit, in milliseconds; none while no unit is delegated. It looks at
+    /// no unit.
+    pub fn first_expiry(&self) -> Option<End>
+        ensures { IsFirstExpiry (state_of self.now) result }
+    {
+        first_end(self.register())
+    }
+
+    /// The lowest unit that a Seize takes over at a reading; none while the partner isn't taken for down.
+    pub fn first_to_seize(&self, now: Reading) -> Option<Prefix>
+        ensures { IsLeastOf (IsToSeize (state_of self.now) now) result }
+    {
+        lowest(self.register(), &Wanted::Seizable(now))
+    }
+
+    /// The lowest unit with a pending reply that begins at an address or above.
+    pub fn next_reply(&self, from: u128) -> Option<Prefix>
+        ensures { IsLeastOf (HasReply (state_of self.now) from) result }
+    {
+        lowest_from(self.register(), &Wanted::Pending, from)
+    }
+
+    /// The lowest unit with a change that is due to be told that begins at an address or above.
+    pub fn next_change(&self, from: u128) -> Option<Prefix>
+        ensures { IsLeastOf (HasChange (state_of self.now) from) result }
+    {
+        lowest_from(self.register(), &Wanted::Due, from)
+    }
+
+    /// The lowest unit that begins at an address or above, was seized, and isn't acknowledged yet.
+    pub fn next_mark(&self, from: u128) -> Option<Prefix>
+        ensures { IsLeastOf (HasMark (state_of self.now) from) result }
+    {
+        lowest_from(self.register(), &Wanted::Marked, from)
+    }
+}

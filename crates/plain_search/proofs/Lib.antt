@@ -1,0 +1,11 @@
+pub mod Orders
+pub mod Walked
+pub mod Candidates
+pub mod Kept
+pub mod Carrying
+pub mod Cleared
+pub mod Sweeping
+pub mod Tiling
+pub mod Reasons
+pub mod Collecting
+pub mod Halving

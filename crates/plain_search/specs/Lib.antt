@@ -1,0 +1,3 @@
+pub mod Plain
+pub mod Search
+pub mod Collected

@@ -1,6 +1,0 @@
-use Rattle.book_rules.specs.State.{state}
-use Rattle.server_book.proofs.LeaseSteps.{AreLeasesTo}
-use Rattle.server_book.proofs.leases.leases_of.Given as goal
-
-abbrev pub invariant-loop-pool : goal.invariant-loop-pool
-invariant-loop-pool l = AreLeasesTo (state l.table) l.pool-items l.pool-index l.leases

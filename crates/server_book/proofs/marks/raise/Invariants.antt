@@ -1,8 +1,0 @@
-use Rattle.server_book.proofs.Charts.{IsRising}
-use Rattle.server_book.proofs.marks.raise.Given as goal
-
-abbrev pub invariant-loop-node : goal.invariant-loop-node
-invariant-loop-node l = IsRising l.initial.nodes l.nodes l.count l.node
-
-abbrev pub decreases-loop-node : goal.decreases-loop-node
-decreases-loop-node l = l.node

@@ -1,6 +1,0 @@
-use Rattle.server_book.specs.Leases.{leased}
-use Rattle.server_book.proofs.Lowest.{least_map}
-use Rattle.server_book.proofs.register.Register.lowest_bound.Goals as goal
-
-pub returns : goal.returns
-returns c = least_map _ _ c.lowest_leased.result (λ p has. c.args.self.now.held.sound (leased c.args.client.now c.args.iaid p) has) (λ p held. c.args.self.now.held.complete (leased c.args.client.now c.args.iaid p) held) c.lowest_leased.ensures

@@ -1,7 +1,0 @@
-use Rattle.book_rules.specs.State.{state}
-use Rattle.server_book.specs.PoolCharts.{pools_of}
-use Rattle.server_book.proofs.Lowest.{IsLeastSo}
-use Rattle.server_book.proofs.searching.lowest_from.Given as goal
-
-abbrev pub invariant-loop-chart : goal.invariant-loop-chart
-invariant-loop-chart l = IsLeastSo (state l.register.table) l.wanted l.from (pools_of l.register.charts.items) l.chart-index l.best

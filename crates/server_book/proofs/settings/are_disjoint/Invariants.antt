@@ -1,6 +1,0 @@
-use Rattle.std.proofs.Common.{drop}
-use Rattle.server_book.proofs.Pools.{SameDisjoint}
-use Rattle.server_book.proofs.settings.are_disjoint.Given as goal
-
-abbrev pub invariant-loop-index : goal.invariant-loop-index
-invariant-loop-index l = SameDisjoint l.pools (drop l.index l.pools)

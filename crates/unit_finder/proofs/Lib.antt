@@ -1,0 +1,11 @@
+pub mod Ties
+pub mod LeastUnits
+pub mod Charts
+pub mod PoolCharts
+pub mod Searches
+pub mod Subjects
+pub mod Registers
+pub mod LeaseOrder
+pub mod Coming
+pub mod LeaseSteps
+pub mod Ends

@@ -1,0 +1,26 @@
+-- For bodies only: how the marks of a pool's units stand, and above each two marks that of both together.
+use Rattle.std.specs.Prelude.{◌≡◌, ℕ, ◌+◌, ◌*◌, ◌^◌, ◌<◌, ◌≤◌, List, length, get_or}
+use Rattle.book_state.specs.declared.pool.Pool.{Pool}
+use Rattle.book_state.specs.Book.{units_in}
+use Rattle.book_state.specs.Places.{IsPool}
+use Rattle.unit_finder.specs.declared.marking.Mark.{Mark}
+use Rattle.unit_finder.specs.Marks.{nothing, joined}
+
+abbrev pub at : List Mark → ℕ → Mark
+at nodes i = get_or nodes i nothing
+
+-- a mark is that of the two below it
+pub record IsJoined (nodes : List Mark) (i : ℕ) : Type 0 where
+  pub joins : at nodes i ≡ joined (at nodes (2 * i)) (at nodes (2 * i + 1))
+
+-- a mark of all comes first, and behind 2^levels - 1 joined ones come those of the units
+pub record IsChart (levels : ℕ) (nodes : List Mark) : Type 0 where
+  pub few : levels ≤ 16
+  pub whole : length nodes ≡ 2 * 2 ^ levels
+  pub each : (i : ℕ) → 1 ≤ i → i < 2 ^ levels → IsJoined nodes i
+
+-- the chart has a place for each unit of the pool
+pub record IsChartOf (pool : Pool) (levels : ℕ) : Type 0 where
+  pub legal : IsPool pool
+  pub few : units_in pool ≤ 65536
+  pub whole : 2 ^ levels ≡ units_in pool

@@ -1,0 +1,9 @@
+pub mod Units
+pub mod Queries
+pub mod Searching
+pub mod Subjects
+pub mod Marks
+pub mod ChartForms
+pub mod Charts
+pub mod PoolCharts
+pub mod Leases
