@@ -26,7 +26,7 @@ pub(crate) struct Gathered {
     pub(crate) certificates: Vec<Certificate>,
 }
 
-/// How many octets the first of some texts has.
+/// Returns how many octets the first of some texts has.
 fn first_length(alloc: Global, rest: &[u8]) -> Result<usize, AllocError>
     ensures { IfOk result (λ length. length ≡ text_length rest.now) }
 {

@@ -15,7 +15,7 @@ use binding_rules::Role;
 use claims::Certificate;
 use lead_time::{Skew, Transit};
 
-/// Whether the side's journal was closed late enough to show all of the interval.
+/// Returns whether the side's journal was closed late enough to show all of the interval.
 #[tactic(auto, using(crate::proofs::Closings::reaches_by_reading))]
 fn reaches<S: LineSource>(source: &S, certificate: &Certificate, side: Role, skew: Skew) -> bool
     ensures { IsTrue result ↔ Reaches (S.journals source.now) skew certificate.now side }

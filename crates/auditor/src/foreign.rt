@@ -14,22 +14,22 @@ use causal_order::{Lines, Ref};
 use claims::Certificate;
 use lead_time::{Skew, Transit};
 
-/// Whether some foreign entry names the line.
+/// Returns whether some foreign entry names the line.
 fn is_named(certificate: &Certificate, at: Ref) -> bool
     ensures { IsTrue result ↔ IsNamed certificate.now at }
 {
     !certificate.foreign.naming(at).is_empty()
 }
 
-/// Whether the delegation is another client's, of a prefix that overlaps the one asked of.
+/// Returns whether the delegation is another client's, of a prefix that overlaps the one asked of.
 fn is_foreign(delegation: &Delegation, certificate: &Certificate) -> bool
     ensures { IsTrue result ↔ IsOthers delegation.now certificate.now }
 {
     delegation.client != certificate.holder && delegation.prefix.overlaps(&certificate.prefix)
 }
 
-/// Whether the line tells of another client's delegation of a prefix that overlaps the one asked of, and no foreign
-/// entry names it.
+/// Returns whether the line tells of another client's delegation of a prefix that overlaps the one asked of, and no
+/// foreign entry names it.
 fn is_uncovered<L: Lines>(lines: &L, certificate: &Certificate, at: Ref) -> bool
     ensures { IsTrue result ↔ IsUncovered (L.journals lines.now) certificate.now at }
 {

@@ -70,14 +70,14 @@ fn lifetime_of(valid: u32) -> i64
     i64::from(valid) * 1000
 }
 
-/// Whether the lease, granted at this moment, lasts to the other one.
+/// Returns whether the lease, granted at this moment, lasts to the other one.
 fn lasts_to(lease: &Lease, granted: i64, to: Reading) -> bool
     ensures { IsTrue result ↔ LastsTo lease.now.valid granted to }
 {
     lease.valid == Lease::INFINITE || to.milliseconds() as i64 - lifetime_of(lease.valid) <= granted
 }
 
-/// Whether what came by this moment, and so many milliseconds more, are past by the other one.
+/// Returns whether what came by this moment, and so many milliseconds more, are past by the other one.
 fn is_past(given: i64, wait: u64, moment: Reading) -> bool
     requires { wait ≤ 2 ^ 60 }
     ensures { IsTrue result ↔ (given +ℤ pos wait) ≤ℤ pos moment }
@@ -85,7 +85,7 @@ fn is_past(given: i64, wait: u64, moment: Reading) -> bool
     given <= moment.milliseconds() as i64 - wait as i64
 }
 
-/// Whether what was told of by this moment has ended by the other one.
+/// Returns whether what was told of by this moment has ended by the other one.
 fn ends_by(lasting: Lasting, told: i64, skew: Skew, transit: Transit, moment: Reading) -> bool
     ensures { IsTrue result ↔ HasEnded lasting told skew transit moment }
 {
@@ -105,7 +105,7 @@ fn ends_by(lasting: Lasting, told: i64, skew: Skew, transit: Transit, moment: Re
     }
 }
 
-/// Whether the chain shows that the line was written by the moment.
+/// Returns whether the chain shows that the line was written by the moment.
 #[tactic(auto, using(crate::proofs::Bounds::before_by_latest, crate::proofs::Bounds::never_before))]
 fn is_written_by<L: Lines>(lines: &L, chain: &Chain, at: Ref, skew: Skew, moment: Reading) -> bool
     ensures { IsTrue result ↔ IsWrittenBy (L.journals lines.now) chain.now at skew moment }
@@ -116,7 +116,7 @@ fn is_written_by<L: Lines>(lines: &L, chain: &Chain, at: Ref, skew: Skew, moment
     }
 }
 
-/// Whether the chain shows that the answer of the line had reached its client by the moment.
+/// Returns whether the chain shows that the answer of the line had reached its client by the moment.
 #[tactic(auto, using(crate::proofs::Bounds::reached_by_latest, crate::proofs::Bounds::never_reached))]
 fn is_reached_by<L: Lines>(
     lines: &L,
@@ -134,7 +134,7 @@ fn is_reached_by<L: Lines>(
     }
 }
 
-/// Whether the chain shows that the line was written at the moment or later.
+/// Returns whether the chain shows that the line was written at the moment or later.
 #[tactic(auto, using(crate::proofs::Bounds::after_by_earliest, crate::proofs::Bounds::never_after))]
 pub fn is_written_from<L: Lines>(
     lines: &L,
@@ -151,7 +151,7 @@ pub fn is_written_from<L: Lines>(
     }
 }
 
-/// Whether the chain shows that what the line tells of had ended by the moment.
+/// Returns whether the chain shows that what the line tells of had ended by the moment.
 #[tactic(auto, using(crate::proofs::Bounds::ended_by_latest, crate::proofs::Bounds::never_ended))]
 fn is_over<L: Lines>(
     lines: &L,
@@ -170,7 +170,7 @@ fn is_over<L: Lines>(
     }
 }
 
-/// Whether the chain shows that the lease of the grant lasts to the moment.
+/// Returns whether the chain shows that the lease of the grant lasts to the moment.
 #[tactic(auto, using(crate::proofs::Bounds::lasts_by_earliest, crate::proofs::Bounds::never_lasts))]
 fn is_lasting<L: Lines>(
     lines: &L,
@@ -188,7 +188,8 @@ fn is_lasting<L: Lines>(
     }
 }
 
-/// Whether the event gives the delegation back: a release by its client, of its identity association and its prefix.
+/// Returns whether the event gives the delegation back: a release by its client, of its identity association and its
+/// prefix.
 pub fn is_release_of(delegation: &Delegation, event: &Event) -> bool
     ensures { IsTrue result ↔ (event.now ≡ Release delegation.now.client delegation.now.iaid delegation.now.prefix) }
 {
@@ -202,7 +203,7 @@ pub fn is_release_of(delegation: &Delegation, event: &Event) -> bool
     }
 }
 
-/// Whether the line gives the delegation back.
+/// Returns whether the line gives the delegation back.
 pub fn gives_back<L: Lines>(lines: &L, at: Ref, delegation: &Delegation) -> bool
     ensures { IsTrue result ↔ GivesBack (L.journals lines.now) at delegation.now }
 {
@@ -212,21 +213,21 @@ pub fn gives_back<L: Lines>(lines: &L, at: Ref, delegation: &Delegation) -> bool
     }
 }
 
-/// Whether the delegation is this client's, for this identity association, of this prefix.
+/// Returns whether the delegation is this client's, for this identity association, of this prefix.
 fn is_delegation_of(delegation: &Delegation, client: &Duid, iaid: Iaid, prefix: &Prefix) -> bool
     ensures { IsTrue result ↔ IsDelegationOf delegation.now client.now iaid prefix.now }
 {
     *client == delegation.client && iaid == delegation.iaid && *prefix == delegation.prefix
 }
 
-/// Whether the lease is the holder's, of a prefix round the one asked of.
+/// Returns whether the lease is the holder's, of a prefix round the one asked of.
 fn is_holders(lease: &Lease, certificate: &Certificate) -> bool
     ensures { IsTrue result ↔ IsHolders lease.now certificate.now }
 {
     lease.client == certificate.holder && lease.prefix.contains(&certificate.prefix)
 }
 
-/// Whether the piece's chains show its grant's lease to be valid from its beginning to its end.
+/// Returns whether the piece's chains show its grant's lease to be valid from its beginning to its end.
 fn is_valid_throughout<L: Lines>(
     lines: &L,
     piece: &Piece,
@@ -240,8 +241,8 @@ fn is_valid_throughout<L: Lines>(
         && is_lasting(lines, &piece.earliest, piece.grant, lease, skew, piece.to)
 }
 
-/// Whether the grant that the piece names carries it: the lease is the holder's, of a prefix round the one asked of,
-/// and lasts from the piece's beginning to its end.
+/// Returns whether the grant that the piece names carries it: the lease is the holder's, of a prefix round the one
+/// asked of, and lasts from the piece's beginning to its end.
 #[tactic(auto, using(crate::proofs::Leases::granted_by_lease, crate::proofs::Leases::not_holders, crate::proofs::Leases::no_granted_lease))]
 pub fn is_granted<L: Lines>(
     lines: &L,
@@ -258,7 +259,7 @@ pub fn is_granted<L: Lines>(
     is_holders(&lease, certificate) && is_valid_throughout(lines, piece, &lease, skew, transit)
 }
 
-/// Whether it began where it is told of: what is carried began before.
+/// Returns whether it began where it is told of: what is carried began before.
 fn is_new(lasting: Lasting) -> bool
     ensures { IsTrue result ↔ IsNew lasting }
 {
@@ -268,7 +269,7 @@ fn is_new(lasting: Lasting) -> bool
     }
 }
 
-/// Whether another client's delegation is shown to stay out of the interval.
+/// Returns whether another client's delegation is shown to stay out of the interval.
 fn is_outside<L: Lines>(
     lines: &L,
     certificate: &Certificate,
@@ -308,7 +309,7 @@ fn is_outside<L: Lines>(
     }
 }
 
-/// Whether the entry names a line that tells of a delegation, which is shown to stay out of the interval.
+/// Returns whether the entry names a line that tells of a delegation, which is shown to stay out of the interval.
 #[tactic(auto, using(crate::proofs::Leases::reason_by_delegation, crate::proofs::Leases::no_reason))]
 pub fn reason_holds<S: LineSource>(
     source: &S,

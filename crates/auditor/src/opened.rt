@@ -19,14 +19,15 @@ fn open_of(side: Role) -> Ref
     Ref { side, number: 1 }
 }
 
-/// Whether the side's server wrote volumes before this one.
+/// Returns whether the side's server wrote volumes before this one.
 fn has_earlier<S: LineSource>(source: &S, side: Role) -> bool
     ensures { IsTrue result ↔ HasEarlier (S.journals source.now) side }
 {
     source.volume(side) > 1
 }
 
-/// Whether by this moment the side's journal was open, and the answers of earlier volumes had reached their clients.
+/// Returns whether by this moment the side's journal was open, and the answers of earlier volumes had reached their
+/// clients.
 #[tactic(auto, using(crate::proofs::OpenLines::after_open, crate::proofs::OpenLines::never_open))]
 fn is_after_open<L: Lines>(
     lines: &L,
@@ -46,14 +47,14 @@ fn is_after_open<L: Lines>(
     }
 }
 
-/// Whether a reference of the chain is to a line of this side.
+/// Returns whether a reference of the chain is to a line of this side.
 fn has_line_of(chain: &Chain, side: Role) -> bool
     ensures { IsTrue result ↔ HasLineOf chain.now side }
 {
     chain.as_slice().iter().any(|at| at.side == side)
 }
 
-/// Whether clocks show that the piece's grant came after the side's open line.
+/// Returns whether clocks show that the piece's grant came after the side's open line.
 #[tactic(auto, using(crate::proofs::OpenLines::clear_of_open, crate::proofs::OpenLines::no_chain, crate::proofs::OpenLines::no_open_line))]
 fn is_clear_of_open<L: Lines>(lines: &L, piece: &Piece, side: Role, skew: Skew) -> bool
     ensures { IsTrue result ↔ IsClearOfOpen (L.journals lines.now) skew piece.now side }
@@ -67,14 +68,15 @@ fn is_clear_of_open<L: Lines>(lines: &L, piece: &Piece, side: Role, skew: Skew) 
     }
 }
 
-/// Whether the piece's grant came surely after the side's open line.
+/// Returns whether the piece's grant came surely after the side's open line.
 fn is_granted_after_open<L: Lines>(lines: &L, piece: &Piece, side: Role, skew: Skew) -> bool
     ensures { IsTrue result ↔ IsGrantedAfterOpen (L.journals lines.now) skew piece.now side }
 {
     has_line_of(&piece.earliest, side) || is_clear_of_open(lines, piece, side, skew)
 }
 
-/// Whether the piece's grant came surely after the earlier volumes of the partner of the server that granted it.
+/// Returns whether the piece's grant came surely after the earlier volumes of the partner of the server that granted
+/// it.
 #[tactic(auto, using(crate::proofs::OpenLines::no_earlier_partner, crate::proofs::OpenLines::past_partner))]
 fn is_past_partner<S: LineSource>(source: &S, piece: &Piece, skew: Skew) -> bool
     ensures { IsTrue result ↔ IsPastPartner (S.journals source.now) skew piece.now }
@@ -86,7 +88,7 @@ fn is_past_partner<S: LineSource>(source: &S, piece: &Piece, skew: Skew) -> bool
     is_granted_after_open(source, piece, partner, skew)
 }
 
-/// Whether the interval begins after the side's earlier volumes and what they gave without its being carried.
+/// Returns whether the interval begins after the side's earlier volumes and what they gave without its being carried.
 #[tactic(auto, using(crate::proofs::OpenLines::no_earlier_own, crate::proofs::OpenLines::past_own))]
 fn is_past_own<S: LineSource>(
     source: &S,
@@ -103,7 +105,7 @@ fn is_past_own<S: LineSource>(
     is_after_open(source, side, skew, transit, certificate.from)
 }
 
-/// Whether each piece's grant came surely after the earlier volumes of its server's partner.
+/// Returns whether each piece's grant came surely after the earlier volumes of its server's partner.
 #[tactic(auto, using(crate::proofs::Tiling::fails_at))]
 fn are_past_partner<S: LineSource>(source: &S, certificate: &Certificate, skew: Skew) -> bool
     ensures { IsTrue result ↔ All (IsPastPartner (S.journals source.now) skew) certificate.now.pieces }
@@ -116,8 +118,8 @@ fn are_past_partner<S: LineSource>(source: &S, certificate: &Certificate, skew: 
     true
 }
 
-/// Whether nothing of earlier volumes touches the interval but what the journals carry, and no release of theirs gives
-/// back what a piece's grant gave.
+/// Returns whether nothing of earlier volumes touches the interval but what the journals carry, and no release of
+/// theirs gives back what a piece's grant gave.
 #[tactic(auto, using(crate::proofs::OpenLines::opened_by_pieces, crate::proofs::OpenLines::not_own))]
 pub fn is_past_open<S: LineSource>(
     source: &S,

@@ -7,7 +7,7 @@ ghost use Rattle.auditor.specs.Refusals.{ComesFirst};
 use binding_rules::Role;
 use causal_order::Ref;
 
-/// Whether the one line comes before the other: the primary's before the secondary's, and then by number.
+/// Returns whether the one line comes before the other: the primary's before the secondary's, and then by number.
 fn is_before(one: Ref, other: Ref) -> bool
     ensures { IsTrue result ↔ ComesBefore one other }
 {
@@ -18,7 +18,7 @@ fn is_before(one: Ref, other: Ref) -> bool
     }
 }
 
-/// Whether the line comes before the least so far.
+/// Returns whether the line comes before the least so far.
 pub fn comes_first(at: Ref, least: Option<Ref>) -> bool
     ensures { IsTrue result ↔ ComesFirst at least }
 {

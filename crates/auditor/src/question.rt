@@ -17,7 +17,7 @@ pub enum Question {
     GivingBack(Delegation),
 }
 
-/// Whether the event grants or carries a prefix that overlaps this one, or gives one back.
+/// Returns whether the event grants or carries a prefix that overlaps this one, or gives one back.
 fn concerns(prefix: &Prefix, event: &Event) -> bool
     ensures { result ≡ concerns prefix.now event.now }
 {
@@ -29,7 +29,7 @@ fn concerns(prefix: &Prefix, event: &Event) -> bool
     }
 }
 
-/// Whether the event answers the question.
+/// Returns whether the event answers the question.
 #[tactic(auto, using(crate::proofs::Given::release_tested))]
 pub fn answers(question: &Question, event: &Event) -> bool
     ensures { result ≡ answers question.now event.now }

@@ -15,7 +15,7 @@ use causal_order::{Lines, Ref, precedes};
 use claims::{Certificate, Piece, Why};
 use lead_time::Skew;
 
-/// Whether the release is shown to have come before the piece's grant, or not before its end.
+/// Returns whether the release is shown to have come before the piece's grant, or not before its end.
 fn is_cleared<L: Lines>(lines: &L, piece: &Piece, release: Ref, why: &Why, skew: Skew) -> bool
     ensures { IsTrue result ↔ IsCleared (L.journals lines.now) skew release piece.now.grant piece.now.to why.now }
 {
@@ -25,7 +25,7 @@ fn is_cleared<L: Lines>(lines: &L, piece: &Piece, release: Ref, why: &Why, skew:
     }
 }
 
-/// Whether the clear entry at this index shows that the release doesn't cut the piece short.
+/// Returns whether the clear entry at this index shows that the release doesn't cut the piece short.
 #[tactic(auto, using(crate::proofs::ShortCuts::cleared_at, crate::proofs::ShortCuts::no_entry))]
 fn clears<L: Lines>(lines: &L, piece: &Piece, index: u32, release: Ref, skew: Skew) -> bool
     ensures { IsTrue result ↔ ClearsAt (L.journals lines.now) skew piece.now release index }
@@ -36,7 +36,7 @@ fn clears<L: Lines>(lines: &L, piece: &Piece, index: u32, release: Ref, skew: Sk
     }
 }
 
-/// Whether the clear entry at one of these indexes does.
+/// Returns whether the clear entry at one of these indexes does.
 fn one_clears<L: Lines>(lines: &L, piece: &Piece, indexes: &[u32], release: Ref, skew: Skew) -> bool
     ensures { IsTrue result ↔ OneClears (L.journals lines.now) skew piece.now release indexes.now }
 {
@@ -45,7 +45,7 @@ fn one_clears<L: Lines>(lines: &L, piece: &Piece, indexes: &[u32], release: Ref,
         .any(|index| clears(lines, piece, *index, release, skew))
 }
 
-/// Whether some clear entry of the piece discharges the release.
+/// Returns whether some clear entry of the piece discharges the release.
 fn is_discharged<L: Lines>(lines: &L, piece: &Piece, release: Ref, skew: Skew) -> bool
     ensures { IsTrue result ↔ Discharges (L.journals lines.now) skew piece.now release }
 {

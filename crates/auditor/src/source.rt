@@ -29,7 +29,7 @@ pub trait LineSource: Lines {
     fn close_reading(&self, side: Role) -> Reading
         ensures { ClosesAt (journal_of (Self.journals self.now) side) result };
 
-    /// Which volume of all that the side's server wrote its journal is, from 1.
+    /// Returns which volume of all that the side's server wrote its journal is, from 1.
     fn volume(&self, side: Role) -> u32
         ensures { result ≡ volume_of (Self.journals self.now) side };
 

@@ -8,8 +8,8 @@ use crate::unit::{Binding, Unit, UnitStatus};
 use crate::update::{Status, Update};
 use lead_time::Reading;
 
-/// What an update says that the unit is: `None` where it should name a client and doesn't, and where the unit was
-/// seized.
+/// Returns what an update says that the unit is: `None` where it should name a client and doesn't, and where the unit
+/// was seized.
 pub(crate) fn said(update: &Update) -> Option<UnitStatus>
     ensures { result ≡ said update.now }
 {
@@ -36,7 +36,7 @@ pub(crate) fn said(update: &Update) -> Option<UnitStatus>
     }
 }
 
-/// Whether a server in this role accepts at this reading what an update says of its unit.
+/// Returns whether a server in this role accepts at this reading what an update says of its unit.
 fn accepts(role: Role, unit: &Unit, now: Reading, update: &Update, said: &UnitStatus) -> bool
     ensures { result ≡ accepts role unit.now now update.now said.now unit.now.status }
 {
@@ -62,7 +62,7 @@ fn accepts(role: Role, unit: &Unit, now: Reading, update: &Update, said: &UnitSt
     }
 }
 
-/// Whether a server in this role, which waits or doesn't, accepts the update of its unit at this reading.
+/// Returns whether a server in this role, which waits or doesn't, accepts the update of its unit at this reading.
 pub(crate) fn is_accepted(
     role: Role,
     unit: &Unit,

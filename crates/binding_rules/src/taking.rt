@@ -30,7 +30,7 @@ fn kept_due(due: Option<Status>) -> Option<Status>
     }
 }
 
-/// What the unit becomes by what an accepted update says, its counters and its reply apart.
+/// Returns what the unit becomes by what an accepted update says, its counters and its reply apart.
 fn becomes(unit: &Unit, update: &Update, said: &UnitStatus) -> Unit
     ensures { result ≡ becomes unit.now update.now said.now }
 {
@@ -108,9 +108,9 @@ fn accepted(role: Role, unit: &Unit, update: &Update) -> Unit
     answered(&counted, update, Acknowledgement::Accept)
 }
 
-/// What a server in this role makes at this reading of an update of its unit, and the unit afterwards. `waiting` says
-/// whether the server waits for its partner since a restart. The update's term is the server's, and its prefix the
-/// unit's.
+/// Returns what a server in this role makes at this reading of an update of its unit, and the unit afterwards.
+/// `waiting` says whether the server waits for its partner since a restart. The update's term is the server's, and its
+/// prefix the unit's.
 pub fn take_update(
     role: Role,
     unit: &Unit,
@@ -140,7 +140,7 @@ pub fn take_update(
     }
 }
 
-/// Whether the reply accepts the unit's last change, and is newer than what was taken before.
+/// Returns whether the reply accepts the unit's last change, and is newer than what was taken before.
 fn counts(unit: &Unit, reply: &BindReply) -> bool
     ensures { result ≡ counts unit.now reply.now }
 {
@@ -148,7 +148,7 @@ fn counts(unit: &Unit, reply: &BindReply) -> bool
         && (reply.of == unit.mine && unit.seen < reply.mine)
 }
 
-/// What the unit becomes once the due change is acknowledged.
+/// Returns what the unit becomes once the due change is acknowledged.
 fn settled(unit: &Unit, due: Status) -> Unit
     ensures { result ≡ settled unit.now due }
 {

@@ -26,7 +26,7 @@ pub enum Status {
 }
 
 impl Status {
-    /// Whether a unit of this status is, or was, a client's.
+    /// Returns whether a unit of this status is, or was, a client's.
     pub fn has_client(self) -> bool
         ensures { result ≡ has_client self }
     {

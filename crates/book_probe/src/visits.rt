@@ -35,7 +35,7 @@ fn asked(client: Duid, hint: Option<Prefix>) -> Asked {
     }
 }
 
-/// Whether a unit is given for an hour.
+/// Returns whether a unit is given for an hour.
 fn is_given(given: &Result<Reply, BookError>, unit: &Prefix) -> bool {
     match given {
         Ok(Reply::Granted { prefix, valid }) => *prefix == *unit && *valid == 3600,
@@ -47,7 +47,7 @@ fn is_unbound(given: &Result<Reply, BookError>) -> bool {
     matches!(given, Err(BookError::NoBinding))
 }
 
-/// How many of a visit's orders get what they are to get.
+/// Returns how many of a visit's orders get what they are to get.
 fn visit(book: &mut Book, now: Reading, number: u8) -> Result<u64, Fault> {
     let client = client_of(number)?;
     let unit = unit_of(number)?;
@@ -85,13 +85,13 @@ pub fn add_visits(
     Ok(add_number(out, count)?)
 }
 
-/// Whether two books know the same of a unit, and find the same from it on.
+/// Returns whether two books know the same of a unit, and find the same from it on.
 fn is_same(book: &Book, again: &Book, prefix: Prefix) -> bool {
     let from = prefix.first();
     book.unit(prefix) == again.unit(prefix) && book.next_change(from) == again.next_change(from)
 }
 
-/// How many units of the pool are the same to two books.
+/// Returns how many units of the pool are the same to two books.
 fn same_units(book: &Book, again: &Book) -> Result<u64, Fault> {
     let mut count = 0u64;
     for number in 0..=u8::MAX {

@@ -9,14 +9,15 @@ use journal_lines::Carried;
 use prefix_range::Prefix;
 use std::cmp::Ordering;
 
-/// Whether a prefix comes before another, by address and then by length.
+/// Returns whether a prefix comes before another, by address and then by length.
 fn is_prefix_before(one: &Prefix, other: &Prefix) -> bool
     ensures { IsTrue result ↔ IsPrefixBefore one.now other.now }
 {
     one.first() < other.first() || (one.first() == other.first() && one.len() < other.len())
 }
 
-/// Whether a client's identity association comes before another's, by the client's octets and then by its number.
+/// Returns whether a client's identity association comes before another's, by the client's octets and then by its
+/// number.
 #[tactic(auto, using(crate::proofs::Orders::same_client, crate::proofs::Orders::last_behind))]
 fn is_holder_before(one: &Carried, other: &Carried) -> bool
     ensures { IsTrue result ↔ IsHolderBefore one.now other.now }
@@ -28,7 +29,7 @@ fn is_holder_before(one: &Carried, other: &Carried) -> bool
     }
 }
 
-/// Whether a carry line comes before another, by prefix, client and identity association.
+/// Returns whether a carry line comes before another, by prefix, client and identity association.
 fn is_carried_before(one: &Carried, other: &Carried) -> bool
     ensures { IsTrue result ↔ IsCarriedBefore one.now other.now }
 {
@@ -40,28 +41,28 @@ fn is_carried_before(one: &Carried, other: &Carried) -> bool
 }
 
 impl Place {
-    /// Whether no line came but the open line and pool lines.
+    /// Returns whether no line came but the open line and pool lines.
     pub fn is_at_pools(&self) -> bool
         ensures { IsTrue result ↔ (self.now ≡ Place.AtPools) }
     {
         matches!(self, Place::AtPools)
     }
 
-    /// Whether a base line may follow.
+    /// Returns whether a base line may follow.
     pub fn is_before_base(&self) -> bool
         ensures { IsTrue result ↔ IsBeforeBase self.now }
     {
         matches!(self, Place::AtPools | Place::AtTransit)
     }
 
-    /// Whether the base line has come, or other lines than head lines.
+    /// Returns whether the base line has come, or other lines than head lines.
     pub fn is_past_base(&self) -> bool
         ensures { IsTrue result ↔ IsPastBase self.now }
     {
         !matches!(self, Place::AtPools | Place::AtTransit)
     }
 
-    /// Whether a carry line may follow.
+    /// Returns whether a carry line may follow.
     pub fn is_followed_by_carry(&self, carried: &Carried) -> bool
         ensures { IsTrue result ↔ CarryFollows self.now carried.now }
     {
@@ -72,7 +73,7 @@ impl Place {
         }
     }
 
-    /// Whether the line of a unit may follow.
+    /// Returns whether the line of a unit may follow.
     pub fn is_followed_by_unit(&self, prefix: &Prefix) -> bool
         ensures { IsTrue result ↔ UnitFollows self.now prefix.now }
     {

@@ -8,7 +8,7 @@ use prefix_range::Prefix;
 /// The most units that the pools of a server have together.
 pub const MOST_UNITS: usize = 65_536;
 
-/// How many addresses a prefix of this length has, where these aren't all addresses.
+/// Returns how many addresses a prefix of this length has, where these aren't all addresses.
 fn addresses(length: u8) -> u128
     requires some { 1 ≤ length }
     requires short { length ≤ 128 }
@@ -43,7 +43,7 @@ impl Pool {
         }
     }
 
-    /// Whether a prefix is one of the pool's units.
+    /// Returns whether a prefix is one of the pool's units.
     pub(crate) fn has(&self, prefix: &Prefix) -> bool
         requires { IsPool self.now }
         ensures { result ≡ is_in self.now prefix.now }
@@ -82,7 +82,7 @@ impl Pool {
         }
     }
 
-    /// How many units the pool has.
+    /// Returns how many units the pool has.
     #[tactic(auto, using(crate::proofs::Ranges::few_bits, crate::proofs::Ranges::many_bits))]
     pub fn count(&self) -> usize
         requires longer { self.now.prefix.length ≤ self.now.unit_length }
@@ -92,7 +92,7 @@ impl Pool {
         1usize << (self.unit_length - self.prefix.len())
     }
 
-    /// Whether the pool has at most [`MOST_UNITS`] units.
+    /// Returns whether the pool has at most [`MOST_UNITS`] units.
     #[tactic(auto, using(crate::proofs::Ranges::few_bits, crate::proofs::Ranges::many_bits))]
     pub fn is_small(&self) -> bool
         requires { self.now.prefix.length ≤ self.now.unit_length }

@@ -94,7 +94,7 @@ impl Units {
         &self.pools
     }
 
-    /// How many units there are.
+    /// Returns how many units there are.
     pub fn count(&self) -> usize
         ensures count { result ≡ sum_by units_in self.now.pools }
         ensures few { result ≤ 65536 }
@@ -102,7 +102,7 @@ impl Units {
         self.units.len()
     }
 
-    /// Whether a prefix is a unit.
+    /// Returns whether a prefix is a unit.
     pub fn has(&self, prefix: &Prefix) -> bool
         ensures { result ≡ is_unit self.now.pools prefix.now }
     {
@@ -181,7 +181,7 @@ impl Units {
         })
     }
 
-    /// Whether no unit is marked.
+    /// Returns whether no unit is marked.
     pub fn is_unmarked(&self) -> bool
         ensures { IsTrue result ↔ AreUnmarked self.now }
     {

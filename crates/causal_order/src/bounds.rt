@@ -10,14 +10,14 @@ use crate::messages::is_take_of;
 use claims::Ref;
 use lead_time::{Reading, Skew, earliest, latest};
 
-/// Whether the reference names a line.
+/// Returns whether the reference names a line.
 fn is_line<L: Lines>(lines: &L, at: Ref) -> bool
     ensures { result ≡ is_line (L.journals lines.now) at }
 {
     lines.line(at).is_some()
 }
 
-/// Whether the one reference stands later in the same journal.
+/// Returns whether the one reference stands later in the same journal.
 fn is_later(earlier: Ref, later: Ref) -> bool
     ensures decided { IsTrue result ↔ IsLater earlier later }
     ensures value { result ≡ is_later earlier later }
@@ -25,14 +25,14 @@ fn is_later(earlier: Ref, later: Ref) -> bool
     earlier.side == later.side && earlier.number < later.number
 }
 
-/// Whether the one line was written before the other by their journal, or by a message.
+/// Returns whether the one line was written before the other by their journal, or by a message.
 fn follows<L: Lines>(lines: &L, earlier: Ref, later: Ref) -> bool
     ensures { result ≡ follows (L.journals lines.now) earlier later }
 {
     is_later(earlier, later) || is_take_of(lines, earlier, later)
 }
 
-/// Whether the references from `first` on name lines, each of which was written after the one before it.
+/// Returns whether the references from `first` on name lines, each of which was written after the one before it.
 #[tactic(auto, using(crate::proofs::Walking::breaks_at_line, crate::proofs::Walking::breaks_at_link, crate::proofs::Walking::goes_on, crate::proofs::Walking::ends))]
 fn is_chain_from<L: Lines>(lines: &L, first: Ref, rest: &[Ref]) -> bool
     ensures { result ≡ is_chain (L.journals lines.now) (first ∷ rest.now) }
@@ -47,7 +47,7 @@ fn is_chain_from<L: Lines>(lines: &L, first: Ref, rest: &[Ref]) -> bool
     is_line(lines, last)
 }
 
-/// Whether the references name lines, each of which was written after the one before it. None are no chain.
+/// Returns whether the references name lines, each of which was written after the one before it. None are no chain.
 #[tactic(auto, using(crate::proofs::Walking::chain_decided))]
 pub fn is_chain<L: Lines>(lines: &L, chain: &[Ref]) -> bool
     ensures decided { IsTrue result ↔ IsChain (L.journals lines.now) chain.now }
@@ -59,7 +59,7 @@ pub fn is_chain<L: Lines>(lines: &L, chain: &[Ref]) -> bool
     }
 }
 
-/// What the clock showed at the line that the reference names.
+/// Returns what the clock showed at the line that the reference names.
 fn reading_of<L: Lines>(lines: &L, at: Ref) -> Option<Reading>
     ensures { result ≡ reading_of (L.journals lines.now) at }
 {

@@ -36,7 +36,7 @@ fn is_same(one: &PartnerMessage, other: &PartnerMessage) -> bool
     one == other
 }
 
-/// Whether the messages are there, and are the same.
+/// Returns whether the messages are there, and are the same.
 fn is_received(sent: Option<PartnerMessage>, taken: Option<PartnerMessage>) -> bool
     ensures { result ≡ same_messages sent taken }
 {
@@ -46,7 +46,7 @@ fn is_received(sent: Option<PartnerMessage>, taken: Option<PartnerMessage>) -> b
     }
 }
 
-/// Whether the line at `take` takes on the other side what the line at `send` sends.
+/// Returns whether the line at `take` takes on the other side what the line at `send` sends.
 pub fn is_take_of<L: Lines>(lines: &L, send: Ref, take: Ref) -> bool
     ensures decided { IsTrue result ↔ IsTakeOf (L.journals lines.now) send take }
     ensures value { result ≡ is_take_of (L.journals lines.now) send take }

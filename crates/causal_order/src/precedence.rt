@@ -11,7 +11,7 @@ use crate::lines::Lines;
 use claims::{Precedes, Ref};
 use lead_time::Skew;
 
-/// Whether a chain begins or ends with this reference.
+/// Returns whether a chain begins or ends with this reference.
 fn is_at(end: Option<Ref>, at: Ref) -> bool
     ensures { result ≡ is_at end at }
 {
@@ -21,7 +21,7 @@ fn is_at(end: Option<Ref>, at: Ref) -> bool
     }
 }
 
-/// Whether the references are a chain from the first line to the second.
+/// Returns whether the references are a chain from the first line to the second.
 fn leads<L: Lines>(lines: &L, chain: &[Ref], first: Ref, second: Ref) -> bool
     ensures { result ≡ leads (L.journals lines.now) chain.now first second }
 {
@@ -30,7 +30,7 @@ fn leads<L: Lines>(lines: &L, chain: &[Ref], first: Ref, second: Ref) -> bool
         && is_at(last_of_chain(chain), second)
 }
 
-/// Whether the references are a chain from the first line to the second, of two lines or more.
+/// Returns whether the references are a chain from the first line to the second, of two lines or more.
 fn leads_on<L: Lines>(lines: &L, chain: &[Ref], first: Ref, second: Ref) -> bool
     ensures { IsTrue result ↔ (Leads (L.journals lines.now) chain.now first second × (2 ≤ length chain.now)) }
 {
@@ -46,7 +46,7 @@ fn is_earlier(latest: Option<i64>, earliest: Option<i64>) -> bool
     }
 }
 
-/// Whether the chain from the first line and the chain to the second lie further apart than both skews.
+/// Returns whether the chain from the first line and the chain to the second lie further apart than both skews.
 #[tactic(auto, using(crate::proofs::Clocks::other_begin))]
 fn is_apart<L: Lines>(
     lines: &L,
@@ -70,7 +70,7 @@ fn is_apart<L: Lines>(
     )
 }
 
-/// Whether the first line was surely written before the second, as `order` has it.
+/// Returns whether the first line was surely written before the second, as `order` has it.
 pub fn precedes<L: Lines>(lines: &L, first: Ref, second: Ref, order: &Precedes, skew: Skew) -> bool
     ensures { IsTrue result ↔ IsSurelyBefore (L.journals lines.now) skew order.now first second }
 {

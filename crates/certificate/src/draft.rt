@@ -55,7 +55,7 @@ impl Draft {
         }
     }
 
-    /// Whether a piece, or a release behind its piece, may be added: no other client's grant was.
+    /// Returns whether a piece, or a release behind its piece, may be added: no other client's grant was.
     pub fn takes_pieces(&self) -> bool
         ensures { IsTrue result ↔ (self.now.foreign ≡ []) }
     {

@@ -18,7 +18,7 @@ use std::alloc::Global;
 /// The last line.
 const END: &[u8] = b"end";
 
-/// What the first four lines say: a certificate without pieces and other clients' grants.
+/// Returns what the first four lines say: a certificate without pieces and other clients' grants.
 #[tactic(auto, unfolding(crate::specs::Faults::opening_at))]
 fn opening(alloc: Global, lines: &mut TextLines<'_>) -> Result<Draft, CertificateFault>
     ensures opening { MovesOr (λ c. c) result lines.new.left (opening_at lines.old.left) }
@@ -54,7 +54,7 @@ fn claim_on(
     }
 }
 
-/// What a text is as a certificate.
+/// Returns what a text is as a certificate.
 fn parse(alloc: Global, text: &[u8]) -> Result<Certificate, CertificateError>
     ensures exact { Gives fault_of (λ c. c) result (certificate_of text.now) }
     ensures memory { IsErrOf result CertificateError.Memory → IsOk (opening_at (split LINE_FEED text.now)) }

@@ -41,7 +41,7 @@ impl<'a> TextLines<'a> {
         }
     }
 
-    /// How many lines were taken: the number of the last.
+    /// Returns how many lines were taken: the number of the last.
     pub fn count(&self) -> u32
         ensures { result ≡ self.now.count }
     {
@@ -85,7 +85,7 @@ impl<'a> TextLines<'a> {
         Ok(line)
     }
 
-    /// Whether nothing stands behind the last line that was taken.
+    /// Returns whether nothing stands behind the last line that was taken.
     pub fn is_at_end(mut self) -> bool
         ensures { IsTrue result ↔ (self.entry.left ≡ [] ∷ []) }
     {

@@ -64,7 +64,7 @@ fn place_at<T: NamesLine>(entries: &[T], index: u32) -> u64
     }
 }
 
-/// How many of the indexes are those of entries whose lines come before this place.
+/// Returns how many of the indexes are those of entries whose lines come before this place.
 fn count_before<T: NamesLine>(entries: &[T], order: &[u32], place: u64) -> usize
     requires { IsNonDecreasingBy (place_at T.named entries.now) order.now }
     ensures within { result ≤ length order.now }

@@ -34,7 +34,7 @@ fn buffer_of(alloc: Global) -> Result<Vec<u8>, AllocError>
     vec![in alloc; 0u8; READ_SIZE]
 }
 
-/// How often a chunk is cut into halves, so that each processor has a part: eight parts at most.
+/// Returns how often a chunk is cut into halves, so that each processor has a part: eight parts at most.
 pub fn halvings_for<H: Threads>(rt: &H) -> u32 {
     match available_parallelism(rt) {
         Ok(processors) => match processors.get() {

@@ -40,7 +40,7 @@ impl<D> Watched<D> {
         self.device
     }
 
-    /// Whether a call has failed.
+    /// Returns whether a call has failed.
     pub fn has_failed(&self) -> bool
         ensures { result ≡ self.now.failed }
     {

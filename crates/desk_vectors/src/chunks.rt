@@ -32,7 +32,7 @@ fn audit(skew: Skew) -> Command {
     }
 }
 
-/// What the desk writes for an input that is read in chunks of this length.
+/// Returns what the desk writes for an input that is read in chunks of this length.
 fn line_in_chunks(
     rt: &(impl Threads + Wait + Sync),
     alloc: Global,

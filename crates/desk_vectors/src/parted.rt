@@ -37,7 +37,7 @@ fn text_without(alloc: Global, gone: u64) -> Result<Vec<u8>, Fail> {
     Ok(text)
 }
 
-/// What a reader finds that takes a text in two chunks, each cut into halves so often.
+/// Returns what a reader finds that takes a text in two chunks, each cut into halves so often.
 fn found_in(
     rt: &(impl Threads + Sync),
     alloc: Global,

@@ -217,7 +217,7 @@ pub(crate) fn transit_given(options: &ArgMatches) -> Option<Transit>
     Transit::new(number_given(options, "transit-ms", Transit::MAX)?).ok()
 }
 
-/// How many workers, 1 to 64.
+/// Returns how many workers, 1 to 64.
 fn workers_given(options: &ArgMatches) -> Option<Workers>
     ensures given { IfSome result (IsWorkers (first_of (codes "workers") (rows_of (found_of options.now)))) }
     ensures none { result ≡ None

@@ -86,7 +86,7 @@ impl ClientOptions {
         }
     }
 
-    /// What the options in these octets say, or their first fault.
+    /// Returns what the options in these octets say, or their first fault.
     pub fn of(alloc: Global, octets: &[u8]) -> Result<ClientOptions, PdError>
         ensures { Gives (λ s. s) result (client_options_in octets.now) }
     {

@@ -17,7 +17,7 @@ use crate::untested::{UntestedMessage, message_in};
 use client_id::Duid;
 use std::alloc::Global;
 
-/// Whether a server identifier stands there as the message's type asks for (RFC 8415, section 16).
+/// Returns whether a server identifier stands there as the message's type asks for (RFC 8415, section 16).
 #[tactic(auto, unfolding(crate::specs::Faults::for_server))]
 fn for_server(own: &Duid, kind: ClientKind, server: &Option<Duid>) -> Result<(), PdFault>
     ensures { result ≡ for_server own.now kind server.now }

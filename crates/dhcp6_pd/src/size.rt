@@ -20,7 +20,7 @@ fn with_octets(size: usize, more: usize) -> Result<usize, PdError>
     Ok(size + more)
 }
 
-/// How many octets the option of an IA_PD has.
+/// Returns how many octets the option of an IA_PD has.
 pub fn ia_size(reply: &IaReply) -> usize
     ensures { result ≡ length (ia_octets reply.now) }
 {
@@ -79,7 +79,7 @@ fn with_relay(before: usize, relay: &Relay) -> Result<usize, PdError>
     }
 }
 
-/// How many octets an answer has, or `TooLong` where they are more than a datagram can have.
+/// Returns how many octets an answer has, or `TooLong` where they are more than a datagram can have.
 pub fn size_of(message: &ServerMessage) -> Result<usize, PdError>
     ensures { result ≡ fitting (length (message_octets message.now)) }
 {

@@ -45,7 +45,8 @@ pub fn evidence<S: LineSource>(
 /// The most lines of a certificate's text.
 const MOST_LINES: usize = 65_536;
 
-/// Whether the certificate's text keeps its limit: a line for each piece and entry, four before them and one behind.
+/// Returns whether the certificate's text keeps its limit: a line for each piece and entry, four before them and one
+/// behind.
 fn is_short(certificate: &Certificate) -> bool {
     let mut lines = certificate
         .foreign

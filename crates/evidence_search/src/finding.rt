@@ -22,7 +22,7 @@ fn is_accepted(verdict: &Verdict) -> bool
     matches!(verdict, Verdict::Accepted)
 }
 
-/// Whether the auditor accepts the certificate.
+/// Returns whether the auditor accepts the certificate.
 fn is_shown<S: LineSource>(source: &S, query: &Query, certificate: &Certificate) -> bool
     ensures shown { IsTrue result ↔ IsShown (S.journals source.now) query.now certificate.now }
     ensures headline { IsTrue result → IsTrueInEveryRun AreLegal (S.journals source.now) query.now.skew

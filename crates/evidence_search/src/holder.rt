@@ -19,7 +19,7 @@ use message_search::{Messages, linked_reach_at};
 use plain_search::{FindError, HolderQuery, Query, Reach, Recent, lease_at, reach_at};
 use std::alloc::{AllocError, Global};
 
-/// Whether this client held the prefix from the moment to the next.
+/// Returns whether this client held the prefix from the moment to the next.
 fn held_by(query: &HolderQuery, holder: Duid, next: Reading) -> Query
     requires { next ≡ query.now.at + 1 }
     ensures { result ≡ held_by query.now holder }
@@ -34,7 +34,7 @@ fn held_by(query: &HolderQuery, holder: Duid, next: Reading) -> Query
     }
 }
 
-/// Whether there is a grant, and it carries the moment.
+/// Returns whether there is a grant, and it carries the moment.
 fn carries(reach: &Option<Reach>, moment: Reading) -> bool
     ensures { IsTrue result ↔ HasMoment reach.now moment }
 {
@@ -79,7 +79,7 @@ fn client_at<S: LineSource>(
     Ok(None)
 }
 
-/// Whether this client is the last that was asked about.
+/// Returns whether this client is the last that was asked about.
 fn is_last(last: &Option<Duid>, client: &Duid) -> bool
     ensures { IsTrue result → last.now ≡ Some client.now }
 {

@@ -28,7 +28,8 @@ fn moment(milliseconds: u64, latest: Reading) -> Reading
     }
 }
 
-/// How far to go from what is shown to what isn't: so far, but a millisecond at least and no farther than there.
+/// Returns how far to go from what is shown to what isn't: so far, but a millisecond at least and no farther than
+/// there.
 fn stride(step: u64, room: u64) -> u64
     requires { 0 < room }
     ensures { (0 < result) × (result ≤ room) }

@@ -9,7 +9,7 @@ use crate::octets::Octets;
 use crate::{codes, fields};
 use binding_rules::{BindReply, Counter, Role, Update};
 
-/// What a unit became.
+/// Returns what a unit became.
 #[tactic(auto, unfolding(crate::specs::Parsing::update_at))]
 fn update(octets: &mut Octets<'_>) -> Option<Update>
     ensures { Moves (λ u. u) result octets.new (update_at octets.old) }
@@ -31,7 +31,7 @@ fn update(octets: &mut Octets<'_>) -> Option<Update>
     })
 }
 
-/// Whether an update was taken over.
+/// Returns whether an update was taken over.
 #[tactic(auto, unfolding(crate::specs::Parsing::reply_at))]
 fn reply(octets: &mut Octets<'_>) -> Option<BindReply>
     ensures { Moves (λ r. r) result octets.new (reply_at octets.old) }

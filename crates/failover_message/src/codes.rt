@@ -31,7 +31,7 @@ const STATES: [ServerState; 3] = [
     ServerState::Down,
 ];
 
-/// What stands for this status.
+/// Returns what stands for this status.
 pub fn status_code(status: Status) -> u8
     ensures { result ≡ status_code status }
 {
@@ -45,7 +45,7 @@ pub fn status_code(status: Status) -> u8
     }
 }
 
-/// What stands for this acknowledgement.
+/// Returns what stands for this acknowledgement.
 pub fn acknowledgement_code(acknowledgement: Acknowledgement) -> u8
     ensures { result ≡ acknowledgement_code acknowledgement }
 {
@@ -55,7 +55,7 @@ pub fn acknowledgement_code(acknowledgement: Acknowledgement) -> u8
     }
 }
 
-/// What stands for this role.
+/// Returns what stands for this role.
 pub fn role_code(role: Role) -> u8
     ensures { result ≡ role_code role }
 {
@@ -65,7 +65,7 @@ pub fn role_code(role: Role) -> u8
     }
 }
 
-/// What stands for this state.
+/// Returns what stands for this state.
 pub fn state_code(state: ServerState) -> u8
     ensures { result ≡ state_code state }
 {

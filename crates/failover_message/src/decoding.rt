@@ -13,21 +13,21 @@ use crate::frame::{Frame, FrameKind, MAX_LENGTH, MIN_LENGTH};
 use crate::octets::Octets;
 use binding_rules::Counter;
 
-/// Whether this many octets may follow a frame's length field.
+/// Returns whether this many octets may follow a frame's length field.
 pub fn is_length(length: u32) -> bool
     ensures { result ≡ is_length length }
 {
     MIN_LENGTH <= length && length <= MAX_LENGTH
 }
 
-/// Whether this is the code of a kind.
+/// Returns whether this is the code of a kind.
 fn is_kind(code: u8) -> bool
     ensures { result ≡ is_kind code }
 {
     1 <= code && code <= 12
 }
 
-/// Whether frames of this kind are counted, as the journal lines that they are.
+/// Returns whether frames of this kind are counted, as the journal lines that they are.
 fn is_numbered(kind: &FrameKind) -> bool
     ensures { result ≡ is_numbered kind.now }
 {
@@ -37,7 +37,7 @@ fn is_numbered(kind: &FrameKind) -> bool
     )
 }
 
-/// Whether the serial is of a frame that is counted, or not counted.
+/// Returns whether the serial is of a frame that is counted, or not counted.
 fn is_serial(numbered: bool, serial: Counter) -> bool
     ensures { result ≡ is_serial numbered serial }
 {

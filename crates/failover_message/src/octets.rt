@@ -34,7 +34,7 @@ impl<'a> Octets<'a> {
         Octets { rest: octets }
     }
 
-    /// How many octets are left.
+    /// Returns how many octets are left.
     pub fn len(&self) -> usize
         ensures { result ≡ length self.now }
     {

@@ -19,7 +19,7 @@ use std::alloc::{AllocError, Global};
 /// Room for each frame that is written: the longest tells an update of a client whose DUID has 130 octets.
 const ROOM: usize = 194;
 
-/// What stands for a frame's kind.
+/// Returns what stands for a frame's kind.
 fn kind_code(kind: &FrameKind) -> u8
     ensures { result ≡ kind_code kind.now }
 {
@@ -147,7 +147,7 @@ fn put_body(out: &mut BytesMut, kind: &FrameKind) -> Result<(), AllocError>
     }
 }
 
-/// How many octets a client has, its length included.
+/// Returns how many octets a client has, its length included.
 fn client_len(client: &Option<Duid>) -> u32
     ensures value { result ≡ length (client_octets client.now) }
     ensures within { result ≤ 131 }
@@ -158,7 +158,7 @@ fn client_len(client: &Option<Duid>) -> u32
     }
 }
 
-/// How many octets the body has.
+/// Returns how many octets the body has.
 #[tactic(auto, unfolding(crate::specs::Frames::number_octets))]
 fn body_len(kind: &FrameKind) -> u32
     ensures value { result ≡ length (body_octets kind.now) }
@@ -179,7 +179,7 @@ fn body_len(kind: &FrameKind) -> u32
     }
 }
 
-/// How many octets stand behind the length field.
+/// Returns how many octets stand behind the length field.
 #[tactic(auto, unfolding(crate::specs::Frames::number_octets))]
 fn content_len(frame: &Frame) -> u32
     ensures { result ≡ length (content_octets frame.now) }

@@ -29,7 +29,7 @@ pub fn takeover(told: End, down: Reading, mclt: u32, skew: Skew, transit: Transi
     known + 1000 * u64::from(mclt) + 2 * skew.milliseconds() + transit.milliseconds()
 }
 
-/// Whether a grant has ended when the server's clock shows `now`: from its end on.
+/// Returns whether a grant has ended when the server's clock shows `now`: from its end on.
 pub fn ended(now: Reading, own_end: End) -> bool
     ensures { IsTrue result ↔ (own_end ≤ now) }
 {

@@ -30,7 +30,7 @@ piece A3 12000 3608000 latest A3 earliest A3
 end
 ";
 
-/// Whether a line grants the unit of this index.
+/// Returns whether a line grants the unit of this index.
 fn is_granted(lines: &[Line], index: u128) -> Result<bool, Fail> {
     let pool = read_text(b"2001:db8::/48")?;
     let prefix = unit(&pool, 56, index).ok_or("no unit")?;

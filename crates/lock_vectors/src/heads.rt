@@ -45,7 +45,7 @@ fn carrying(alloc: Global, lines: &[Line], leases: u32) -> Result<Vec<Line>, Fai
     Ok(all)
 }
 
-/// Whether a client is granted the unit of a number for an hour.
+/// Returns whether a client is granted the unit of a number for an hour.
 fn is_granted(book: &mut Book, client: u8, number: u128) -> Result<bool, Fail> {
     let pool = read_text(b"2001:db8::/48")?;
     let wanted = unit(&pool, 56, number);
@@ -59,7 +59,7 @@ fn is_granted(book: &mut Book, client: u8, number: u128) -> Result<bool, Fail> {
     }
 }
 
-/// Whether a book closes at 2000000, and no volume follows it for want of room.
+/// Returns whether a book closes at 2000000, and no volume follows it for want of room.
 fn is_last(book: &mut Book) -> Result<bool, Fail> {
     let now = at(2_000_000)?;
     let closed = matches!(&book.apply(now, &Order::Close), Ok(Reply::Done));

@@ -74,7 +74,7 @@ fn serves_all<N: BookName, R: Wait>(
     (pass, well)
 }
 
-/// How many of these receipts have this number.
+/// Returns how many of these receipts have this number.
 fn count_of(receipts: &[Receipt], number: u32) -> usize {
     receipts
         .iter()
@@ -82,7 +82,7 @@ fn count_of(receipts: &[Receipt], number: u32) -> usize {
         .count()
 }
 
-/// Whether the lines behind the opening have one receipt each.
+/// Returns whether the lines behind the opening have one receipt each.
 fn each_has_one(first: &[Receipt], second: &[Receipt]) -> bool {
     (3..=202).all(|number| count_of(first, number).saturating_add(count_of(second, number)) == 1)
 }
@@ -99,7 +99,7 @@ pub struct Served {
     well: bool,
 }
 
-/// What two threads leave that serve a hundred clients each.
+/// Returns what two threads leave that serve a hundred clients each.
 fn by_two<N: BookName + Send + Sync, R: Threads + Wait + Sync>(
     rt: &R,
     alloc: Global,
@@ -143,7 +143,7 @@ fn by_two<N: BookName + Send + Sync, R: Threads + Wait + Sync>(
     }
 }
 
-/// What two threads leave that serve a hundred clients each at 10000, out of the primary's book.
+/// Returns what two threads leave that serve a hundred clients each at 10000, out of the primary's book.
 pub fn both_served(rt: &(impl Threads + Wait + Sync), alloc: Global) -> Result<Served, Fail> {
     let book = opened(alloc)?;
     let prefix = read_text(b"2001:db8::/56")?;

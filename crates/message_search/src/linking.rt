@@ -24,7 +24,7 @@ fn linking(messages: &Messages, first: Ref, second: Ref) -> Option<Passage>
     Some(passage)
 }
 
-/// Whether chains from the first line and to the second lie further apart than both skews.
+/// Returns whether chains from the first line and to the second lie further apart than both skews.
 fn are_chains_apart<L: Lines>(
     lines: &L,
     messages: &Messages,
@@ -41,7 +41,7 @@ fn are_chains_apart<L: Lines>(
     are_apart(before.reading, after.reading, skew)
 }
 
-/// Whether the first line was shown to be written before the second.
+/// Returns whether the first line was shown to be written before the second.
 pub fn is_before<L: Lines>(
     lines: &L,
     messages: &Messages,

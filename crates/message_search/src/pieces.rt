@@ -18,7 +18,7 @@ use plain_search::{
 };
 use std::alloc::{AllocError, Global};
 
-/// Whether the bound shows that the line was written after its server's partner opened its journal.
+/// Returns whether the bound shows that the line was written after its server's partner opened its journal.
 fn is_past_open<S: LineSource>(source: &S, at: Ref, bound: &Bound, skew: Skew) -> bool {
     let partner = at.side.partner();
     if source.volume(partner) <= 1 || bound.over.is_some() {

@@ -54,22 +54,22 @@ impl<'a, S: Read + Write + OpenStream + Drop, L: OpenListener> Connection<'a, S,
         })
     }
 
-    /// Whether it stood for a while: much came over it, or something and then nothing for a second.
+    /// Returns whether it stood for a while: much came over it, or something and then nothing for a second.
     pub fn has_stood(&self) -> bool {
         self.has_rested || self.heard >= MUCH
     }
 
-    /// Whether the partner closed it, or it was given up.
+    /// Returns whether the partner closed it, or it was given up.
     pub fn has_ended(&self) -> bool {
         self.has_ended
     }
 
-    /// Whether it couldn't be read.
+    /// Returns whether it couldn't be read.
     pub fn has_failed(&self) -> bool {
         self.has_failed
     }
 
-    /// How many others were closed meanwhile.
+    /// Returns how many others were closed meanwhile.
     pub fn others(&self) -> u32 {
         self.others
     }
@@ -86,7 +86,7 @@ impl<'a, S: Read + Write + OpenStream + Drop, L: OpenListener> Connection<'a, S,
         has_come
     }
 
-    /// Whether a second of silence is one too many.
+    /// Returns whether a second of silence is one too many.
     fn is_given_up(&mut self) -> bool {
         self.silence = self.silence.saturating_add(1);
         let has_come = self.turns_away();

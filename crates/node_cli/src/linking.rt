@@ -27,7 +27,7 @@ enum Ending {
 }
 
 impl Ending {
-    /// Whether there is to be no other connection.
+    /// Returns whether there is to be no other connection.
     fn is_last(&self) -> bool {
         matches!(
             self,

@@ -39,7 +39,7 @@ fn settings_in(alloc: Global, text: &[u8]) -> Result<NodeSettings, OpenError>
     NodeSettings::read(alloc, text)
 }
 
-/// How many units a server of these settings has.
+/// Returns how many units a server of these settings has.
 fn units_of(settings: &NodeSettings) -> usize {
     let mut units = 0usize;
     for pool in settings.server.pools() {
@@ -116,7 +116,7 @@ fn words_given(rt: &HostRuntime) -> Result<Vec<String>, Fault> {
     words.collect(rt.alloc()).map_err(|_| Fault::Memory)
 }
 
-/// What ends the program where its words or its input didn't come: want of memory, or the fault.
+/// Returns what ends the program where its words or its input didn't come: want of memory, or the fault.
 fn memory_or(error: io::Error, fault: Fault) -> Fault {
     if error.kind() == io::ErrorKind::OutOfMemory {
         Fault::Memory

@@ -57,7 +57,7 @@ fn node_command<'a>(alloc: Global) -> Result<ClapCommand<'a>, AllocError> {
         .subcommand(run)
 }
 
-/// How many datagrams, 1 to 1,000,000, written as numbers are in a journal.
+/// Returns how many datagrams, 1 to 1,000,000, written as numbers are in a journal.
 fn count_given(options: &ArgMatches) -> Option<u32> {
     let number = number_of(options.get_str("count")?.as_bytes())?;
     let count = u32::try_from(number).ok()?;

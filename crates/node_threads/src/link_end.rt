@@ -49,7 +49,7 @@ fn fate_of(refusal: ServeError) -> Result<Fate, NodeError> {
 }
 
 impl<'a, N: BookName, R: Wait, C: Clock> LinkEnd<'a, N, R, C> {
-    /// Which server's end it is.
+    /// Returns which server's end it is.
     pub(crate) fn role(&self) -> Role {
         self.settings.role()
     }

@@ -60,8 +60,8 @@ impl<'a, N: BookName, R: Wait, C: Clock> LinkEnd<'a, N, R, C> {
         Ok(())
     }
 
-    /// What a partner's UPDREQALL begins: it is up again, and is told this server's term by a contact. All updates
-    /// follow it.
+    /// Begins what a partner's UPDREQALL asks for: it is up again, and is told this server's term by a contact. All
+    /// updates follow it.
     #[tactic(auto, using(crate::proofs::Going::goes_on))]
     pub(crate) fn welcome<W: Wire>(
         &self,

@@ -50,7 +50,7 @@ fn status_of(unit: &Unit, matter: Matter) -> Option<Status> {
 }
 
 impl<'a, N: BookName, R: Wait, C: Clock> LinkEnd<'a, N, R, C> {
-    /// Whether a unit's update is to be sent: there is one, and it wasn't sent yet, or is asked for again.
+    /// Returns whether a unit's update is to be sent: there is one, and it wasn't sent yet, or is asked for again.
     fn is_to_tell(
         &self,
         pass: &mut Pass<N>,
@@ -157,7 +157,7 @@ impl<'a, N: BookName, R: Wait, C: Clock> LinkEnd<'a, N, R, C> {
         self.work(pass, now, 0)
     }
 
-    /// What was asked for again was sent.
+    /// Notes that what was asked for again was sent.
     fn finish_again<W: Wire>(&self, talk: &mut Talk, wire: &mut W) -> Result<(), NodeError> {
         match talk.again {
             Again::Nothing => {}

@@ -172,7 +172,7 @@ impl<'a, N: BookName, R: Wait, C: Clock> LinkEnd<'a, N, R, C> {
         Ok(())
     }
 
-    /// What the end does by one frame.
+    /// Does what one frame asks of the end.
     fn heed<W: Wire>(
         &self,
         pass: &mut Pass<N>,
@@ -190,7 +190,7 @@ impl<'a, N: BookName, R: Wait, C: Clock> LinkEnd<'a, N, R, C> {
         }
     }
 
-    /// What the end does by frames, in their order.
+    /// Does what frames ask of the end, in their order.
     #[tactic(auto, using(crate::proofs::Going::goes_on))]
     pub(crate) fn heed_all<W: Wire>(
         &self,

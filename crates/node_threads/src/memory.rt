@@ -123,8 +123,8 @@ impl Told {
         Ok(())
     }
 
-    /// Whether the last update of a unit told this status and change in the book's term: what was told in a term before
-    /// may have been passed over.
+    /// Returns whether the last update of a unit told this status and change in the book's term: what was told in a
+    /// term before may have been passed over.
     pub(crate) fn was_sent(&self, prefix: &Prefix, status: Status, mine: Counter) -> bool {
         match self.updates.get(&prefix.first()) {
             Some(telling) => {

@@ -20,7 +20,8 @@ use server_book::{Asked, BookError, Order};
 use std::sync::Wait;
 
 impl<'a, N: BookName, R: Wait, C: Clock> LinkEnd<'a, N, R, C> {
-    /// Whether this server has a unit to give. It asks what it would give to a client of its own name, which has none.
+    /// Returns whether this server has a unit to give. It asks what it would give to a client of its own name, which
+    /// has none.
     fn has_unit(&self, pass: &mut Pass<N>) -> Result<bool, NodeError>
         ensures { pass.new ≡ pass.old }
     {

@@ -28,7 +28,7 @@ pub struct Ways {
 }
 
 impl Ways {
-    /// How many workers there are, 1 to 63.
+    /// Returns how many workers there are, 1 to 63.
     pub fn workers(&self) -> usize
         ensures value { result ≡ self.now.workers }
         ensures some { 1 ≤ result }

@@ -49,7 +49,7 @@ pub(crate) struct Talk {
     pub settled: Option<Settled>,
 }
 
-/// How many lines other passes and this one have added, where this one has so many receipts.
+/// Returns how many lines other passes and this one have added, where this one has so many receipts.
 pub(crate) fn lines_at(work: &Work, receipts: usize) -> Settled {
     Settled {
         others: work.lines.saturating_sub(receipts),
@@ -81,7 +81,7 @@ impl Talk {
         }
     }
 
-    /// Whether all was told at these lines.
+    /// Returns whether all was told at these lines.
     pub(crate) fn is_settled(&self, lines: &Settled) -> bool {
         match &self.settled {
             Some(settled) => self.again == Again::Nothing && *settled == *lines,

@@ -56,7 +56,7 @@ impl Turns {
         self.left.lock(rt).end();
     }
 
-    /// Whether the workers have ended.
+    /// Returns whether the workers have ended.
     pub fn has_ended<R: Wait>(&self, rt: &R) -> bool {
         self.left.lock(rt).has_ended
     }

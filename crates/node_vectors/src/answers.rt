@@ -70,7 +70,7 @@ pub fn closes(book: &mut Book, now: Reading) -> bool {
     }
 }
 
-/// What workers leave of so many turns.
+/// Returns what workers leave of so many turns.
 pub fn served<D: Datagrams + Sync, C: Clock + Sync>(
     rt: &(impl Threads + Wait + Sync),
     alloc: Global,
@@ -90,7 +90,7 @@ pub fn served<D: Datagrams + Sync, C: Clock + Sync>(
     .ok()
 }
 
-/// What workers of the server leave of so many turns.
+/// Returns what workers of the server leave of so many turns.
 pub fn left<D: Datagrams + Sync, C: Clock + Sync>(
     rt: &(impl Threads + Wait + Sync),
     alloc: Global,

@@ -70,7 +70,7 @@ impl Cable {
         }
     }
 
-    /// Whether it was cut.
+    /// Returns whether it was cut.
     pub fn is_cut(&self) -> bool {
         self.frames.load(Ordering::SeqCst) >= self.most
     }

@@ -19,7 +19,7 @@ impl Still {
         }
     }
 
-    /// How often it was asked.
+    /// Returns how often it was asked.
     pub fn asked(&self) -> usize {
         self.asked.load(Ordering::SeqCst)
     }

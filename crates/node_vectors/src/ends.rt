@@ -78,7 +78,7 @@ pub struct Done {
     pub book: Book,
 }
 
-/// What becomes of a link's end over one wire after another.
+/// Returns what becomes of a link's end over one wire after another.
 fn by_link<N: BookName, R: Wait, C: Clock>(
     rt: &R,
     alloc: Global,
@@ -150,7 +150,7 @@ pub struct Case<'a> {
 }
 
 impl<'a> Case<'a> {
-    /// What an end writes that hears these frames, and its journal.
+    /// Returns what an end writes that hears these frames, and its journal.
     pub fn new(
         role: Role,
         heard: &'a [&'a [u8]],
@@ -174,7 +174,7 @@ impl<'a> Case<'a> {
         }
     }
 
-    /// What is to be written to the last wire.
+    /// Returns what is to be written to the last wire.
     fn last_written(&self) -> &'a [&'a [u8]] {
         if self.again.is_empty() {
             self.written

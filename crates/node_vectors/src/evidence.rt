@@ -44,7 +44,7 @@ pub fn text_of(alloc: Global, book: Book, closed: u64) -> Result<Vec<u8>, Fail> 
     }
 }
 
-/// What a search of two journals finds for the client from one moment up to another.
+/// Returns what a search of two journals finds for the client from one moment up to another.
 fn found(
     alloc: Global,
     primary: &[u8],

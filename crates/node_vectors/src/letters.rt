@@ -40,7 +40,7 @@ fn is_active(unit: &Unit) -> bool {
     matches!(unit.status.status(), Status::Active)
 }
 
-/// Whether a server that sees this unit knows enough.
+/// Returns whether a server that sees this unit knows enough.
 fn is_so(when: When, look: &Look) -> bool {
     let Some(unit) = &look.unit else {
         return false;
@@ -73,7 +73,7 @@ impl<'a, N: BookName, R: Wait + Handle> Letters<'a, N, R> {
         watch.into_inner()
     }
 
-    /// Whether no change and no reply is to be told.
+    /// Returns whether no change and no reply is to be told.
     fn is_quiet(&self) -> bool {
         let Ok(now) = self.moment.now() else {
             return false;
@@ -85,7 +85,7 @@ impl<'a, N: BookName, R: Wait + Handle> Letters<'a, N, R> {
         }
     }
 
-    /// Whether the server's look at the unit shows enough.
+    /// Returns whether the server's look at the unit shows enough.
     fn is_seen(&self, when: When) -> bool {
         let mut watch = self.watch.lock(self.handle);
         match self.shared.look(self.handle, &mut watch, self.unit) {
@@ -94,7 +94,7 @@ impl<'a, N: BookName, R: Wait + Handle> Letters<'a, N, R> {
         }
     }
 
-    /// Whether what a letter waits for is so.
+    /// Returns whether what a letter waits for is so.
     fn has_come(&self, when: When) -> bool {
         match when {
             When::After(count) => self.moment.happened() >= count,

@@ -22,7 +22,7 @@ impl Meeting {
         }
     }
 
-    /// Whether the first caller saw the second.
+    /// Returns whether the first caller saw the second.
     pub fn saw_it(&self) -> bool {
         self.saw_it.load(Ordering::SeqCst)
     }

@@ -24,7 +24,7 @@ impl Moment {
         }
     }
 
-    /// Whether this moment has come.
+    /// Returns whether this moment has come.
     pub fn has_come(&self, milliseconds: u64) -> bool {
         milliseconds <= self.milliseconds.load(Ordering::SeqCst)
     }
@@ -41,7 +41,7 @@ impl Moment {
         self.happened.fetch_add(1, Ordering::SeqCst);
     }
 
-    /// How often something has happened.
+    /// Returns how often something has happened.
     pub fn happened(&self) -> usize {
         self.happened.load(Ordering::SeqCst)
     }

@@ -15,7 +15,7 @@ const WITHIN: &[u8] = b"[[pool]]\nprefix = \"2001:db8:0:80::/57\"\nunit = 60\n";
 /// A pool whose units would be greater than it.
 const GREATER: &[u8] = b"[[pool]]\nprefix = \"2001:db8::/48\"\nunit = 40\n";
 
-/// How many workers the settings of a primary name, or why they are refused.
+/// Returns how many workers the settings of a primary name, or why they are refused.
 fn workers_of(
     alloc: Global,
     ways: &[u8],

@@ -44,7 +44,7 @@ fn ordered(book: &mut Book, at: u64, order: &Order) -> Result<(), Fail> {
     }
 }
 
-/// What a side's node begins with.
+/// Returns what a side's node begins with.
 pub fn begun(alloc: Global, role: Role, story: Story) -> Result<Begin, Fail> {
     let settings = settings_of(alloc, role, FOUR)?;
     let mut book = opened_by(alloc, &settings)?;
@@ -142,7 +142,7 @@ fn journal_of(
     text_of(alloc, book, closed)
 }
 
-/// Whether the secondary has the last unit to give.
+/// Returns whether the secondary has the last unit to give.
 fn has_last_unit(secondary: &Option<Node>) -> bool {
     let (Some(node), Ok(last)) = (secondary, read_text(b"2001:db8:0:300::/56")) else {
         return false;

@@ -24,7 +24,7 @@ impl<'a> Post<'a> {
         }
     }
 
-    /// How many answers were sent, if each was the one wanted.
+    /// Returns how many answers were sent, if each was the one wanted.
     pub fn sent_well(&self) -> Option<usize> {
         if self.is_other.load(Ordering::SeqCst) {
             None

@@ -41,7 +41,7 @@ impl<'a> Script<'a> {
         &self.written
     }
 
-    /// Whether it brings any octets.
+    /// Returns whether it brings any octets.
     pub fn is_there(&self) -> bool {
         !self.octets.is_empty()
     }

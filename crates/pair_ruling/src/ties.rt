@@ -12,7 +12,7 @@ use journal_lines::{Event, Journal, Line};
 use lead_time::{Skew, Transit};
 use std::alloc::{AllocError, Global};
 
-/// Whether the event says how its server is set up.
+/// Returns whether the event says how its server is set up.
 fn is_setting(event: &Event) -> bool
     ensures { result ≡ is_setting event.now }
 {
@@ -40,7 +40,7 @@ fn next_setting(lines: &[Line], from: usize) -> usize
     place
 }
 
-/// Whether two settings are the same.
+/// Returns whether two settings are the same.
 fn say_the_same(first: &Event, second: &Event) -> bool
     requires { IsTrue (is_setting first.now) }
     ensures { IsTrue result ↔ (first.now ≡ second.now) }
@@ -48,7 +48,7 @@ fn say_the_same(first: &Event, second: &Event) -> bool
     first == second
 }
 
-/// Whether the open, pool and transit lines say the same, in the same order.
+/// Returns whether the open, pool and transit lines say the same, in the same order.
 fn are_alike(first: &[Line], second: &[Line]) -> bool
     ensures { IsTrue result ↔ (settings_of first.now ≡ settings_of second.now) }
 {
@@ -64,7 +64,7 @@ fn are_alike(first: &[Line], second: &[Line]) -> bool
     i == first.len() && j == second.len()
 }
 
-/// Whether the event says no skew and no transit over these.
+/// Returns whether the event says no skew and no transit over these.
 fn is_within(event: &Event, skew: Skew, transit: Transit) -> bool
     ensures { IsTrue result ↔ IsWithin event.now skew transit }
 {
@@ -75,7 +75,7 @@ fn is_within(event: &Event, skew: Skew, transit: Transit) -> bool
     }
 }
 
-/// Whether no line says a skew or a transit over these.
+/// Returns whether no line says a skew or a transit over these.
 #[tactic(auto, using(crate::proofs::Settings::one_more, crate::proofs::Settings::in_all, crate::proofs::Settings::all_seen))]
 fn are_within(lines: &[Line], skew: Skew, transit: Transit) -> bool
     ensures { IsTrue result ↔ AreWithin lines.now skew transit }

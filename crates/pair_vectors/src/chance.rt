@@ -75,7 +75,7 @@ impl Chance {
         }
     }
 
-    /// What becomes of clients and their leases.
+    /// Returns what becomes of clients and their leases.
     fn lease_order(&mut self) -> Result<Order, Fail> {
         Ok(match self.dice.below(8) {
             0 => Order::Renew(self.asked()?),
@@ -86,7 +86,7 @@ impl Chance {
         })
     }
 
-    /// What becomes of units between the partners.
+    /// Returns what becomes of units between the partners.
     fn unit_order(&mut self) -> Result<Order, Fail> {
         Ok(match self.dice.below(6) {
             0 => Order::Backup(self.unit()?),

@@ -92,7 +92,7 @@ pub fn event_of(row: &Row, clock: Reading, unit: Prefix) -> Result<Event, Fail> 
     })
 }
 
-/// Whether a reply is the one that must be given.
+/// Returns whether a reply is the one that must be given.
 fn is_reply(reply: &Reply, wanted: &Answer, unit: &Prefix) -> bool {
     match reply {
         Reply::Granted { prefix, valid } => {
@@ -107,7 +107,7 @@ fn is_reply(reply: &Reply, wanted: &Answer, unit: &Prefix) -> bool {
     }
 }
 
-/// Whether a refusal is the one that must be given.
+/// Returns whether a refusal is the one that must be given.
 fn is_refusal(error: &WorldError, wanted: &Answer) -> bool {
     match wanted {
         Answer::Refused(other) => error == other,
@@ -116,7 +116,7 @@ fn is_refusal(error: &WorldError, wanted: &Answer) -> bool {
     }
 }
 
-/// Whether an event is answered as it must be.
+/// Returns whether an event is answered as it must be.
 fn is_answered(world: &mut World, event: &Event, wanted: &Answer, unit: &Prefix) -> bool {
     match world.step(event) {
         Ok(reply) => is_reply(&reply, wanted, unit),
@@ -124,7 +124,7 @@ fn is_answered(world: &mut World, event: &Event, wanted: &Answer, unit: &Prefix)
     }
 }
 
-/// Whether a row's event is answered as it must be, by this clock.
+/// Returns whether a row's event is answered as it must be, by this clock.
 fn is_right(world: &mut World, clock: Reading, unit: Prefix, row: &Row) -> Result<bool, Fail> {
     let (_, _, wanted) = row;
     match event_of(row, clock, unit) {

@@ -127,7 +127,7 @@ fn broken_off(clock: Reading) -> [Event; 4] {
     ]
 }
 
-/// Whether the last that the secondary wrote is a message that it took.
+/// Returns whether the last that the secondary wrote is a message that it took.
 fn has_taken(world: &World) -> bool {
     let (_, secondary) = world.books();
     match secondary.journal().last() {

@@ -37,7 +37,7 @@ const GIVEN_BACK: [Row; 6] = [
     (B, Act::Deliver(1), Answer::Drop),
 ];
 
-/// Whether the unit is the primary's to give, in the secondary's book.
+/// Returns whether the unit is the primary's to give, in the secondary's book.
 fn is_free(world: &World, unit: Prefix) -> bool {
     let (_, secondary) = world.books();
     match secondary.unit(unit) {
@@ -91,7 +91,7 @@ fn event_at(place: usize, unit: Prefix) -> Result<Event, Fail> {
     }
 }
 
-/// Whether an event is done, or refused as one is that a stop makes too late; and no two clients have the unit.
+/// Returns whether an event is done, or refused as one is that a stop makes too late; and no two clients have the unit.
 fn goes_on(world: &mut World, alloc: Global, unit: &Prefix, event: &Event) -> Result<bool, Fail> {
     match world.step(event) {
         Ok(_) => {}
@@ -111,7 +111,7 @@ struct Stop {
     to: usize,
 }
 
-/// Whether all goes on by the story's event at a place.
+/// Returns whether all goes on by the story's event at a place.
 fn tells(world: &mut World, alloc: Global, unit: Prefix, place: usize) -> Result<bool, Fail> {
     match event_at(place, unit) {
         Ok(event) => goes_on(world, alloc, &unit, &event),
@@ -119,20 +119,20 @@ fn tells(world: &mut World, alloc: Global, unit: Prefix, place: usize) -> Result
     }
 }
 
-/// Whether all goes on as a server stops.
+/// Returns whether all goes on as a server stops.
 fn ends(world: &mut World, alloc: Global, unit: Prefix, side: Role) -> Result<bool, Fail> {
     let event = Event::Stop(side);
     goes_on(world, alloc, &unit, &event)
 }
 
-/// Whether all goes on as a server begins again.
+/// Returns whether all goes on as a server begins again.
 fn begins(world: &mut World, alloc: Global, unit: Prefix, side: Role) -> Result<bool, Fail> {
     let clock = at(10_000)?;
     let event = Event::Restart { side, clock };
     goes_on(world, alloc, &unit, &event)
 }
 
-/// Whether the whole story goes on with this stop put in.
+/// Returns whether the whole story goes on with this stop put in.
 fn survives(alloc: Global, unit: Prefix, stop: Stop) -> Result<bool, Fail> {
     let mut world = opened(alloc, PRIMARY, SECONDARY)?;
     for place in 0..EVENTS {

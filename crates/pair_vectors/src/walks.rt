@@ -72,7 +72,7 @@ fn note(chance: &mut Chance, event: &Event, reply: &Reply) {
     }
 }
 
-/// Whether no unit of the pool is held by two clients.
+/// Returns whether no unit of the pool is held by two clients.
 fn is_all_safe(world: &World, alloc: Global, chance: &Chance) -> Result<bool, Fail> {
     for index in 0..4u8 {
         let Some(unit) = unit(&chance.pool, 56, u128::from(index)) else {
@@ -85,7 +85,7 @@ fn is_all_safe(world: &World, alloc: Global, chance: &Chance) -> Result<bool, Fa
     Ok(true)
 }
 
-/// What a world makes of an event: asked again where a growth was refused, which leaves the world as it was.
+/// Returns what a world makes of an event: asked again where a growth was refused, which leaves the world as it was.
 fn answer(world: &mut World, event: &Event) -> Result<Reply, WorldError> {
     match world.step(event) {
         Err(WorldError::Memory) => world.step(event),
@@ -137,7 +137,7 @@ fn closed(alloc: Global, book: &Book, role: Role, now: Reading) -> Result<Journa
     })
 }
 
-/// Whether both journals keep the rules, and could both be true.
+/// Returns whether both journals keep the rules, and could both be true.
 fn is_legal(world: &World, alloc: Global, moment: u64) -> Result<bool, Fail> {
     let now = Reading::new(moment)?;
     let (primary, secondary) = world.books();

@@ -63,7 +63,7 @@ pub fn opened(alloc: Global, first: &[u8], second: &[u8]) -> Result<World, Fail>
     Ok(World::new(alloc, at(10_000)?, &first, &second)?)
 }
 
-/// What a client asks under its identity association 1.
+/// Returns what a client asks under its identity association 1.
 pub fn asked(text: &[u8]) -> Result<Asked, Fail> {
     Ok(Asked {
         client: client(text)?,
@@ -81,13 +81,13 @@ pub fn asked_of(text: &[u8], prefix: Prefix) -> Result<Asked, Fail> {
     })
 }
 
-/// Whether one client alone has an address of the prefix.
+/// Returns whether one client alone has an address of the prefix.
 fn is_alone(world: &World, alloc: Global, prefix: &Prefix, text: &[u8]) -> Result<bool, Fail> {
     let holders = world.holders(alloc, prefix)?;
     Ok(holders.len() == 1 && holders.first() == Some(&client(text)?))
 }
 
-/// Whether at most one client has an address of the prefix: asked again where a growth was refused.
+/// Returns whether at most one client has an address of the prefix: asked again where a growth was refused.
 pub fn is_safe(world: &World, alloc: Global, prefix: &Prefix) -> Result<bool, Fail> {
     match world.holders(alloc, prefix) {
         Ok(holders) => Ok(holders.len() <= 1),

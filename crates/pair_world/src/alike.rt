@@ -13,8 +13,8 @@ fn is_same(one: &[Pool], other: &[Pool]) -> bool
     one == other
 }
 
-/// Whether the first are a primary's settings, the second a secondary's, and skew, lead time, lifetime, transit and
-/// pools agree.
+/// Returns whether the first are a primary's settings, the second a secondary's, and skew, lead time, lifetime, transit
+/// and pools agree.
 pub fn are_alike(first: &Settings, second: &Settings) -> bool
     ensures { IsTrue result ↔ AreAlike first.now second.now }
 {

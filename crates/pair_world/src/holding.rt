@@ -18,7 +18,7 @@ use prefix_range::Prefix;
 use std::alloc::Global;
 use std::collections::BTreeSet;
 
-/// Whether a lease that was granted at a moment may be valid now.
+/// Returns whether a lease that was granted at a moment may be valid now.
 fn may_last(moment: Reading, transit: Transit, valid: u32, now: Reading) -> bool
     ensures { IsTrue result ↔ MayLast moment transit valid now }
 {
@@ -29,7 +29,7 @@ fn may_last(moment: Reading, transit: Transit, valid: u32, now: Reading) -> bool
     granted <= now && (valid == Lease::INFINITE || now < start + 1000 * u64::from(valid))
 }
 
-/// Whether the step gives a lease back by now.
+/// Returns whether the step gives a lease back by now.
 fn gives_back(step: &Step, lease: &Lease, now: Reading) -> bool
     ensures { IsTrue result ↔ GivesBackBy step.now lease.now now }
 {
@@ -48,7 +48,7 @@ fn gives_back(step: &Step, lease: &Lease, now: Reading) -> bool
     }
 }
 
-/// Whether a step behind this one gives the lease back by now.
+/// Returns whether a step behind this one gives the lease back by now.
 fn is_released(run: &[Step], index: usize, lease: &Lease, now: Reading) -> bool
     requires { index < length run.now }
     ensures { IsTrue result ↔ IsReleasedBy run.now index lease.now now }
@@ -86,7 +86,7 @@ fn clients_of(alloc: Global, found: &BTreeSet<Client>) -> Result<Vec<Duid>, Worl
 }
 
 impl World {
-    /// Whether a lease that a step granted is of an address of the prefix, and may be valid now.
+    /// Returns whether a lease that a step granted is of an address of the prefix, and may be valid now.
     fn may_hold(&self, index: usize, moment: Reading, lease: &Lease, prefix: &Prefix) -> bool
         requires { index < length self.now.run }
         ensures { IsTrue result ↔ MayHold self.now prefix.now index moment lease.now }

@@ -44,7 +44,7 @@ pub(crate) fn message_at(lines: &[Line], number: u64) -> Option<PartnerMessage>
     None
 }
 
-/// Whether the lines sent the message.
+/// Returns whether the lines sent the message.
 pub(crate) fn was_sent(lines: &[Line], message: &PartnerMessage) -> bool
     ensures { IsTrue result ↔ WasSent lines.now message.now }
 {

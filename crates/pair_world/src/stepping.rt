@@ -54,7 +54,7 @@ fn write(
     }
 }
 
-/// Whether an order takes only what the partner sent.
+/// Returns whether an order takes only what the partner sent.
 fn is_fed(lines: &[Line], order: &Order) -> bool
     ensures { IsTrue result ↔ IsFedBy lines.now order.now }
 {
@@ -64,7 +64,7 @@ fn is_fed(lines: &[Line], order: &Order) -> bool
     }
 }
 
-/// Whether the order may be given, where the partner is stopped or not: only a stopped one is taken for down.
+/// Returns whether the order may be given, where the partner is stopped or not: only a stopped one is taken for down.
 fn may_be_ordered(stopped: bool, order: &Order) -> bool
     ensures { IsTrue result ↔ IsDownAllowed stopped order.now }
 {

@@ -123,7 +123,7 @@ impl World {
         }
     }
 
-    /// Whether a server is stopped.
+    /// Returns whether a server is stopped.
     pub(crate) fn is_stopped(&self, side: Role) -> bool
         ensures { result ≡ is_stopped side self.now }
     {
@@ -133,7 +133,7 @@ impl World {
         }
     }
 
-    /// Whether a clock is within the pair's skew of the moment.
+    /// Returns whether a clock is within the pair's skew of the moment.
     pub(crate) fn is_near(&self, clock: Reading) -> bool
         ensures { IsTrue result ↔ IsNear self.now clock }
     {

@@ -23,7 +23,7 @@ impl Holding {
         }
     }
 
-    /// Whether the worker that was held went on since the other audit was over.
+    /// Returns whether the worker that was held went on since the other audit was over.
     pub fn saw_it(&self) -> bool {
         self.saw_it.load(Ordering::SeqCst)
     }

@@ -64,7 +64,7 @@ fn is_followed_by(line: &Dated, next: &Dated) -> bool
         && line.reading.milliseconds() <= next.reading.milliseconds()
 }
 
-/// Whether the lines stand in the order of their journal, and their readings rise with them.
+/// Returns whether the lines stand in the order of their journal, and their readings rise with them.
 fn are_rising(lines: &[Dated]) -> bool
     ensures { IsTrue result → AreRising lines.now }
 {

@@ -20,7 +20,7 @@ use journal_lines::Lease;
 use lead_time::Reading;
 use std::alloc::Global;
 
-/// Whether what was told of at this reading has ended by the query's beginning.
+/// Returns whether what was told of at this reading has ended by the query's beginning.
 pub fn has_ended(query: &Query, lasting: Lasting, told: Reading) -> bool
     ensures { IsTrue result ↔ EndsBy query.now.skew query.now.transit told query.now.from lasting }
 {
@@ -35,7 +35,7 @@ pub fn has_ended(query: &Query, lasting: Lasting, told: Reading) -> bool
     }
 }
 
-/// Whether what is told of at this reading begins past the query.
+/// Returns whether what is told of at this reading begins past the query.
 pub fn begins_late(query: &Query, lasting: Lasting, told: Reading) -> bool
     ensures { IsTrue result ↔ (IsNew lasting × (query.now.to + query.now.skew ≤ told)) }
 {
@@ -85,7 +85,7 @@ fn reason_of<S: LineSource>(
     })
 }
 
-/// Whether the delegation is another client's, of a prefix that overlaps the one asked of.
+/// Returns whether the delegation is another client's, of a prefix that overlaps the one asked of.
 fn is_anothers(delegation: &Delegation, query: &Query) -> bool
     ensures { IsTrue result ↔ IsAnothers delegation.now query.now }
 {

@@ -11,21 +11,21 @@ use causal_order::{Chain, Lines, Precedes, Ref};
 use lead_time::{Reading, Skew};
 use std::alloc::{AllocError, Global};
 
-/// Whether the one reference stands later in the same journal.
+/// Returns whether the one reference stands later in the same journal.
 fn is_later(earlier: Ref, later: Ref) -> bool
     ensures { result ≡ is_later earlier later }
 {
     earlier.side == later.side && earlier.number < later.number
 }
 
-/// Whether the readings lie further apart than both skews.
+/// Returns whether the readings lie further apart than both skews.
 pub fn are_apart(earlier: Reading, later: Reading, skew: Skew) -> bool
     ensures { IsTrue result ↔ (earlier + skew + skew < later) }
 {
     earlier.milliseconds() + 2 * skew.milliseconds() < later.milliseconds()
 }
 
-/// Whether two lines and their readings show that the first was written before the second.
+/// Returns whether two lines and their readings show that the first was written before the second.
 pub fn shows_before(first: &Dated, second: &Dated, skew: Skew) -> bool
     ensures { result ≡ shows_before skew first.now second.now }
 {
@@ -33,7 +33,8 @@ pub fn shows_before(first: &Dated, second: &Dated, skew: Skew) -> bool
         || first.reading.milliseconds() + 2 * skew.milliseconds() < second.reading.milliseconds()
 }
 
-/// Whether the two lines alone show that the first was written before the second: by their journal, or by their clocks.
+/// Returns whether the two lines alone show that the first was written before the second: by their journal, or by their
+/// clocks.
 #[tactic(auto, using(crate::proofs::Orders::before_by_tests, crate::proofs::Orders::not_read_first, crate::proofs::Orders::not_read_second))]
 pub fn is_plainly_before<L: Lines>(lines: &L, first: Ref, second: Ref, skew: Skew) -> bool
     ensures { IsTrue result ↔ IsPlainlyBefore (L.journals lines.now) skew first second }

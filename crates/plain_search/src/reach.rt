@@ -34,7 +34,7 @@ pub struct Reach {
     pub end: Reading,
 }
 
-/// Whether clocks show that the line was written after the earlier volumes of its server's partner.
+/// Returns whether clocks show that the line was written after the earlier volumes of its server's partner.
 fn is_past_partners<S: LineSource>(source: &S, at: Ref, reading: Reading, skew: Skew) -> bool
     ensures { IsTrue result ↔ IsPastPartners (S.journals source.now) skew at reading }
 {
@@ -52,7 +52,7 @@ fn is_past_partners<S: LineSource>(source: &S, at: Ref, reading: Reading, skew: 
     }
 }
 
-/// Whether the lease is the holder's, of a prefix round the one asked of.
+/// Returns whether the lease is the holder's, of a prefix round the one asked of.
 pub fn is_holders(lease: &Lease, query: &Query) -> bool
     ensures { IsTrue result ↔ IsHolders lease.now query.now }
 {

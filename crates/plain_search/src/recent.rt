@@ -17,7 +17,7 @@ pub struct Recent {
 /// How many delegations are kept. The most that a client has at a time is one for each identity association.
 const MOST_KEPT: usize = 256;
 
-/// Whether the same lines give both back.
+/// Returns whether the same lines give both back.
 fn are_given_back_alike(one: &Delegation, other: &Delegation) -> bool
     ensures { IsTrue result → AreGivenBackAlike one.now other.now }
 {

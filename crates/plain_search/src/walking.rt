@@ -45,7 +45,7 @@ pub fn kept_limit<S: LineSource>(source: &S, candidate: &Candidate, skew: Skew, 
     kept
 }
 
-/// Whether the release was plainly written after the line, and by the query's beginning.
+/// Returns whether the release was plainly written after the line, and by the query's beginning.
 fn is_returned_by<L: Lines>(lines: &L, query: &Query, at: Ref, release: Ref) -> bool
     ensures { IsTrue result ↔ IsReturnedBy (L.journals lines.now) query.now at release }
 {
@@ -83,7 +83,7 @@ pub fn returning<S: LineSource>(
 /// How many releases are few.
 const FEW: usize = 16;
 
-/// Whether the walk has no more than a few releases to give.
+/// Returns whether the walk has no more than a few releases to give.
 pub fn are_few<S: LineSource>(source: &S, delegation: &Delegation, walk: Walk) -> bool {
     let mut walk = walk;
     for _index in 0..FEW {

@@ -9,7 +9,7 @@ use binding_rules::Status;
 use prefix_range::Prefix;
 use std::alloc::{AllocError, Global};
 
-/// How many of the units that are free at either server the secondary should have: half, rounded down.
+/// Returns how many of the units that are free at either server the secondary should have: half, rounded down.
 pub fn target(free: usize, backup: usize) -> usize
     ensures { result ≡ half_of free backup }
 {

@@ -6,7 +6,7 @@ ghost use Rattle.prefix_range.specs.Unit.{IsUnit};
 
 use crate::prefix::Prefix;
 
-/// How many addresses lie before a place among prefixes of one length, if they are fewer than 2^128.
+/// Returns how many addresses lie before a place among prefixes of one length, if they are fewer than 2^128.
 fn addresses_before(length: u8, index: u128) -> Option<u128>
     requires { length ≤ 128 }
     ensures { SomeIff result (index * size_of length < 2 ^ 128) (index * size_of length) }

@@ -94,7 +94,7 @@ impl Prefix {
         self.length
     }
 
-    /// Whether each address of `other` is one of this prefix.
+    /// Returns whether each address of `other` is one of this prefix.
     #[tactic(auto, using(crate::proofs::Ends::contains_by_ends))]
     pub fn contains(&self, other: &Prefix) -> bool
         ensures { IsTrue result ↔ Contains self.now other.now }
@@ -102,7 +102,7 @@ impl Prefix {
         self.address <= other.address && other.last() <= self.last()
     }
 
-    /// Whether some address is in both.
+    /// Returns whether some address is in both.
     #[tactic(auto, using(crate::proofs::Ends::overlaps_by_ends))]
     pub fn overlaps(&self, other: &Prefix) -> bool
         ensures { IsTrue result ↔ Overlaps self.now other.now }

@@ -46,7 +46,7 @@ impl<'a> Arguments<'a> {
         (call, arguments)
     }
 
-    /// Whether each spelled its value, and none is left.
+    /// Returns whether each spelled its value, and none is left.
     pub fn are_taken(&self) -> bool {
         self.are_spelled && (self.is_text || self.words.is_done())
     }
@@ -72,7 +72,7 @@ impl<'a> Arguments<'a> {
         word.unwrap_or(b"")
     }
 
-    /// Whether the next word is the first of these; else it is the second.
+    /// Returns whether the next word is the first of these; else it is the second.
     pub fn is(&mut self, one: &[u8], other: &[u8]) -> bool {
         let word = self.word();
         let is_one = word == one;

@@ -42,7 +42,7 @@ fn state_name(state: ServerState) -> &'static [u8] {
     }
 }
 
-/// What a frame says, behind its kind's name.
+/// Returns what a frame says, behind its kind's name.
 fn add_body(out: &mut Vec<u8>, kind: &FrameKind) -> Result<(), AllocError> {
     match kind {
         FrameKind::BindingUpdate(update) => add_update(out, update),

@@ -87,7 +87,7 @@ fn answered(alloc: Global, line: &[u8]) -> Result<Vec<u8>, AllocError> {
     Ok(out)
 }
 
-/// What stands in a line's place.
+/// Returns what stands in a line's place.
 fn written(alloc: Global, line: &[u8]) -> Result<Vec<u8>, AllocError> {
     match line {
         [] | [b'#', ..] => line.to_vec(alloc),

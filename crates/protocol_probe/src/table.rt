@@ -133,7 +133,7 @@ fn answering(
     }
 }
 
-/// What an accepted update made of the unit, by one letter; `?` for anything else.
+/// Returns what an accepted update made of the unit, by one letter; `?` for anything else.
 fn accepted(before: &Unit, after: &Unit, prefix: Prefix, binding: &Binding) -> u8 {
     let active = Unit {
         status: UnitStatus::Active(*binding),
@@ -162,7 +162,7 @@ fn accepted(before: &Unit, after: &Unit, prefix: Prefix, binding: &Binding) -> u
     b'?'
 }
 
-/// What the server makes of an update, by one letter.
+/// Returns what the server makes of an update, by one letter.
 fn letter(setting: &Setting, before: &Unit, update: &Update, binding: &Binding) -> u8 {
     if before.mine.number() >= Counter::MAX {
         return b'?';
@@ -176,7 +176,7 @@ fn letter(setting: &Setting, before: &Unit, update: &Update, binding: &Binding) 
     }
 }
 
-/// What a unit may be, each a row, with this client or another.
+/// Returns what a unit may be, each a row, with this client or another.
 fn statuses(binding: &Binding, other: &Binding) -> [UnitStatus; 8] {
     [
         UnitStatus::Active(*binding),

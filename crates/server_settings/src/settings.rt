@@ -57,7 +57,7 @@ impl Model for Settings {
     }) };
 }
 
-/// Whether each unit is no longer than its pool and no shorter than an address.
+/// Returns whether each unit is no longer than its pool and no shorter than an address.
 fn are_pools(pools: &[Pool]) -> bool
     ensures { IsTrue result ↔ All IsPool pools.now }
 {
@@ -69,7 +69,7 @@ fn are_pools(pools: &[Pool]) -> bool
     true
 }
 
-/// Whether the pools have at most 65,536 units in all.
+/// Returns whether the pools have at most 65,536 units in all.
 fn have_few_units(pools: &[Pool]) -> bool
     requires { All IsPool pools.now }
     ensures { IsTrue result ↔ (sum_by units_in pools.now ≤ 65536) }
@@ -87,7 +87,7 @@ fn have_few_units(pools: &[Pool]) -> bool
     true
 }
 
-/// Whether no two pools have an address in common.
+/// Returns whether no two pools have an address in common.
 fn are_disjoint(pools: &[Pool]) -> bool
     ensures { IsTrue result ↔ AreDisjoint pools.now }
 {
@@ -99,14 +99,14 @@ fn are_disjoint(pools: &[Pool]) -> bool
     true
 }
 
-/// Whether a number of seconds is from one to a year.
+/// Returns whether a number of seconds is from one to a year.
 fn is_span(seconds: u32) -> bool
     ensures { IsTrue result ↔ ((1 ≤ seconds) × (seconds ≤ 31536000)) }
 {
     1 <= seconds && seconds <= YEAR
 }
 
-/// Whether there are from one to sixteen pools, each with units, of which there are few enough.
+/// Returns whether there are from one to sixteen pools, each with units, of which there are few enough.
 fn are_whole(pools: &[Pool]) -> bool
     ensures { IsTrue result ↔ ((1 ≤ length pools.now) × (length pools.now ≤ 16) × All IsPool pools.now
         × (sum_by units_in pools.now ≤ 65536)) }

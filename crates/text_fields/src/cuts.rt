@@ -120,7 +120,7 @@ impl<'a> Cuts<'a> {
         }
     }
 
-    /// Whether no cut is left.
+    /// Returns whether no cut is left.
     pub fn is_done(&self) -> bool
         ensures { IsTrue result ↔ (self.now ≡ []) }
     {

@@ -46,7 +46,7 @@ fn are_digits(word: &[u8]) -> bool
     word.iter().all(|b| digit_value(*b) < 16)
 }
 
-/// Whether a word spells octets: lower-case digits, an even number of them.
+/// Returns whether a word spells octets: lower-case digits, an even number of them.
 #[tactic(auto, using(crate::proofs::DigitTests::spells_octets))]
 pub fn is_hex(word: &[u8]) -> bool
     ensures value { result ≡ is_some (octets_of word.now) }

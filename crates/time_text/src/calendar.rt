@@ -101,7 +101,7 @@ impl Date {
         Date { year, month, day }
     }
 
-    /// Whether the calendar has the day.
+    /// Returns whether the calendar has the day.
     pub fn is_real(&self) -> bool
         ensures { IsTrue result ↔ IsDate self.now }
     {

@@ -21,7 +21,7 @@ pub struct Offset {
 }
 
 impl Clock {
-    /// Whether a clock shows it on a day of 24 hours.
+    /// Returns whether a clock shows it on a day of 24 hours.
     pub fn is_real(&self) -> bool
         ensures { IsTrue result ↔ IsClock self.now }
     {
@@ -40,7 +40,7 @@ impl Clock {
 }
 
 impl Offset {
-    /// Whether its hours and minutes are those of a clock.
+    /// Returns whether its hours and minutes are those of a clock.
     pub fn is_real(&self) -> bool
         ensures { IsTrue result ↔ IsOffset self.now }
     {

@@ -3,7 +3,7 @@
 ghost use Rattle.std.specs.Prelude.{◌≡◌, ◌↔◌, IsTrue};
 ghost use Rattle.time_text.specs.Time.{is_alike, IsLike, IsOneOf, IsTimeForm};
 
-/// Whether the octet may stand for one of a form, whose 0 is any digit. Letters are of either case.
+/// Returns whether the octet may stand for one of a form, whose 0 is any digit. Letters are of either case.
 fn is_alike(form: u8, octet: u8) -> bool
     ensures { result ≡ is_alike form octet }
 {
@@ -14,7 +14,7 @@ fn is_alike(form: u8, octet: u8) -> bool
     }
 }
 
-/// Whether the text is of the form, octet by octet.
+/// Returns whether the text is of the form, octet by octet.
 fn is_like(form: &[u8], text: &[u8]) -> bool
     ensures { IsTrue result ↔ IsLike form.now text.now }
 {
@@ -29,14 +29,14 @@ fn is_like(form: &[u8], text: &[u8]) -> bool
     true
 }
 
-/// Whether the text is of one of these forms.
+/// Returns whether the text is of one of these forms.
 fn is_one_of(utc: &[u8], ahead: &[u8], behind: &[u8], text: &[u8]) -> bool
     ensures { IsTrue result ↔ IsOneOf utc.now ahead.now behind.now text.now }
 {
     is_like(utc, text) || is_like(ahead, text) || is_like(behind, text)
 }
 
-/// Whether the text is a time with an offset and up to three decimals.
+/// Returns whether the text is a time with an offset and up to three decimals.
 pub fn is_time_form(text: &[u8]) -> bool
     ensures { IsTrue result ↔ IsTimeForm text.now }
 {

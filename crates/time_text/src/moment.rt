@@ -32,7 +32,7 @@ pub fn moment_of(date: &Date, clock: &Clock, offset: &Offset) -> Option<Reading>
 /// The last moment of the year 9999, in milliseconds since 1970 UTC.
 pub const LAST: u64 = 253_402_300_799_999;
 
-/// What the calendar shows in UTC.
+/// Returns what the calendar shows in UTC.
 #[tactic(auto, using(crate::proofs::Years::first_day_is))]
 pub fn date_at(moment: u64) -> Date
     requires { moment ≤ 253402300799999 }
@@ -43,7 +43,7 @@ pub fn date_at(moment: u64) -> Date
     Date::with_number(FIRST_DAY + moment / DAY)
 }
 
-/// What a clock shows in UTC.
+/// Returns what a clock shows in UTC.
 pub fn clock_at(moment: u64) -> Clock
     ensures clock { IsClock result }
     ensures three_decimals { result.millisecond ≤ 999 }

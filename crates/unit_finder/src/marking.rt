@@ -89,7 +89,7 @@ impl Mark {
         }
     }
 
-    /// Whether one of the units may be what is wanted.
+    /// Returns whether one of the units may be what is wanted.
     pub(crate) fn may_be(&self, wanted: &Wanted) -> bool
         ensures { result ≡ may_be wanted.now self.now }
     {

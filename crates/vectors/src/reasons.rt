@@ -40,7 +40,7 @@ const SECOND_VOLUME: &str = "pd-journal 2 A 2
 end 7
 ";
 
-/// What the unit's holder claims from one moment up to another, with this foreign line alone.
+/// Returns what the unit's holder claims from one moment up to another, with this foreign line alone.
 fn claim(alloc: Global, foreign: &str, from: u64, to: u64) -> Result<String, AllocError> {
     format!(in alloc;
         "pd-certificate 1

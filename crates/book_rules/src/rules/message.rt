@@ -78,7 +78,7 @@ pub fn seized_update(prefix: &Prefix, unit: &Unit) -> Update
     }
 }
 
-/// Whether an update tells of the unit's due change, or that it was seized.
+/// Returns whether an update tells of the unit's due change, or that it was seized.
 fn is_told(unit: &Unit, update: &Update) -> bool
     ensures { IsTrue result ↔ IsTold unit.now update.now }
 {
@@ -140,14 +140,14 @@ impl Table {
         }
     }
 
-    /// Whether the partner isn't taken for down and has acknowledged each unit that was seized from it.
+    /// Returns whether the partner isn't taken for down and has acknowledged each unit that was seized from it.
     pub fn is_calm(&self) -> bool
         ensures { IsTrue result ↔ IsCalm (state self.now) }
     {
         self.standing.down.is_none() && self.units.is_unmarked()
     }
 
-    /// Whether a number is the answer to what the partner asked.
+    /// Returns whether a number is the answer to what the partner asked.
     fn is_contact_answer(&self, answer: Counter) -> bool
         ensures { IsTrue result ↔ IsContactAnswer (state self.now) answer }
     {

@@ -152,7 +152,7 @@ impl Table {
         }
     }
 
-    /// Whether a unit of a partner that is down may be seized at a reading.
+    /// Returns whether a unit of a partner that is down may be seized at a reading.
     pub fn is_seizable(&self, now: Reading, unit: &Unit) -> bool
         ensures { IsTrue result ↔ IsSeizable (state self.now) now unit.now (state self.now).down }
     {
@@ -187,14 +187,14 @@ impl Table {
     }
 }
 
-/// Whether the unit is the primary's to give.
+/// Returns whether the unit is the primary's to give.
 fn is_free(unit: &Unit) -> bool
     ensures { IsTrue result ↔ (unit.now.status ≡ UnitStatus.Free) }
 {
     matches!(&unit.status, UnitStatus::Free)
 }
 
-/// Whether the unit is the secondary's to give.
+/// Returns whether the unit is the secondary's to give.
 fn is_free_backup(unit: &Unit) -> bool
     ensures { IsTrue result ↔ (unit.now.status ≡ UnitStatus.FreeBackup) }
 {

@@ -54,7 +54,7 @@ impl Table {
         self.standing.transit
     }
 
-    /// How many lines led here.
+    /// Returns how many lines led here.
     pub fn count(&self) -> u32
         ensures count { result ≡ (state self.now).count }
         ensures few { result ≤ 2 ^ 20 }
@@ -69,7 +69,7 @@ impl Table {
         self.standing.reading
     }
 
-    /// Whether the last line was a close line.
+    /// Returns whether the last line was a close line.
     pub fn is_closed(&self) -> bool
         ensures { result ≡ (state self.now).closed }
     {
@@ -99,7 +99,7 @@ impl Table {
         self.standing.restart
     }
 
-    /// Whether the server waits for its partner's answer to the last restart.
+    /// Returns whether the server waits for its partner's answer to the last restart.
     pub fn is_waiting(&self) -> bool
         ensures { result ≡ (state self.now).waiting }
     {

@@ -11,7 +11,7 @@ use crate::searching::Wanted;
 use lead_time::End;
 use std::alloc::{AllocError, Global};
 
-/// How many units have this many levels of marks above them.
+/// Returns how many units have this many levels of marks above them.
 fn places(levels: u8) -> usize
     requires { levels ≤ 16 }
     ensures { result ≡ 2 ^ levels }

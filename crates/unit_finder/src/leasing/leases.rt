@@ -78,7 +78,7 @@ fn held_before(table: &Table, event: &Event) -> Option<Leased>
     }
 }
 
-/// Whether a client has a unit, by a table.
+/// Returns whether a client has a unit, by a table.
 fn is_held(table: &Table, held: &Leased) -> bool
     ensures { IsTrue result ↔ IsHeld (state table.now) held.now }
 {

@@ -16,7 +16,7 @@ use book_rules::{Pool, Table};
 use prefix_range::Prefix;
 use std::alloc::{AllocError, Global};
 
-/// How many addresses a prefix of this length has, where these aren't all addresses.
+/// Returns how many addresses a prefix of this length has, where these aren't all addresses.
 pub(crate) fn addresses(length: u8) -> u128
     requires some { 1 ≤ length }
     requires short { length ≤ 128 }
@@ -40,7 +40,7 @@ fn index_of(pool: &Pool, unit: &Prefix) -> usize
     (unit.first() / size - pool.prefix.first() / size) as usize
 }
 
-/// Whether a prefix is one of the pool's units.
+/// Returns whether a prefix is one of the pool's units.
 fn has(pool: &Pool, prefix: &Prefix) -> bool
     requires { IsPool pool.now }
     ensures { result ≡ is_in pool.now prefix.now }
