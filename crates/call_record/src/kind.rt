@@ -1,0 +1,11 @@
+//! The kinds of calls.
+
+/// The kind of a call, as [`crate::Record`] notes it.
+#[derive(Clone, Copy)]
+pub(crate) enum Kind {
+    Opened,
+    Appended,
+    Cut,
+    Flushed,
+    Failed,
+}

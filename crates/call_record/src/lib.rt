@@ -1,0 +1,18 @@
+//! The record of a device's calls: a list that clauses read and no memory holds.
+//!
+//! A device keeps a [`Record`] beside its file and notes each call with what came of it. What it notes is what its
+//! contract says of it, so **each method that notes a call has to be read**: a body that notes a sync and makes none
+//! proves as well. The two proofs by hand of this crate (the private `Record::new` and `Record::note`) set the list;
+//! no other proof by hand may be written over a `Record`. It may go to another thread (`Send`, proved), and so may a
+//! device that keeps one.
+//!
+//! ```text
+//! let outcome = self.file.sync_data();   // the call
+//! self.noted.note_sync(outcome)          // its note: flushed, or failed
+//! ```
+#![tactic(auto)]
+
+mod kind;
+mod record;
+
+pub use record::Record;

@@ -1,0 +1,30 @@
+//! Why a directory wasn't opened.
+
+use std::fs::TryLockError;
+use std::io;
+use thiserror::Error;
+
+#[derive(Debug, Drop, Error)]
+pub enum FolderError {
+    /// Another process has the lock on the directory.
+    #[error("another process writes to this directory")]
+    Locked,
+    /// The system refused a call.
+    #[error("the directory can't be opened: {0}")]
+    System(io::Error),
+}
+
+impl From<io::Error> for FolderError {
+    fn from(error: io::Error) -> FolderError {
+        FolderError::System(error)
+    }
+}
+
+impl From<TryLockError> for FolderError {
+    fn from(error: TryLockError) -> FolderError {
+        match error {
+            TryLockError::WouldBlock => FolderError::Locked,
+            TryLockError::Error(error) => FolderError::System(error),
+        }
+    }
+}

@@ -1,0 +1,19 @@
+use Rattle.std.proofs.Common.{rules, sym, subst, arith}
+use Rattle.test_files.specs.Mirror.{file_of}
+use Rattle.test_files.proofs.Drawn.{IsFront, no_front, more_front, is_left}
+use Rattle.test_files.proofs.drawing.draw_left.Goals as goal
+
+pub loop-draws-init : goal.loop-draws-init
+loop-draws-init c = subst (IsFront (file_of c.args.state.now)) (sym c.new-content.ensures.items) (no_front (file_of c.args.state.now))
+
+pub loop-draws-preserved : goal.loop-draws-preserved
+loop-draws-preserved c =
+    let f = file_of c.args.state.now in
+    let items = c.loop-draws.content.items in
+    let place = c.len-in-loop-draws.ensures in
+    let e = c.octet_of.ensures in
+    subst (IsFront f) (sym (c.in_ok-push.ensures {u = tt}).items)
+    (more_front f items c.octet_of.result c.loop-draws.invariant (search rules) (search rules))
+
+pub returns : goal.returns
+returns c = is_left (file_of c.args.state.now) c.loop-draws.content.items c.loop-draws.invariant (omega (arith, c.draw_length-length.ensures, c.len.ensures, c.loop-draws-test.false))

@@ -1,0 +1,97 @@
+//! The device.
+
+ghost use Rattle.std.specs.Prelude.{◌≡◌, [], ◌∷◌, IfOk};
+ghost use Rattle.torn_disk.specs.Disk.{opened, file_after, IsLeft};
+
+use crate::drawing::draw_left;
+use crate::state::FileState;
+use call_record::Record;
+use std::alloc::{AllocError, Global};
+use std::marker::Model;
+use torn_disk::{Device, DeviceError};
+
+/// A file in memory, and how many calls it answers before one fails. Clauses see the record of its calls.
+#[derive(Drop)]
+pub struct TestFile {
+    alloc: Global,
+    state: FileState,
+    /// No growth was refused so far.
+    is_known: bool,
+    calls_left: usize,
+    noted: Record,
+}
+
+impl Model for TestFile {
+    ghost use Rattle.std.specs.Prelude.{List};
+    ghost use Rattle.torn_disk.specs.Disk.{Call};
+
+    ghost Value = { List Call };
+
+    ghost use Rattle.std.specs.Prelude.{IsTrue};
+    ghost use Rattle.torn_disk.specs.Disk.{file_after};
+    ghost use Rattle.test_files.specs.Mirror.{Mirrors};
+
+    ghost view = { λ f. f.noted.calls };
+
+    ghost invariant = { λ f. IsTrue f.is_known → Mirrors f.state (file_after f.noted.calls) };
+}
+
+/// Counts a call, and fails it where no more are answered.
+fn answer(calls_left: &mut usize) -> Result<(), DeviceError> {
+    let left = calls_left.checked_sub(1).ok_or(DeviceError::Failed)?;
+    *calls_left = left;
+    Ok(())
+}
+
+impl TestFile {
+    /// Makes a file that was opened and held this content, all of it on the disk.
+    pub fn new(alloc: Global, content: &[u8], calls_left: usize) -> Result<TestFile, AllocError>
+        ensures { IfOk result (λ f. f ≡ opened content.now ∷ []) }
+    {
+        Ok(TestFile {
+            alloc,
+            state: FileState::new(alloc, content)?,
+            is_known: true,
+            calls_left,
+            noted: Record::opened(content),
+        })
+    }
+
+    /// Draws what a loss of power leaves, from a seed. Where a growth was refused earlier, that isn't known.
+    pub fn left(&self, seed: u64) -> Result<Vec<u8>, AllocError>
+        ensures { IfOk result (λ content. IsLeft (file_after self.now) content.items) }
+    {
+        if !self.is_known {
+            return Err(AllocError);
+        }
+        draw_left(self.alloc, &self.state, seed)
+    }
+}
+
+impl Device for TestFile {
+    ghost calls = { λ f. f };
+
+    fn append(&mut self, octets: &[u8]) -> Result<(), DeviceError> {
+        if self.state.append(octets).is_err() {
+            self.is_known = false;
+            return self.noted.note_append(octets, Err(DeviceError::Memory));
+        }
+        self.noted.note_append(octets, answer(&mut self.calls_left))
+    }
+
+    fn cut(&mut self, length: usize) -> Result<(), DeviceError> {
+        if self.state.cut(self.alloc, length).is_err() {
+            self.is_known = false;
+            return self.noted.note_cut(length, Err(DeviceError::Memory));
+        }
+        self.noted.note_cut(length, answer(&mut self.calls_left))
+    }
+
+    fn sync(&mut self) -> Result<(), DeviceError> {
+        let outcome = answer(&mut self.calls_left);
+        if outcome.is_ok() {
+            self.state.sync();
+        }
+        self.noted.note_sync(outcome)
+    }
+}
