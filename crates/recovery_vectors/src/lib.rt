@@ -1,0 +1,5 @@
+//! Contents of files, and what is recovered of each.
+#![tactic(auto)]
+
+#[cfg(test)]
+mod contents;
