@@ -5,6 +5,7 @@
 
 ghost use Rattle.std.specs.Prelude.{◌<◌, ◌^◌, length, IsErrOf};
 
+mod advising;
 mod connection;
 mod fault;
 mod linking;
@@ -12,6 +13,7 @@ mod meeting;
 mod running;
 mod words;
 
+use advising::advise;
 use fault::Fault;
 use node_threads::NodeSettings;
 use running::{Run, run_node};
@@ -75,7 +77,7 @@ impl Outcome {
     }
 }
 
-/// Returns what a command comes to.
+/// Returns what a command comes to; what its settings lack, or what is odd in them, is said in notes.
 fn answer<R: Threads + Wait + Sync + Net + Clock, P: Print + Sync>(
     rt: &R,
     alloc: Global,
@@ -87,7 +89,9 @@ where
     R::Stream: Send + Drop,
     R::Listener: Send + Drop,
 {
-    match (command, settings_in(alloc, text)) {
+    let settings = settings_in(alloc, text);
+    advise(notes, alloc, text, &settings);
+    match (command, settings) {
         (_, Err(OpenError::Memory)) => Err(Fault::Memory),
         (_, Err(refusal)) => {
             let line = format!(in alloc; "{refusal}\n")?;

@@ -1,0 +1,110 @@
+//! What a person is told of settings, on standard error: why they are refused, and what in them is odd.
+
+ghost use Rattle.std.specs.Prelude.{◌≤◌, length};
+
+use crate::MOST_OCTETS;
+use node_threads::NodeSettings;
+use server_book::OpenError;
+use settings_advice::{
+    KEYS, Key, POOL_KEYS, Place, lead_doubt, line_ends, link_doubt, pool_doubt, reasons_of,
+    stranger,
+};
+use std::alloc::{AllocError, Global};
+use toml::Table;
+use toml::de::Error as TomlError;
+
+/// Says in which line a text is no TOML document, and why.
+fn tell_syntax<P: Print>(notes: &P, text: &[u8], error: &TomlError) {
+    let Some(place) = error.span() else {
+        return;
+    };
+    let before = text.get(..place.start).unwrap_or(text);
+    let line = line_ends(before).saturating_add(1);
+    let why = error.message();
+    let _ = println!(notes; "node: settings: line {line}: {why}");
+}
+
+/// Says why settings are refused: each key that isn't as wanted, or what the pools lack together.
+fn tell_reasons<P: Print>(notes: &P, alloc: Global, table: &Table) -> Result<(), AllocError> {
+    let reasons = reasons_of(alloc, table)?;
+    for complaint in &reasons.keys {
+        let _ = println!(notes; "node: settings: {complaint}");
+    }
+    if let Some(clash) = &reasons.pools {
+        let _ = println!(notes; "node: settings: {clash}");
+    }
+    Ok(())
+}
+
+/// Warns of settings that are read, and are odd.
+fn warn_of_doubts<P: Print>(notes: &P, settings: &NodeSettings) {
+    for (before, pool) in settings.server.pools().iter().enumerate() {
+        if let Some(doubt) = pool_doubt(&pool.prefix) {
+            let place = Place::Pool(before);
+            let _ = println!(notes; "node: warning: {place}{doubt}");
+        }
+    }
+    let (listen, link) = (settings.ways.listen, settings.ways.link);
+    if let Some(doubt) = lead_doubt(&settings.server, link) {
+        let _ = println!(notes; "node: warning: {doubt}");
+    }
+    if let Some(doubt) = link_doubt(listen, link) {
+        let _ = println!(notes; "node: warning: {doubt}");
+    }
+}
+
+/// Warns of each key of a table that is none of the known ones, with the one that it was likely meant for.
+fn warn_of_strangers<P: Print>(notes: &P, table: &Table, place: Place, known: &[Key])
+    requires { 1 ≤ length known.now }
+{
+    for (name, _) in table {
+        if let Some(meant) = stranger(known, name.as_str()) {
+            let _ = println!(notes;
+                "node: warning: {place}{name:?} is no key: do you mean {meant}?"
+            );
+        }
+    }
+}
+
+/// Warns of the unknown keys of a document and of its pools.
+fn warn_of_keys<P: Print>(notes: &P, table: &Table) {
+    warn_of_strangers(notes, table, Place::Top, &KEYS);
+    let Some(value) = table.get("pool") else {
+        return;
+    };
+    let Some(pools) = value.as_array() else {
+        return;
+    };
+    for (before, pool) in pools.iter().enumerate() {
+        if let Some(table) = pool.as_table() {
+            warn_of_strangers(notes, table, Place::Pool(before), &POOL_KEYS);
+        }
+    }
+}
+
+/// Tells a person, a line each, why settings were refused, and what in them is odd. What finds no memory isn't told.
+pub fn advise<P: Print>(
+    notes: &P,
+    alloc: Global,
+    text: &[u8],
+    read: &Result<NodeSettings, OpenError>,
+) {
+    if text.len() > MOST_OCTETS {
+        let _ = println!(notes; "node: settings: are longer than {MOST_OCTETS} octets");
+        return;
+    }
+    let table = match toml::table_from_slice(alloc, text) {
+        Ok(table) => table,
+        Err(error) => {
+            tell_syntax(notes, text, &error);
+            return;
+        }
+    };
+    match read {
+        Ok(settings) => warn_of_doubts(notes, settings),
+        Err(_) => {
+            let _ = tell_reasons(notes, alloc, &table);
+        }
+    }
+    warn_of_keys(notes, &table);
+}

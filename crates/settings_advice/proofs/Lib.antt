@@ -1,0 +1,6 @@
+mod Counting
+mod Found
+mod Listing
+mod Naming
+mod Nearer
+mod Piling
