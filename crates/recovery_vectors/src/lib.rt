@@ -3,3 +3,5 @@
 
 #[cfg(test)]
 mod contents;
+#[cfg(test)]
+mod folders;
