@@ -9,16 +9,25 @@ use std::alloc::{AllocError, Global};
 
 /// Numbers that look drawn, each from the one before.
 #[derive(Drop)]
-struct Draws(u64);
+pub(crate) struct Draws(u64);
 
 impl Draws {
-    /// Draws a number below 64.
-    fn next(&mut self) -> u64 {
+    pub(crate) fn new(seed: u64) -> Draws {
+        Draws(seed)
+    }
+
+    /// Draws the seed of other draws.
+    pub(crate) fn seed(&mut self) -> u64 {
         self.0 = self
             .0
             .wrapping_mul(6364136223846793005)
             .wrapping_add(1442695040888963407);
-        self.0 >> 58
+        self.0
+    }
+
+    /// Draws a number below 64.
+    pub(crate) fn next(&mut self) -> u64 {
+        self.seed() >> 58
     }
 }
 

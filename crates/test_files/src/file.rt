@@ -3,6 +3,7 @@
 ghost use Rattle.std.specs.Prelude.{◌≡◌, [], ◌∷◌, IfOk};
 ghost use Rattle.torn_disk.specs.Disk.{opened, file_after, IsLeft};
 
+use crate::calls::CallsLeft;
 use crate::drawing::draw_left;
 use crate::state::FileState;
 use call_record::Record;
@@ -17,7 +18,7 @@ pub struct TestFile {
     state: FileState,
     /// No growth was refused so far.
     is_known: bool,
-    calls_left: usize,
+    calls_left: CallsLeft,
     noted: Record,
 }
 
@@ -36,16 +37,20 @@ impl Model for TestFile {
     ghost invariant = { λ f. IsTrue f.is_known → Mirrors f.state (file_after f.noted.calls) };
 }
 
-/// Counts a call, and fails it where no more are answered.
-fn answer(calls_left: &mut usize) -> Result<(), DeviceError> {
-    let left = calls_left.checked_sub(1).ok_or(DeviceError::Failed)?;
-    *calls_left = left;
-    Ok(())
-}
-
 impl TestFile {
     /// Makes a file that was opened and held this content, all of it on the disk.
     pub fn new(alloc: Global, content: &[u8], calls_left: usize) -> Result<TestFile, AllocError>
+        ensures { IfOk result (λ f. f ≡ opened content.now ∷ []) }
+    {
+        TestFile::among(alloc, content, CallsLeft::new(alloc, calls_left)?)
+    }
+
+    /// Makes a file that shares its count of calls with other devices.
+    pub(crate) fn among(
+        alloc: Global,
+        content: &[u8],
+        calls_left: CallsLeft,
+    ) -> Result<TestFile, AllocError>
         ensures { IfOk result (λ f. f ≡ opened content.now ∷ []) }
     {
         Ok(TestFile {
@@ -76,7 +81,7 @@ impl Device for TestFile {
             self.is_known = false;
             return self.noted.note_append(octets, Err(DeviceError::Memory));
         }
-        self.noted.note_append(octets, answer(&mut self.calls_left))
+        self.noted.note_append(octets, self.calls_left.answer())
     }
 
     fn cut(&mut self, length: usize) -> Result<(), DeviceError> {
@@ -84,11 +89,11 @@ impl Device for TestFile {
             self.is_known = false;
             return self.noted.note_cut(length, Err(DeviceError::Memory));
         }
-        self.noted.note_cut(length, answer(&mut self.calls_left))
+        self.noted.note_cut(length, self.calls_left.answer())
     }
 
     fn sync(&mut self) -> Result<(), DeviceError> {
-        let outcome = answer(&mut self.calls_left);
+        let outcome = self.calls_left.answer();
         if outcome.is_ok() {
             self.state.sync();
         }
