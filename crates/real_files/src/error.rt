@@ -9,6 +9,12 @@ pub enum FolderError {
     /// Another process has the lock on the directory.
     #[error("another process writes to this directory")]
     Locked,
+    /// The volume of this number has no file, though there are as many files of volumes, or more.
+    #[error("volume {number} has no file")]
+    Missing { number: usize },
+    /// What has the name of the file of this volume is none: a folder, a link or another thing.
+    #[error("what is named as volume {number} is no file")]
+    NotAFile { number: usize },
     /// The system refused a call.
     #[error("the directory can't be opened: {0}")]
     System(io::Error),
