@@ -1,10 +1,10 @@
 //! The record of a folder's calls: a list that clauses read and no memory holds.
 //!
 //! A folder of volumes keeps a [`NameRecord`] beside its files and notes each call with what came of it, as a device
-//! does by its own record (`call_record`). What it notes is what its contract says of it, so **each method that notes a
-//! call has to be read**: a body that notes that it made a file and makes none proves as well. The two proofs by hand of
-//! this crate (the private `NameRecord::new` and `NameRecord::note`) set the list; no other proof by hand may be written
-//! over a `NameRecord`. It may go to another thread (`Send`, proved), and so may a folder that keeps one.
+//! does by its own record (`call_record`). What it notes is what its contract says of it, so **each method that notes
+//! a call has to be read**: a body that notes that it made a file and makes none proves as well. The two proofs by hand
+//! of this crate (the private `NameRecord::new` and `NameRecord::note`) set the list; no other proof by hand may be
+//! written over a `NameRecord`. It may go to another thread (`Send`, proved), and so may a folder that keeps one.
 //!
 //! ```text
 //! let outcome = self.handle.sync_all();  // the call

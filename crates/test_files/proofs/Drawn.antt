@@ -1,9 +1,9 @@
 -- What is drawn is what a loss of power may leave.
-use Rattle.std.proofs.Common.{◌≡◌, ◌⊎◌, inl, inr, ⊎_elim, ℕ, zero, suc, ◌<◌, ◌≤◌, List, [], ◌∷◌, ◌++◌, length, get_or, refl, sym, ◌∙◌, ap, subst, arith, Result, Ok, Err, Vec, Global}
+use Rattle.std.proofs.Common.{◌≡◌, ◌⊎◌, inl, inr, ⊎_elim, ℕ, zero, suc, ◌<◌, ◌≤◌, List, [], ◌∷◌, ◌++◌, length, take, get_or, refl, sym, ◌∙◌, ap, subst, arith, Result, Ok, Err, Vec, Global}
 use Rattle.std.specs.Prelude.{IfOk}
 use Rattle.std.proofs.Math.Seq.{get_or-append_seam}
 use Rattle.std.proofs.lemmas.Bool.{cases_lt}
-use Rattle.std.proofs.lemmas.List.{get_or_append_left, length-append}
+use Rattle.std.proofs.lemmas.List.{get_or_append_left, get_or-take, get_or_past, length-take-le, length-append}
 use Rattle.torn_disk.specs.Disk.{File, StandsIn, IsLeft}
 use Rattle.test_files.specs.Mirror.{file_of, Mirrors}
 use Rattle.test_files.specs.declared.state.FileState.{FileState}
@@ -17,10 +17,13 @@ pub record IsFront (f : File) (content : List ℕ) : Type 0 where
   pub front : (place : ℕ) → place < length content → place < f.synced → get_or content place 0 ≡ get_or f.written place 0
   pub rest : (place : ℕ) → StandsIn (f.written ∷ f.under) place (get_or content place 0)
 
-pub no_front : (f : File) → IsFront f []
-no_front f = record {
-  front = λ place few. absurd (omega (arith, few));
-  rest = λ place. zero_stands (f.written ∷ f.under) place 0 refl;
+pub sure_front : (f : File) (n : ℕ) → n ≤ length f.written → IsFront f (take n f.written)
+sure_front f n few = record {
+  front = λ place within below. get_or-take n f.written place 0 (omega (arith, within, length-take-le n f.written few));
+  rest = λ place. ⊎_elim
+      (λ before. inl (get_or-take n f.written place 0 before))
+      (λ past. zero_stands (f.written ∷ f.under) place (get_or (take n f.written) place 0) (get_or_past (take n f.written) place 0 (omega (arith, past, length-take-le n f.written few))))
+      (cases_lt place n);
 }
 
 -- what a place holds after one octet more

@@ -1,6 +1,6 @@
 //! What a loss of power leaves, drawn.
 
-ghost use Rattle.std.specs.Prelude.{◌≡◌, ◌<◌, ◌≤◌, [], ◌∷◌, IfOk, slice_index};
+ghost use Rattle.std.specs.Prelude.{◌≡◌, ◌<◌, ◌≤◌, [], ◌∷◌, IfOk, length, min, slice_index, take};
 ghost use Rattle.torn_disk.specs.Disk.{StandsIn, IsLeft};
 ghost use Rattle.test_files.specs.Mirror.{file_of};
 
@@ -87,6 +87,14 @@ fn octet_of(state: &FileState, place: usize, source: Source) -> u8
     }
 }
 
+/// Returns the octets that are on the disk for certain.
+fn sure_octets(alloc: Global, state: &FileState) -> Result<Vec<u8>, AllocError>
+    ensures { IfOk result (λ content.
+        content.items ≡ take (min state.now.synced (length state.now.written.items)) state.now.written.items) }
+{
+    state.written[..state.synced.min(state.written.len())].to_vec(alloc)
+}
+
 /// Draws a content that a loss of power may leave of a file in this state.
 pub(crate) fn draw_left(alloc: Global, state: &FileState, seed: u64) -> Result<Vec<u8>, AllocError>
     ensures { IfOk result (λ content. IsLeft (file_of state.now) content.items) }
@@ -94,7 +102,7 @@ pub(crate) fn draw_left(alloc: Global, state: &FileState, seed: u64) -> Result<V
     let mut draws = Draws(seed);
     let length = draw_length(&mut draws, state);
     let mut source = Source::Written;
-    let mut content = Vec::new(alloc);
+    let mut content = sure_octets(alloc, state)?;
     while content.len() < length {
         source = next_source(&mut draws, source);
         content.push(octet_of(state, content.len(), source))?;

@@ -1,10 +1,12 @@
-use Rattle.std.proofs.Common.{rules, sym, subst, arith}
+use Rattle.std.proofs.Common.{rules, sym, subst, arith, min, length}
 use Rattle.test_files.specs.Mirror.{file_of}
-use Rattle.test_files.proofs.Drawn.{IsFront, no_front, more_front, is_left}
+use Rattle.test_files.proofs.Drawn.{IsFront, sure_front, more_front, is_left}
 use Rattle.test_files.proofs.drawing.draw_left.Goals as goal
 
 pub loop-draws-init : goal.loop-draws-init
-loop-draws-init c = subst (IsFront (file_of c.args.state.now)) (sym c.new-content.ensures.items) (no_front (file_of c.args.state.now))
+loop-draws-init c =
+    let s = c.args.state.now in
+    subst (IsFront (file_of s)) (sym (c.in_ok-content.ensures {u = tt})) (sure_front (file_of s) (min s.synced (length s.written.items)) (omega arith))
 
 pub loop-draws-preserved : goal.loop-draws-preserved
 loop-draws-preserved c =
