@@ -1,6 +1,6 @@
 -- What a message's IA_PDs are told, one after the other.
-use Rattle.std.specs.Prelude.{◌≡◌, ℕ, zero, suc, ◌+◌, ◌≤◌, List, [], ◌∷◌, ◌++◌, length, take, slice_get}
-use Rattle.std.specs.Prelude.{Option, Some, None, option_map, Ok, Err}
+use Rattle.std.specs.Prelude.{◌≡◌, ℕ, zero, suc, ◌+◌, List, [], ◌∷◌, ◌++◌, take, slice_get}
+use Rattle.std.specs.Prelude.{Option, Some, None, option_map, Ok}
 use Rattle.std.proofs.Common.{refl, ap, sym, subst, ◌∙◌, append_assoc, append-nil, add-one}
 use Rattle.dhcp6_pd.specs.declared.message.ClientMessage.{ClientMessage}
 use Rattle.dhcp6_pd.specs.declared.message.IaPd.{IaPd}
@@ -9,15 +9,13 @@ use Rattle.server_book.specs.declared.messages.IaAnswer.{IaAnswer}
 use Rattle.server_book.specs.Messages.{asked_in, order_by}
 use Rattle.order_book.specs.declared.order.Order.{Order}
 use Rattle.locked_book.specs.declared.receipt.Receipt.{Receipt}
-use Rattle.locked_book.specs.declared.error.ServeError.{ServeError}
-use Rattle.locked_book.proofs.Lists.{take_end}
 use Rattle.client_service.specs.declared.partner.Partner.{Partner}
-use Rattle.client_service.specs.declared.silence.Silence.TheVariants.{Refused, Memory}
+use Rattle.client_service.specs.declared.silence.Silence.TheVariants.{Memory}
 use Rattle.client_service.specs.declared.told.Told.{Told}
 use Rattle.client_service.specs.Lines.{or_earlier, last_number}
 use Rattle.client_service.specs.Telling.{Ends}
 use Rattle.client_service.specs.Answering.{order_for, AreTold}
-use Rattle.client_service.specs.Ending.{EndsAt, AreFirstTold, AreAllTold, IsCutShort}
+use Rattle.client_service.specs.Ending.{EndsAt, AreFirstTold, IsCutShort}
 use Rattle.client_service.proofs.Orders.{last_number-append}
 
 take_next : {X : Type 0} (xs : List X) (i : ℕ) (x : X) → slice_get xs i ≡ Some x → take (suc i) xs ≡ take i xs ++ x ∷ []
@@ -73,24 +71,5 @@ module _ (MayHave : List Receipt → Journal → Type 0) (partner : Partner) (m 
               ∙ sym (last_number-append first.0 h.2.0)),
         )
 
-    pub first_refused : (e : ServeError) → EndsAt MayHave partner m now count mid has (Err e)
-        → IsCutShort MayHave partner m now had has (Refused e)
-    first_refused e h =
-        let ends : Ends MayHave partner m.kind now (had ++ first.0) (order_for m h.0) h.2.0 (Err e) =
-        subst (λ rs. Ends MayHave partner m.kind now rs (order_for m h.0) h.2.0 (Err e)) first.1 h.2.2 in (
-          first.0 ++ h.2.0,
-          h.2.1 ∙ (ap (λ rs. rs ++ h.2.0) first.1 ∙ append_assoc had first.0 h.2.0),
-          (count, h.0, answers, first.0, h.2.0, h.1, refl, first.2, ends),
-        )
-
     pub first_cut : IsCutShort MayHave partner m now had mid Memory
     first_cut = (first.0, first.1, (count, answers, first.2))
-
-    pub first_all : length m.ias ≤ count → length answers ≡ length m.ias
-        → AreAllTold MayHave partner m now had mid answers line
-    first_all all each =
-        (each, (first.0, first.1, subst (λ ias. AreTold MayHave partner m now had ias answers first.0) (take_end m.ias count all) first.2, first.3))
-
-pub none_told : (MayHave : List Receipt → Journal → Type 0) (partner : Partner) (m : ClientMessage) (now : ℕ)
-    (had : List Receipt) → AreFirstTold MayHave partner m now 0 had had [] None
-none_told MayHave partner m now had = ([], sym (append-nil had), refl, refl)

@@ -25,7 +25,7 @@ use Rattle.client_service.specs.Answering.{order_for, AreTold, IsSilent}
 use Rattle.client_service.specs.declared.partner.Partner.{Partner}
 use Rattle.client_service.specs.declared.told.Told.{Told}
 use Rattle.client_service.specs.Lines.{last_number}
-use Rattle.client_service.specs.Telling.{IsClients, EndsAtOnce, Ends, IsTakenOver, NoneTakenOver, IsStrangeTo}
+use Rattle.client_service.specs.Telling.{IsClients, EndsAtOnce, Ends, IsSeizeServed, NoneTakenOver, IsStrangeTo}
 
 -- told of no line
 abbrev pub apart : IaAnswer → Told
@@ -74,7 +74,7 @@ EndsIn MayHave kind now order had has result =
 -- whether a unit was taken over
 abbrev pub Seizes : (List Receipt → Journal → Type 0) → ℕ → List Receipt → List Receipt → Result Bool ServeError
     → Type 0
-Seizes MayHave now had has (Ok true) = (r : Receipt) × (has ≡ had ++ r ∷ []) × IsTakenOver MayHave now had r
+Seizes MayHave now had has (Ok true) = (r : Receipt) × (has ≡ had ++ r ∷ []) × IsSeizeServed MayHave now had (Ok r)
 Seizes MayHave now had has (Ok false) = (has ≡ had) × NoneTakenOver MayHave now had
 Seizes MayHave now had has (Err e) = (has ≡ had) × IsStrangeTo MayHave now had e
 

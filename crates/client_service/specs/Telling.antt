@@ -1,6 +1,6 @@
 -- What a client is told of one IA_PD, for a pass that had these receipts: by the receipt of the order's line, by a
 -- refusal, or of a SOLICIT by an offer; and which receipts were added (RFC 8415, sections 18.3.1 to 18.3.7).
-use Rattle.std.specs.Prelude.{◌≡◌, ◌≢◌, ◌⊎◌, ℕ, ⊤, List, [], ◌∷◌, ◌++◌, Result, Ok, Err, None}
+use Rattle.std.specs.Prelude.{◌≡◌, ◌≢◌, ◌⊎◌, ℕ, ⊤, List, [], ◌∷◌, ◌++◌, Some, None, Result, Ok, Err}
 use Rattle.prefix_range.specs.Prefix.{Prefix}
 use Rattle.dhcp6_pd.specs.declared.message.ClientKind.{ClientKind}
 use Rattle.dhcp6_pd.specs.declared.message.ClientKind.TheVariants.{Solicit}
@@ -89,9 +89,10 @@ EndsAtOnce MayHave kind now had order added (Ok answer) = IsToldAs MayHave kind 
 EndsAtOnce MayHave kind now had order added (Err e) =
     (added ≡ []) × IsUntold e × IsRefusedBy MayHave kind now had order e
 
--- a unit of the partner's was taken over
-abbrev pub IsTakenOver : (List Receipt → Journal → Type 0) → ℕ → List Receipt → Receipt → Type 0
-IsTakenOver MayHave now had r = (p : Prefix) × IsOrderServed MayHave now had (Seize p) (Ok r)
+-- the lowest unit of the partner's that may be taken over was ordered so
+abbrev pub IsSeizeServed : (List Receipt → Journal → Type 0) → ℕ → List Receipt → Result Receipt ServeError → Type 0
+IsSeizeServed MayHave now had result =
+    (p : Prefix) × IsSeizableFound MayHave now had (Ok (Some p)) × IsOrderServed MayHave now had (Seize p) result
 
 abbrev pub IsStranger : ServeError → Type 0
 IsStranger (Stranger number line) = ⊤
@@ -101,13 +102,12 @@ IsStranger e = ⊥
 abbrev pub NoneTakenOver : (List Receipt → Journal → Type 0) → ℕ → List Receipt → Type 0
 NoneTakenOver MayHave now had =
     IsSeizableFound MayHave now had (Ok None)
-    ⊎ ((p : Prefix) × (e : ServeError) × (IsStranger e → ⊥) × IsOrderServed MayHave now had (Seize p) (Err e))
+    ⊎ ((e : ServeError) × (IsStranger e → ⊥) × IsSeizeServed MayHave now had (Err e))
 
 -- none was, for the book isn't the one that the pass knows
 abbrev pub IsStrangeTo : (List Receipt → Journal → Type 0) → ℕ → List Receipt → ServeError → Type 0
 IsStrangeTo MayHave now had e =
-    IsStranger e
-    × (IsSeizableFound MayHave now had (Err e) ⊎ ((p : Prefix) × IsOrderServed MayHave now had (Seize p) (Err e)))
+    IsStranger e × (IsSeizableFound MayHave now had (Err e) ⊎ IsSeizeServed MayHave now had (Err e))
 
 abbrev pub StaysAt : (List Receipt → Journal → Type 0) → ℕ → List Receipt → Result IaAnswer ServeError → Type 0
 StaysAt MayHave now had (Ok answer) = (answer ≡ NoPrefix) × NoneTakenOver MayHave now had
@@ -117,7 +117,7 @@ StaysAt MayHave now had (Err e) = IsStrangeTo MayHave now had e
 pub record EndsOnceMore (MayHave : List Receipt → Journal → Type 0) (kind : ClientKind) (now : ℕ) (had : List Receipt)
     (order : Order) (added : List Receipt) (result : Result IaAnswer ServeError) : Type 0 where
   pub lacked : IsToldAs MayHave kind now had order [] NoPrefix
-  pub goes_on : ((r : Receipt) × (rest : List Receipt) × (added ≡ r ∷ rest) × IsTakenOver MayHave now had r
+  pub goes_on : ((r : Receipt) × (rest : List Receipt) × (added ≡ r ∷ rest) × IsSeizeServed MayHave now had (Ok r)
       × EndsAtOnce MayHave kind now (had ++ r ∷ []) order rest result)
       ⊎ ((added ≡ []) × StaysAt MayHave now had result)
 
