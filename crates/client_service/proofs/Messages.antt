@@ -71,5 +71,12 @@ module _ (MayHave : List Receipt → Journal → Type 0) (partner : Partner) (m 
               ∙ sym (last_number-append first.0 h.2.0)),
         )
 
+    pub first_pushed : (t : Told) (told : List IaAnswer) (last : Option ℕ) → EndsAt MayHave partner m now count mid has (Ok t)
+        → told ≡ answers ++ t.answer ∷ [] → last ≡ or_earlier t.line line
+        → AreFirstTold MayHave partner m now (count + 1) had has told last
+    first_pushed t told last h pushed later =
+        subst (λ (x : List IaAnswer × Option ℕ). AreFirstTold MayHave partner m now (count + 1) had has x.0 x.1)
+        (λ i. (sym pushed i, sym later i)) (first_more t h)
+
     pub first_cut : IsCutShort MayHave partner m now had mid Memory
     first_cut = (first.0, first.1, (count, answers, first.2))

@@ -1,6 +1,8 @@
 //! The answer to one message.
 
-ghost use Rattle.std.specs.Prelude.{◌≡◌, ◌≤◌, length, IfOk, IfErr, MatchResult};
+ghost use Rattle.std.specs.Prelude.{◌≡◌, ◌≤◌, length, IfOk, IfErr, None};
+ghost use Rattle.dhcp6_pd.specs.declared.message.ClientKind.TheVariants.{Solicit};
+ghost use Rattle.client_service.specs.declared.partner.Partner.TheVariants.{Up};
 ghost use Rattle.dhcp6_pd.specs.Layout.{message_octets};
 ghost use Rattle.server_book.specs.Messages.{answer_of};
 ghost use Rattle.client_service.specs.Answering.{IsTold, IsSilent};
@@ -98,9 +100,12 @@ pub fn answer_to<S: Service, P: Drop>(
 ) -> Result<Answer<P>, Silence>
     ensures told { IfOk result (λ a. IsTold S.may_have partner own.now message.now now (S.receipts pass.old)
         (S.receipts pass.new) a.octets a.line) }
-    ensures back { IfOk result (λ a. a.peer ≡ peer) }
     ensures silent { IfErr result (IsSilent S.may_have partner own.now message.now now (S.receipts pass.old)
         (S.receipts pass.new)) }
+    // A SOLICIT is answered by no line: none is written while the partner is up, and none is told of.
+    ensures offers { message.now.kind ≡ Solicit → partner ≡ Up → S.receipts pass.new ≡ S.receipts pass.old }
+    ensures advertised { message.now.kind ≡ Solicit → IfOk result (λ a. a.line ≡ None) }
+    ensures back { IfOk result (λ a. a.peer ≡ peer) }
 {
     if message.ias.as_slice().is_empty() {
         return Err(Silence::NothingAsked);
