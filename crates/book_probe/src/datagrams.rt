@@ -1,99 +1,17 @@
-//! Datagrams, and what goes back: `datagram A READING OWN OCTETS`.
+//! Datagrams, and what goes back: `datagram A READING OWN OCTETS`, `told A READING PARTNER OWN OCTETS`.
+//!
+//! OWN is the identifier of the book's server, PARTNER is `up` or `down`.
 
 use crate::fault::Fault;
 use crate::shelf::Shelf;
 use crate::words::Words;
-use client_id::Duid;
-use dhcp6_pd::{ClientKind, ClientMessage, PdError, decode, encode};
-use lead_time::Reading;
-use line_words::add_word;
-use server_book::{Book, BookError, IaAnswer, Order, Reply, answer_of, order_of};
-use std::alloc::Global;
+use client_service::{Alone, Answer, Partner, Silence, answer_to};
+use dhcp6_pd::decode;
+use line_words::{add_number, add_word};
+use std::alloc::{AllocError, Global};
 use text_fields::push_octets;
 
-/// Returns what is told of a refusal, if anything.
-fn refused(error: &BookError) -> Result<IaAnswer, Fault> {
-    match error {
-        BookError::NoPrefix => Ok(IaAnswer::NoPrefix),
-        BookError::NoBinding => Ok(IaAnswer::NoBinding),
-        _ => Err(Fault::Words),
-    }
-}
-
-/// Returns what an order gets.
-fn applied(book: &mut Book, now: Reading, order: &Order) -> Result<IaAnswer, Fault> {
-    match &book.apply(now, order) {
-        Ok(Reply::Granted { prefix, valid }) => Ok(IaAnswer::Given {
-            prefix: *prefix,
-            valid: *valid,
-        }),
-        Ok(_) => Ok(IaAnswer::Released),
-        Err(error) => refused(error),
-    }
-}
-
-/// Returns what a Request would get.
-fn offered(book: &Book, now: Reading, order: &Order) -> Result<IaAnswer, Fault> {
-    let Order::Request(asked) = order else {
-        return Err(Fault::Words);
-    };
-    match book.offer(now, &Order::Request(*asked)) {
-        Ok((prefix, valid)) => Ok(IaAnswer::Given { prefix, valid }),
-        Err(error) => refused(&error),
-    }
-}
-
-/// Returns what becomes of a message's IA_PD at a place.
-fn served(
-    book: &mut Book,
-    now: Reading,
-    message: &ClientMessage,
-    place: usize,
-) -> Result<IaAnswer, Fault> {
-    let Some(order) = order_of(message, place) else {
-        return Err(Fault::Words);
-    };
-    match message.kind {
-        ClientKind::Solicit => offered(book, now, &order),
-        _ => applied(book, now, &order),
-    }
-}
-
-/// Returns what becomes of each IA_PD of a message.
-fn all_served(
-    alloc: Global,
-    book: &mut Book,
-    now: Reading,
-    message: &ClientMessage,
-) -> Result<Vec<IaAnswer>, Fault> {
-    let mut answers = Vec::new(alloc);
-    for place in 0..message.ias.as_slice().len() {
-        let answer = served(book, now, message, place)?;
-        answers.extend_from_slice(&[answer])?;
-    }
-    Ok(answers)
-}
-
-/// The octets of the answer to a message.
-fn answered(
-    alloc: Global,
-    book: &mut Book,
-    now: Reading,
-    own: &Duid,
-    message: &ClientMessage,
-) -> Result<Vec<u8>, Fault> {
-    let answers = all_served(alloc, book, now, message)?;
-    let count = message.ias.as_slice().len();
-    if count == 0 || answers.len() != count {
-        return Err(Fault::Words);
-    }
-    let Ok(reply) = answer_of(alloc, message, own, &answers) else {
-        return Err(Fault::Memory);
-    };
-    encode(alloc, &reply).map_err(|_| Fault::Memory)
-}
-
-/// `datagram A READING OWN OCTETS`: what A, whose server's identifier is OWN, sends back.
+/// `datagram A READING OWN OCTETS`: what A's server sends back while its partner is up.
 pub fn add_answered(
     alloc: Global,
     shelf: &mut Shelf,
@@ -107,7 +25,62 @@ pub fn add_answered(
     let Ok(message) = decode(alloc, &octets, &own) else {
         return Ok(add_word(out, b"none")?);
     };
-    let answer = answered(alloc, book, now, &own, &message)?;
+    match answer_to(alloc, &Alone, book, &own, Partner::Up, now, &message, ()) {
+        Ok(answer) => Ok(add_octets(out, &answer)?),
+        Err(_) => Err(Fault::Words),
+    }
+}
+
+fn add_octets(out: &mut Vec<u8>, answer: &Answer<()>) -> Result<(), AllocError> {
     add_word(out, b"")?;
-    Ok(push_octets(out, &answer)?)
+    push_octets(out, answer.octets())
+}
+
+/// Appends the number of the last line that an answer tells of, or `-`, and its octets.
+fn add_numbered(out: &mut Vec<u8>, answer: &Answer<()>) -> Result<(), AllocError> {
+    match answer.line() {
+        Some(number) => add_number(out, u64::from(number))?,
+        None => add_word(out, b"-")?,
+    }
+    add_octets(out, answer)
+}
+
+/// Returns why there is no answer, in a word.
+fn reason(why: Silence) -> Result<&'static [u8], Fault> {
+    match why {
+        Silence::NothingAsked => Ok(b"nothing-asked"),
+        Silence::Refused(_) => Ok(b"refused"),
+        Silence::TooLong => Ok(b"too-long"),
+        Silence::Memory => Err(Fault::Memory),
+    }
+}
+
+fn partner_in(words: &mut Words<'_>) -> Result<Partner, Fault> {
+    match words.next() {
+        "up" => Ok(Partner::Up),
+        "down" => Ok(Partner::Down),
+        _ => Err(Fault::Words),
+    }
+}
+
+/// `told A READING PARTNER OWN OCTETS`: the number of the last line that the answer tells of, or `-`, and the answer;
+/// else why there is none.
+pub fn add_told(
+    alloc: Global,
+    shelf: &mut Shelf,
+    words: &mut Words<'_>,
+    out: &mut Vec<u8>,
+) -> Result<(), Fault> {
+    let book = shelf.book_mut(words.letter()?)?;
+    let now = words.reading()?;
+    let partner = partner_in(words)?;
+    let own = words.client()?;
+    let octets = words.octets(alloc)?;
+    let Ok(message) = decode(alloc, &octets, &own) else {
+        return Ok(add_word(out, b"none")?);
+    };
+    match answer_to(alloc, &Alone, book, &own, partner, now, &message, ()) {
+        Ok(answer) => Ok(add_numbered(out, &answer)?),
+        Err(why) => Ok(add_word(out, reason(why)?)?),
+    }
 }

@@ -87,6 +87,7 @@ impl Probe {
             "tell" => orders::add_told(alloc, &mut self.shelf, words, out),
             "ask" => questions::add_answer(alloc, &self.shelf, words, out),
             "datagram" => datagrams::add_answered(alloc, &mut self.shelf, words, out),
+            "told" => datagrams::add_told(alloc, &mut self.shelf, words, out),
             "copy" => volumes::add_copied(alloc, &mut self.shelf, words, out),
             "next" => volumes::add_next(alloc, &mut self.shelf, words, out),
             "visits" => visits::add_visits(&mut self.shelf, words, out),

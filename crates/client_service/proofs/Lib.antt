@@ -1,0 +1,4 @@
+pub mod Orders
+pub mod Messages
+pub mod Books
+pub mod Offers

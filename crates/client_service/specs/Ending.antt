@@ -1,0 +1,122 @@
+-- For bodies only: what functions answer of an IA_PD, with the number of the line that it is told by.
+use Rattle.std.specs.Prelude.{◌≡◌, ℕ, ⊤, Bool, true, false, List, [], ◌∷◌, ◌++◌, Option, Some, None, Result, Ok, Err}
+use Rattle.std.specs.Prelude.{◌<◌, length, take, slice_get}
+use Rattle.dhcp6_pd.specs.declared.message.ClientKind.{ClientKind}
+use Rattle.dhcp6_pd.specs.declared.message.ClientKind.TheVariants.{Solicit}
+use Rattle.journal_lines.specs.declared.line.Journal.{Journal}
+use Rattle.order_book.specs.declared.order.Order.{Order}
+use Rattle.order_book.specs.declared.reply.Reply.{Reply}
+use Rattle.order_book.specs.declared.reply.Reply.TheVariants.{Granted, Released as ReleasedReply}
+use Rattle.order_book.specs.declared.error.BookError.TheVariants.{NoPrefix as NoPrefixLeft, NoBinding as NoSuchBinding}
+use Rattle.order_book.specs.Answer.{IsRequest}
+use Rattle.server_book.specs.declared.messages.IaAnswer.{IaAnswer}
+use Rattle.server_book.specs.declared.messages.IaAnswer.TheVariants.{Given, NoPrefix, NoBinding, Released}
+use Rattle.locked_book.specs.declared.receipt.Receipt.{Receipt}
+use Rattle.locked_book.specs.declared.error.ServeError.{ServeError}
+use Rattle.locked_book.specs.declared.error.ServeError.TheVariants.{Book}
+use Rattle.dhcp6_pd.specs.declared.message.ClientMessage.{ClientMessage}
+use Rattle.dhcp6_pd.specs.declared.message.IaPd.{IaPd}
+use Rattle.dhcp6_pd.specs.declared.numbers.TheConstants.{MAX_OCTETS}
+use Rattle.dhcp6_pd.specs.Layout.{message_octets}
+use Rattle.server_book.specs.Messages.{answer_of}
+use Rattle.client_service.specs.declared.silence.Silence.{Silence}
+use Rattle.client_service.specs.declared.silence.Silence.TheVariants.{Refused, TooLong, Memory}
+use Rattle.client_service.specs.Answering.{order_for, AreTold, IsSilent}
+use Rattle.client_service.specs.declared.partner.Partner.{Partner}
+use Rattle.client_service.specs.declared.told.Told.{Told}
+use Rattle.client_service.specs.Lines.{last_number}
+use Rattle.client_service.specs.Telling.{IsClients, EndsAtOnce, Ends, IsSeizeServed, NoneTakenOver, IsStrangeTo}
+
+-- told of no line
+abbrev pub apart : IaAnswer → Told
+apart answer = record { answer = answer; line = None }
+
+-- what a client is told of a refusal
+abbrev pub told_of : ServeError → Result Told ServeError
+told_of (Book NoPrefixLeft) = Ok (apart NoPrefix)
+told_of (Book NoSuchBinding) = Ok (apart NoBinding)
+told_of e = Err e
+
+-- what a client is told of a reply
+abbrev pub answer_by : Reply → Option IaAnswer
+answer_by (Granted prefix valid) = Some (Given prefix valid)
+answer_by ReleasedReply = Some Released
+answer_by _ = None
+
+abbrev pub by_line : ℕ → Option IaAnswer → Option Told
+by_line number None = None
+by_line number (Some answer) = Some (record { answer = answer; line = Some number })
+
+abbrev pub told_by : Receipt → Option Told
+told_by r = by_line r.number (answer_by r.reply)
+
+-- the order of a message of this type
+abbrev pub IsOrderOf : ClientKind → Order → Type 0
+IsOrderOf Solicit order = IsRequest order
+IsOrderOf kind order = IsClients order
+
+abbrev pub answer_in : Result Told ServeError → Result IaAnswer ServeError
+answer_in (Ok t) = Ok t.answer
+answer_in (Err e) = Err e
+
+-- the number is that of the last line that was added, takeovers apart
+abbrev pub IsNumbered : List Receipt → Result Told ServeError → Type 0
+IsNumbered added (Ok t) = t.line ≡ last_number added
+IsNumbered added (Err e) = ⊤
+
+-- what an order ends in at once, where these receipts became those
+abbrev pub EndsIn : (List Receipt → Journal → Type 0) → ClientKind → ℕ → Order → List Receipt → List Receipt
+    → Result Told ServeError → Type 0
+EndsIn MayHave kind now order had has result =
+    (added : List Receipt) × (has ≡ had ++ added) × EndsAtOnce MayHave kind now had order added (answer_in result)
+    × IsNumbered added result
+
+-- whether a unit was taken over
+abbrev pub Seizes : (List Receipt → Journal → Type 0) → ℕ → List Receipt → List Receipt → Result Bool ServeError
+    → Type 0
+Seizes MayHave now had has (Ok true) = (r : Receipt) × (has ≡ had ++ r ∷ []) × IsSeizeServed MayHave now had (Ok r)
+Seizes MayHave now had has (Ok false) = (has ≡ had) × NoneTakenOver MayHave now had
+Seizes MayHave now had has (Err e) = (has ≡ had) × IsStrangeTo MayHave now had e
+
+-- what an IA_PD ends in, where these receipts became those
+abbrev pub EndsAs : (List Receipt → Journal → Type 0) → Partner → ClientKind → ℕ → Order → List Receipt → List Receipt
+    → Result Told ServeError → Type 0
+EndsAs MayHave partner kind now order had has result =
+    (added : List Receipt) × (has ≡ had ++ added) × Ends MayHave partner kind now had order added (answer_in result)
+    × IsNumbered added result
+
+-- ---- all of a message
+
+-- what the IA_PD at a place ends in
+abbrev pub EndsAt : (List Receipt → Journal → Type 0) → Partner → ClientMessage → ℕ → ℕ → List Receipt → List Receipt
+    → Result Told ServeError → Type 0
+EndsAt MayHave partner m now place had has result =
+    (ia : IaPd) × (slice_get m.ias place ≡ Some ia)
+    × EndsAs MayHave partner m.kind now (order_for m ia) had has result
+
+-- the first so many IA_PDs are told this, and the number is that of the last line that they are told by
+abbrev pub AreFirstTold : (List Receipt → Journal → Type 0) → Partner → ClientMessage → ℕ → ℕ → List Receipt
+    → List Receipt → List IaAnswer → Option ℕ → Type 0
+AreFirstTold MayHave partner m now count had has answers line =
+    (added : List Receipt) × (has ≡ had ++ added)
+    × AreTold MayHave partner m now had (take count m.ias) answers added × (line ≡ last_number added)
+
+-- all of them
+abbrev pub AreAllTold : (List Receipt → Journal → Type 0) → Partner → ClientMessage → ℕ → List Receipt → List Receipt
+    → List IaAnswer → Option ℕ → Type 0
+AreAllTold MayHave partner m now had has answers line =
+    (length answers ≡ length m.ias) × ((added : List Receipt) × (has ≡ had ++ added)
+    × AreTold MayHave partner m now had m.ias answers added × (line ≡ last_number added))
+
+-- a refusal, or memory, came between
+abbrev pub IsCutShort : (List Receipt → Journal → Type 0) → Partner → ClientMessage → ℕ → List Receipt → List Receipt
+    → Silence → Type 0
+IsCutShort MayHave partner m now had has (Refused e) = IsSilent MayHave partner [] m now had has (Refused e)
+IsCutShort MayHave partner m now had has Memory = IsSilent MayHave partner [] m now had has Memory
+IsCutShort MayHave partner m now had has why = ⊥
+
+-- why nothing is written
+abbrev pub IsUnwritten : List ℕ → ClientMessage → List IaAnswer → Silence → Type 0
+IsUnwritten own m answers TooLong = MAX_OCTETS < length (message_octets (answer_of m own answers))
+IsUnwritten own m answers Memory = ⊤
+IsUnwritten own m answers why = ⊥

@@ -1,0 +1,5 @@
+pub mod Lines
+pub mod Serving
+pub mod Telling
+pub mod Answering
+pub mod Ending

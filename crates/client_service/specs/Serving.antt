@@ -1,0 +1,38 @@
+-- What a book answers to one who knows it by receipts, and shares it with others, or with nobody.
+use Rattle.std.specs.Prelude.{ℕ, List, Option, Result, Ok, Err}
+use Rattle.prefix_range.specs.Prefix.{Prefix}
+use Rattle.journal_lines.specs.declared.line.Journal.{Journal}
+use Rattle.unit_finder.specs.Units.{IsLeastOf}
+use Rattle.unit_finder.specs.Queries.{IsToSeize}
+use Rattle.order_book.specs.declared.order.Order.{Order}
+use Rattle.order_book.specs.Replayed.{IsLegal, state_of}
+use Rattle.locked_book.specs.declared.receipt.Receipt.{Receipt}
+use Rattle.locked_book.specs.declared.error.ServeError.{ServeError}
+use Rattle.locked_book.specs.declared.error.ServeError.TheVariants.{Stranger}
+use Rattle.locked_book.specs.Serving.{last_receipt, Stands, IsStrange, IsPassServed, IsOffered}
+
+-- at a legal journal that the book may have, of whom these receipts are known
+abbrev pub AtJournal : (List Receipt → Journal → Type 0) → List Receipt → (Journal → Type 0) → Type 0
+AtJournal MayHave had Holds = (j : Journal) × IsLegal j × MayHave had j × Holds j
+
+-- an order's answer: the receipt of one line, or a refusal
+abbrev pub IsOrderServed : (List Receipt → Journal → Type 0) → ℕ → List Receipt → Order
+    → Result Receipt ServeError → Type 0
+IsOrderServed MayHave now had order result =
+    AtJournal MayHave had (λ j. IsPassServed j (last_receipt had) now order result)
+
+-- what a Request would be given, or a refusal
+abbrev pub IsOfferMade : (List Receipt → Journal → Type 0) → ℕ → List Receipt → Order
+    → Result (Prefix × ℕ) ServeError → Type 0
+IsOfferMade MayHave now had order result =
+    AtJournal MayHave had (λ j. IsOffered j (last_receipt had) now order result)
+
+-- at a journal, for whoever had this receipt last: the lowest unit that may be taken over
+abbrev pub IsSeizable : Journal → Option Receipt → ℕ → Result (Option Prefix) ServeError → Type 0
+IsSeizable j last now (Ok found) = Stands j.lines last × IsLeastOf (IsToSeize (state_of j) now) found
+IsSeizable j last now (Err (Stranger number line)) = IsStrange j.lines last number line
+IsSeizable j last now (Err _) = ⊥
+
+abbrev pub IsSeizableFound : (List Receipt → Journal → Type 0) → ℕ → List Receipt
+    → Result (Option Prefix) ServeError → Type 0
+IsSeizableFound MayHave now had result = AtJournal MayHave had (λ j. IsSeizable j (last_receipt had) now result)

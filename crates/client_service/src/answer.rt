@@ -1,0 +1,120 @@
+//! The answer to one message.
+
+ghost use Rattle.std.specs.Prelude.{◌≡◌, ◌≤◌, length, IfOk, IfErr, None};
+ghost use Rattle.dhcp6_pd.specs.declared.message.ClientKind.TheVariants.{Solicit};
+ghost use Rattle.client_service.specs.declared.partner.Partner.TheVariants.{Up};
+ghost use Rattle.dhcp6_pd.specs.Layout.{message_octets};
+ghost use Rattle.server_book.specs.Messages.{answer_of};
+ghost use Rattle.client_service.specs.Answering.{IsTold, IsSilent};
+ghost use Rattle.client_service.specs.Ending.{IsUnwritten};
+
+use crate::hearing::all_told;
+use crate::partner::Partner;
+use crate::service::Service;
+use crate::silence::Silence;
+use client_id::Duid;
+use dhcp6_pd::{ClientMessage, PdError, encode};
+use lead_time::Reading;
+use server_book::{IaAnswer, answer_of};
+use std::alloc::Global;
+use std::marker::Model;
+
+/// The answer to one message: its octets, the peer that they go to, and the number of the last line that they tell of.
+/// Only [`answer_to`] makes one.
+#[derive(Drop)]
+pub struct Answer<P> {
+    octets: Vec<u8>,
+    peer: P,
+    line: Option<u32>,
+}
+
+impl<P> Model for Answer<P> {
+    ghost use Rattle.client_service.specs.Answering.{AnswerTo};
+
+    ghost Value = { AnswerTo P };
+
+    ghost view = { λ a. record { octets = a.octets.items; peer = a.peer; line = a.line } };
+}
+
+impl<P> Answer<P> {
+    /// Returns what is sent.
+    pub fn octets(&self) -> &[u8]
+        ensures { result.now ≡ self.now.octets }
+    {
+        &self.octets
+    }
+
+    /// Returns to whom it is sent: who sent the message.
+    pub fn peer(&self) -> &P
+        ensures { result.now ≡ self.now.peer }
+    {
+        &self.peer
+    }
+
+    /// Returns the number of the last line that it tells of: it may be sent once that line is kept. None where it tells
+    /// of no line, as an ADVERTISE.
+    pub fn line(&self) -> Option<u32>
+        ensures { result ≡ self.now.line }
+    {
+        self.line
+    }
+}
+
+/// The octets of the message that tells this.
+fn written(
+    alloc: Global,
+    own: &Duid,
+    message: &ClientMessage,
+    answers: &[IaAnswer],
+) -> Result<Vec<u8>, Silence>
+    requires some { 1 ≤ length message.now.ias }
+    requires each { length answers.now ≡ length message.now.ias }
+    ensures written { IfOk result (λ v. v.items ≡ message_octets (answer_of message.now own.now answers.now)) }
+    ensures unwritten { IfErr result (IsUnwritten own.now message.now answers.now) }
+{
+    let Ok(reply) = answer_of(alloc, message, own, answers) else {
+        return Err(Silence::Memory);
+    };
+    match encode(alloc, &reply) {
+        Ok(octets) => Ok(octets),
+        Err(PdError::TooLong) => Err(Silence::TooLong),
+        Err(_) => Err(Silence::Memory),
+    }
+}
+
+/// Orders what a client's message asks of the server `own` at a reading, one order for each IA_PD in its order, and
+/// gives the answer, to the peer that the message came from. The octets are the message that tells each IA_PD what its
+/// receipt says, or of a SOLICIT what would be granted.
+///
+/// There is no answer (`Silence`) where the message has no IA_PD, an order ends in what no client is told, the answer
+/// is too long, or a growth is refused. The lines of IA_PDs that were served before stand.
+pub fn answer_to<S: Service, P: Drop>(
+    alloc: Global,
+    service: &S,
+    pass: &mut S::Pass,
+    own: &Duid,
+    partner: Partner,
+    now: Reading,
+    message: &ClientMessage,
+    peer: P,
+) -> Result<Answer<P>, Silence>
+    ensures told { IfOk result (λ a. IsTold S.may_have partner own.now message.now now (S.receipts pass.old)
+        (S.receipts pass.new) a.octets a.line) }
+    ensures silent { IfErr result (IsSilent S.may_have partner own.now message.now now (S.receipts pass.old)
+        (S.receipts pass.new)) }
+    // A SOLICIT is answered by no line: none is written while the partner is up, and none is told of.
+    ensures offers { message.now.kind ≡ Solicit → partner ≡ Up → S.receipts pass.new ≡ S.receipts pass.old }
+    ensures advertised { message.now.kind ≡ Solicit → IfOk result (λ a. a.line ≡ None) }
+    ensures back { IfOk result (λ a. a.peer ≡ peer) }
+{
+    if message.ias.as_slice().is_empty() {
+        return Err(Silence::NothingAsked);
+    }
+    let all = all_told(alloc, service, pass, partner, now, message)?;
+    let octets = written(alloc, own, message, &all.answers)?;
+    Ok(Answer {
+        octets,
+        peer,
+        line: all.line,
+    })
+}
