@@ -2,7 +2,7 @@
 use Rattle.std.specs.Prelude.{◌≡◌, ℕ, ⊤, Bool, true, false, List, [], ◌∷◌, ◌++◌, Option, Some, None, Result, Ok, Err}
 use Rattle.std.specs.Prelude.{◌<◌, length, take, slice_get}
 use Rattle.dhcp6_pd.specs.declared.message.ClientKind.{ClientKind}
-use Rattle.dhcp6_pd.specs.declared.message.ClientKind.TheVariants.{Solicit}
+use Rattle.dhcp6_pd.specs.declared.message.ClientKind.TheVariants.{Solicit, Request as RequestKind}
 use Rattle.journal_lines.specs.declared.line.Journal.{Journal}
 use Rattle.order_book.specs.declared.order.Order.{Order}
 use Rattle.order_book.specs.declared.reply.Reply.{Reply}
@@ -53,6 +53,7 @@ told_by r = by_line r.number (answer_by r.reply)
 -- the order of a message of this type
 abbrev pub IsOrderOf : ClientKind → Order → Type 0
 IsOrderOf Solicit order = IsRequest order
+IsOrderOf RequestKind order = IsRequest order
 IsOrderOf kind order = IsClients order
 
 abbrev pub answer_in : Result Told ServeError → Result IaAnswer ServeError
