@@ -23,21 +23,36 @@ one_line : (js : Journals) (r : Ref) (l m : Line) → Names js r l → Names js 
 one_line js r l m a b = let p = a.1 in let q = b.1 in cc
 
 module _ (js : Journals) (skew : ℕ) (take : Ref) (are : AreChecked js) where
-  far_by : (e : IsEarly js skew take) (m : PartnerMessage) → e.sent.event ≡ Send m → e.taken.event ≡ Take m → e.send.side ≡ partner_of take.side
+  far_by : (e : IsEarly js skew take) (m : PartnerMessage) → e.sent.event ≡ Send m → e.taken.event ≡ Take m
+      → e.send.side ≡ partner_of take.side
       → (b : Bool) → was_sent_earlier (partner_lines js take.side) m.serial ≡ b → IsFarBelowSend js skew take
   far_by e m sends takes side true earlier =
       let over = passed_over js are.legal take e.taken m e.names_taken takes earlier in
-      let here : slice_get (journal_of js (partner_of take.side)) (e.send.number - 1) ≡ Some e.sent = subst (λ s. slice_get (journal_of js s) (e.send.number - 1) ≡ Some e.sent) side e.names_sent.1 in
+      let here : slice_get (journal_of js (partner_of take.side)) (e.send.number - 1) ≡ Some e.sent =
+      subst (λ s. slice_get (journal_of js s) (e.send.number - 1) ≡ Some e.sent) side e.names_sent.1 in
       absurd (over.1 (e.send.number - 1) e.sent m here sends refl)
   far_by e m sends takes side false earlier =
       let awaits : Awaits js take m = (e.taken, e.names_taken, takes, earlier) in
       let s = matched_are_sent js are.matched take m awaits in
       let first : ℕ = first_send m.serial (partner_lines js take.side) in
-      let here : slice_get (journal_of js (partner_of take.side)) (e.send.number - 1) ≡ Some e.sent = subst (λ s. slice_get (journal_of js s) (e.send.number - 1) ≡ Some e.sent) side e.names_sent.1 in
-      let rise = (rises (partner_of take.side) (volume_of js (partner_of take.side)) (journal_of js (partner_of take.side)) (are.legal (partner_of take.side))).1 in
-      let same : e.send.number - 1 ≡ first - 1 = rise.once (e.send.number - 1) (first - 1) e.sent s.0 m m here sends s.1.1 s.2 refl in
-      let there : slice_get (journal_of js (partner_of take.side)) (first - 1) ≡ Some e.sent = subst (λ n. slice_get (journal_of js (partner_of take.side)) n ≡ Some e.sent) same here in
-      record { message = m; awaits = awaits; taken = e.taken; names_taken = e.names_taken; sent = e.sent; names_sent = (s.1.0, there); above = e.above }
+      let here : slice_get (journal_of js (partner_of take.side)) (e.send.number - 1) ≡ Some e.sent =
+      subst (λ s. slice_get (journal_of js s) (e.send.number - 1) ≡ Some e.sent) side e.names_sent.1 in
+      let rise = (rises (partner_of take.side) (volume_of js (partner_of take.side))
+      (journal_of js (partner_of take.side)) (are.legal (partner_of take.side))).1 in
+      let same : e.send.number - 1 ≡ first - 1 =
+      rise.once (e.send.number - 1) (first - 1) e.sent s.0 m m here sends s.1.1 s.2 refl in
+      let there : slice_get (journal_of js (partner_of take.side)) (first - 1) ≡ Some e.sent =
+      subst (λ n. slice_get (journal_of js (partner_of take.side)) n ≡ Some e.sent) same here in
+      record {
+        message = m;
+        awaits = awaits;
+        taken = e.taken;
+        names_taken = e.names_taken;
+        sent = e.sent;
+        names_sent =
+            (s.1.0, there);
+        above = e.above;
+      }
 
   far : IsEarly js skew take → IsFarBelowSend js skew take
   far e =
@@ -51,7 +66,10 @@ module _ (js : Journals) (skew : ℕ) (take : Ref) (are : AreChecked js) where
       let s = matched_are_sent js are.matched take f.message f.awaits in
       record {
         send = send_of js take.side f.message;
-        takes = (back take.side (partner_of take.side) refl, (f.message, s.0, f.awaits.0, s.1, s.2, f.awaits.1, f.awaits.2));
+        takes = (
+          back take.side (partner_of take.side) refl,
+          (f.message, s.0, f.awaits.0, s.1, s.2, f.awaits.1, f.awaits.2),
+        );
         sent = f.sent;
         names_sent = f.names_sent;
         taken = f.taken;

@@ -13,7 +13,8 @@ use Rattle.attribution.specs.Lawful.{Lawful}
 use Rattle.attribution.proofs.Runs.{last, World, leads_at, written_by, written_from, past_end, held, alone}
 
 -- the journal that a side leaves
-pub left_of : (js : Journals) (run : List Step) (side : Role) (v : Volume) → Leaves run side v → journal_of js side ≡ v.lines → volume_of js side ≡ v.number
+pub left_of : (js : Journals) (run : List Step) (side : Role) (v : Volume) → Leaves run side v
+    → journal_of js side ≡ v.lines → volume_of js side ≡ v.number
     → (0 < volume_of js side) × (journal_of js side ≡ volume_at (last js side) (lines_of side run))
 left_of js run side v h lines number =
     let n = h.number in
@@ -24,9 +25,11 @@ left_of js run side v h lines number =
 abbrev pub IsLawful : (Role → List (List Line) → Type 0) → Type 0
 IsLawful AreLegal = (side : Role) (vs : List (List Line)) → AreLegal side vs → Lawful vs
 
-pub world_of : (AreLegal : Role → List (List Line) → Type 0) → IsLawful AreLegal → (js : Journals) (skew : ℕ) (run : List Step) → Setting AreLegal js skew run → World AreLegal js skew run
+pub world_of : (AreLegal : Role → List (List Line) → Type 0) → IsLawful AreLegal
+    → (js : Journals) (skew : ℕ) (run : List Step) → Setting AreLegal js skew run → World AreLegal js skew run
 world_of AreLegal keeps js skew run setting =
-    let left : (side : Role) → (0 < volume_of js side) × (journal_of js side ≡ volume_at (last js side) (lines_of side run)) =
+    let left : (side : Role) → (0 < volume_of js side)
+    × (journal_of js side ≡ volume_at (last js side) (lines_of side run)) =
     λ side. elim side as (λ x. (0 < volume_of js x) × (journal_of js x ≡ volume_at (last js x) (lines_of x run))) [
       | Primary ↦ left_of js run Primary js.a setting.left_a refl refl
       | Secondary ↦ left_of js run Secondary js.b setting.left_b refl refl
@@ -42,18 +45,30 @@ world_of AreLegal keeps js skew run setting =
 -- what is accepted is true in every run that leaves these journals
 pub headline : (AreLegal : Role → List (List Line) → Type 0) → IsLawful AreLegal → AcceptedIsTrue AreLegal
 headline AreLegal keeps js skew transit c ok run is_run clocks left_a left_b starts reaches =
-    let world = world_of AreLegal keeps js skew run (record { is_run = is_run; clocks = clocks; left_a = left_a; left_b = left_b }) in
-    record { held = held AreLegal js skew run world transit starts reaches c ok; alone = alone AreLegal js skew run world transit starts reaches c ok }
+    let world = world_of AreLegal keeps js skew run (record {
+      is_run = is_run;
+      clocks = clocks;
+      left_a = left_a;
+      left_b = left_b;
+    }) in
+    record {
+      held = held AreLegal js skew run world transit starts reaches c ok;
+      alone =
+          alone AreLegal js skew run world transit starts reaches c ok;
+    }
 
 -- the laws that carry it
-pub chains_stand_in_order : (AreLegal : Role → List (List Line) → Type 0) → IsLawful AreLegal → ChainsStandInOrder AreLegal
+pub chains_stand_in_order : (AreLegal : Role → List (List Line) → Type 0) → IsLawful AreLegal
+    → ChainsStandInOrder AreLegal
 chains_stand_in_order AreLegal keeps js skew run setting chain r q i j s t leads a b =
     leads_at AreLegal js skew run (world_of AreLegal keeps js skew run setting) chain r q i j s t leads a b
 
 pub bounds_hold : (AreLegal : Role → List (List Line) → Type 0) → IsLawful AreLegal → BoundsHold AreLegal
 bounds_hold AreLegal keeps js skew run setting chain r x i s a =
-    let world = world_of AreLegal keeps js skew run setting in
-    (λ w. written_by AreLegal js skew run world chain r x i s w a, λ w. written_from AreLegal js skew run world chain r x i s w a)
+    let world = world_of AreLegal keeps js skew run setting in (
+      λ w. written_by AreLegal js skew run world chain r x i s w a,
+      λ w. written_from AreLegal js skew run world chain r x i s w a,
+    )
 
 pub late_after_close : (AreLegal : Role → List (List Line) → Type 0) → IsLawful AreLegal → LateAfterClose AreLegal
 late_after_close AreLegal keeps js skew run setting to i s closed at past =

@@ -18,14 +18,19 @@ use Rattle.attribution.proofs.Refusals.{one_lease}
 
 -- a line that tells of a delegation concerns each prefix that its own overlaps
 pub concerned : (p : Prefix) (e : Event) (d : Delegation) → told_by e ≡ Some d → Overlaps d.prefix p → Concerns p e
-concerned p (Grant g) d h over = let e : of_lease g ≡ d = cc in subst (λ (x : Delegation). Overlaps x.prefix p) (sym e) over
-concerned p (Carry c) d h over = let e : of_carried c ≡ d = cc in subst (λ (x : Delegation). Overlaps x.prefix p) (sym e) over
+concerned p (Grant g) d h over = let e : of_lease g ≡ d = cc in
+    subst (λ (x : Delegation). Overlaps x.prefix p) (sym e) over
+concerned p (Carry c) d h over = let e : of_carried c ≡ d = cc in
+    subst (λ (x : Delegation). Overlaps x.prefix p) (sym e) over
 concerned p _ d h over = absurd (cc)
 
-pub uncovered_listed : (js : Journals) (c : Certificate) (refs : List Ref) → IsListing js c.prefix refs → (r : Ref) → IsUncovered js c r → Has refs r
-uncovered_listed js c refs listed r h = listed.all r h.1.0.0 h.1.0.1 (concerned c.prefix h.1.0.0.event h.0 h.1.0.2 h.1.2)
+pub uncovered_listed : (js : Journals) (c : Certificate) (refs : List Ref) → IsListing js c.prefix refs → (r : Ref)
+    → IsUncovered js c r → Has refs r
+uncovered_listed js c refs listed r h =
+    listed.all r h.1.0.0 h.1.0.1 (concerned c.prefix h.1.0.0.event h.0 h.1.0.2 h.1.2)
 
-pub cut_listed : (js : Journals) (skew transit : ℕ) (c : Certificate) (refs : List Ref) → IsListing js c.prefix refs → ((a : ℕ) × HasAddress c.prefix a)
+pub cut_listed : (js : Journals) (skew transit : ℕ) (c : Certificate) (refs : List Ref) → IsListing js c.prefix refs
+    → ((a : ℕ) × HasAddress c.prefix a)
     → (p : Piece) → IsGranted js skew transit c p → (r : Ref) → CutsShort js skew p r → Has refs r
 cut_listed js skew transit c refs listed some p h r cut =
     let same : h.lease ≡ cut.0 = one_lease js p.grant h.lease cut.0 h.grants cut.1 in
@@ -34,4 +39,5 @@ cut_listed js skew transit c refs listed some p h r cut =
     listed.all r cut.2.0 cut.2.1 (subst (Concerns c.prefix) (sym cut.2.2) over)
 
 pub listed_is_enough : ListedIsEnough
-listed_is_enough js skew transit c refs listed some = (uncovered_listed js c refs listed, cut_listed js skew transit c refs listed some)
+listed_is_enough js skew transit c refs listed some =
+    (uncovered_listed js c refs listed, cut_listed js skew transit c refs listed some)

@@ -8,36 +8,54 @@ use Rattle.journal_text.specs.Faults.{journal_of_side}
 use Rattle.desk_intake.specs.declared.error.DeskError.{DeskError}
 use Rattle.desk_intake.specs.Input.{first_text, text_behind}
 use Rattle.attribution_desk.specs.Timeline.{IsTimelineOf, IsTimeline}
-use Rattle.attribution_desk.specs.Telling.{Tells}
+use Rattle.attribution_desk.specs.Telling.{TellsText}
 use Rattle.std.specs.Io.KnownBytes.{Appends}
 use Rattle.attribution_desk.specs.Running.{IsWritten}
 
 -- what was written is the answer to all that the reader had to give
-pub written : (answers : List ℕ → List ℕ → ℕ → Type 0) (given held now : Option (List ℕ)) (input text : List ℕ) (status : ℕ) → IfSome given (λ all. all ≡ input) → answers input text status → Appends held now text → IsWritten answers given held now status
+pub written : (answers : List ℕ → List ℕ → ℕ → Type 0) (given held now : Option (List ℕ)) (input text : List ℕ)
+    (status : ℕ) → IfSome given (λ all. all ≡ input) → answers input text status → Appends held now text
+    → IsWritten answers given held now status
 written answers None held now input text status is answer appended = tt
-written answers (Some all) held now input text status is answer appended = (text, subst (λ i. answers i text status) (sym is) answer, appended)
+written answers (Some all) held now input text status is answer appended =
+    (text, subst (λ i. answers i text status) (sym is) answer, appended)
 
 -- what is so of the input is so of all that the reader had to give, where that is known
-pub of_known : (says : List ℕ → Type 0) (given : Option (List ℕ)) (input : List ℕ) → IfSome given (λ all. all ≡ input) → says input → IfSome given says
+pub of_known : (says : List ℕ → Type 0) (given : Option (List ℕ)) (input : List ℕ) → IfSome given (λ all. all ≡ input)
+    → says input → IfSome given says
 of_known says None input is h = tt
 of_known says (Some all) input is h = subst says (sym is) h
 
 -- the timeline of what the texts of an input are
-pub timeline_of : (input : List ℕ) (a b : Result Journal JournalFault) (text : List ℕ) (status : ℕ) → a ≡ journal_of_side Primary (first_text input) → b ≡ journal_of_side Secondary (text_behind input) → IsTimelineOf a b text status → IsTimeline input text status
-timeline_of input a b text status ea eb h = subst (λ x. IsTimelineOf (journal_of_side Primary (first_text input)) x text status) eb (subst (λ x. IsTimelineOf x b text status) ea h)
+pub timeline_of : (input : List ℕ) (a b : Result Journal JournalFault) (text : List ℕ) (status : ℕ)
+    → a ≡ journal_of_side Primary (first_text input) → b ≡ journal_of_side Secondary (text_behind input)
+    → IsTimelineOf a b text status → IsTimeline input text status
+timeline_of input a b text status ea eb h =
+    subst (λ x. IsTimelineOf (journal_of_side Primary (first_text input)) x text status) eb
+    (subst (λ x. IsTimelineOf x b text status) ea h)
 
-pub timeline_written : (given held now : Option (List ℕ)) (input : List ℕ) (a b : Result Journal JournalFault) (r : Result ℕ DeskError) → IfSome given (λ all. all ≡ input) → a ≡ journal_of_side Primary (first_text input) → b ≡ journal_of_side Secondary (text_behind input)
-    → IfOk r (Tells (IsTimelineOf a b) held now) → IfOk r (IsWritten IsTimeline given held now)
+pub timeline_written : (given held now : Option (List ℕ)) (input : List ℕ) (a b : Result Journal JournalFault)
+    (r : Result ℕ DeskError) → IfSome given (λ all. all ≡ input) → a ≡ journal_of_side Primary (first_text input)
+    → b ≡ journal_of_side Secondary (text_behind input)
+    → IfOk r (TellsText (IsTimelineOf a b) held now) → IfOk r (IsWritten IsTimeline given held now)
 timeline_written given held now input a b (Err e) is ea eb h = tt
-timeline_written given held now input a b (Ok status) is ea eb (text, of, appended) = written IsTimeline given held now input text status is (timeline_of input a b text status ea eb of) appended
+timeline_written given held now input a b (Ok status) is ea eb (text, of, appended) =
+    written IsTimeline given held now input text status is (timeline_of input a b text status ea eb of) appended
 
 -- what is so of what the texts of an input were read to is so of the input
-pub of_input : (P : Result Journal JournalFault → Result Journal JournalFault → List ℕ → Type 0) (input : List ℕ) (a b : Result Journal JournalFault) (rest : List ℕ)
-    → a ≡ journal_of_side Primary (first_text input) → b ≡ journal_of_side Secondary (first_text (text_behind input)) → rest ≡ text_behind (text_behind input)
-    → P a b rest → P (journal_of_side Primary (first_text input)) (journal_of_side Secondary (first_text (text_behind input))) (text_behind (text_behind input))
-of_input P input a b rest ea eb er h = subst (λ r. P (journal_of_side Primary (first_text input)) (journal_of_side Secondary (first_text (text_behind input))) r) er (subst (λ x. P (journal_of_side Primary (first_text input)) x rest) eb (subst (λ x. P x b rest) ea h))
+pub of_input : (P : Result Journal JournalFault → Result Journal JournalFault → List ℕ
+    → Type 0) (input : List ℕ) (a b : Result Journal JournalFault) (rest : List ℕ)
+    → a ≡ journal_of_side Primary (first_text input) → b ≡ journal_of_side Secondary (first_text (text_behind input))
+    → rest ≡ text_behind (text_behind input)
+    → P a b rest → P (journal_of_side Primary (first_text input))
+    (journal_of_side Secondary (first_text (text_behind input))) (text_behind (text_behind input))
+of_input P input a b rest ea eb er h = subst
+    (λ r. P (journal_of_side Primary (first_text input)) (journal_of_side Secondary (first_text (text_behind input)))
+    r) er (subst (λ x. P (journal_of_side Primary (first_text input)) x rest) eb (subst (λ x. P x b rest) ea h))
 
 -- the same of two texts
-pub of_pair : (P : Result Journal JournalFault → Result Journal JournalFault → Type 0) (input : List ℕ) (a b : Result Journal JournalFault)
-    → a ≡ journal_of_side Primary (first_text input) → b ≡ journal_of_side Secondary (text_behind input) → P a b → P (journal_of_side Primary (first_text input)) (journal_of_side Secondary (text_behind input))
+pub of_pair : (P : Result Journal JournalFault → Result Journal JournalFault
+    → Type 0) (input : List ℕ) (a b : Result Journal JournalFault)
+    → a ≡ journal_of_side Primary (first_text input) → b ≡ journal_of_side Secondary (text_behind input) → P a b
+    → P (journal_of_side Primary (first_text input)) (journal_of_side Secondary (text_behind input))
 of_pair P input a b ea eb h = subst (λ x. P (journal_of_side Primary (first_text input)) x) eb (subst (λ x. P x b) ea h)

@@ -1,5 +1,6 @@
 -- What the desk accepts is true in every run of the pair that leaves the journals.
-use Rattle.std.specs.Prelude.{◌≡◌, ℕ, List, [], ◌∷◌, All, Option, Some, None, Result, Ok, Err, IfOk, IfSome, ◌==◌, if◌then◌else◌}
+use Rattle.std.specs.Prelude.{◌≡◌, ℕ, List, [], ◌∷◌, All, Option, Some, None, Result, Ok, Err, IfOk, IfSome, ◌==◌}
+use Rattle.std.specs.Prelude.{if◌then◌else◌}
 use Rattle.std.proofs.lemmas.List.Elements.{All-nil, All-cons}
 use Rattle.std.proofs.Common.{arith, inl, inr, subst, sym, refl, ◌∙◌}
 use Rattle.binding_rules.specs.declared.role.Role.TheVariants.{Primary, Secondary}
@@ -10,7 +11,10 @@ use Rattle.claims.specs.declared.certificate.Certificate.{Certificate as Claim}
 use Rattle.claims.specs.declared.fault.CertificateFault.{CertificateFault}
 use Rattle.certificate.specs.Faults.{certificate_of}
 use Rattle.attribution.specs.declared.verdict.Verdict.{Verdict as VerdictValue}
-use Rattle.attribution.specs.declared.verdict.Verdict.TheVariants.{Accepted, Journal, Certificate, Rule, Unsent, Differs, Circular, EmptyInterval, PastEnd, PieceGap, PieceGrant, BeforeOpen, PieceRelease, Uncovered, Reason}
+use Rattle.attribution.specs.declared.verdict.Verdict.TheVariants.{Accepted, Journal, Certificate, Rule, Unsent}
+use Rattle.attribution.specs.declared.verdict.Verdict.TheVariants.{Differs, Circular, EmptyInterval, PastEnd, PieceGap}
+use Rattle.attribution.specs.declared.verdict.Verdict.TheVariants.{PieceGrant, BeforeOpen, PieceRelease, Uncovered}
+use Rattle.attribution.specs.declared.verdict.Verdict.TheVariants.{Reason}
 use Rattle.auditor.specs.Texts.{IsVerdictOfParsed, TextsAreTrueInEveryRun, AcceptedTextsAreTrue}
 use Rattle.pair_ruling.specs.declared.ruling.Ruling.{Ruling}
 use Rattle.pair_ruling.specs.declared.ruling.Ruling.TheVariants.{Verdict, Clocks, Pair, Skew}
@@ -22,7 +26,7 @@ use Rattle.attribution_desk.specs.Answer.{IsDeskAnswer}
 use Rattle.desk_intake.specs.Input.{first_text, text_behind}
 use Rattle.attribution_desk.specs.Batch.{AreRuled, status_of_all, IsBatch}
 use Rattle.attribution_desk.specs.Running.{IsWritten}
-use Rattle.attribution_desk.specs.Headline.{IsTrueInEveryRun, AreTrueInEveryRun}
+use Rattle.attribution_desk.specs.Headline.{IsTrueOfTexts, AreTrueInEveryRun}
 
 -- ---- status 0 is that the certificate is accepted
 
@@ -44,7 +48,8 @@ accepts (Uncovered r) e = absurd (omega (arith, e))
 accepts (Reason r) e = absurd (omega (arith, e))
 
 -- all have status 0 where the first has, and the rest
-all_by : (v : VerdictValue) (rest : ℕ) → (if verdict_status v == 0 then rest else 1) ≡ 0 → (verdict_status v ≡ 0) × (rest ≡ 0)
+all_by : (v : VerdictValue) (rest : ℕ) → (if verdict_status v == 0 then rest else 1) ≡ 0
+    → (verdict_status v ≡ 0) × (rest ≡ 0)
 all_by Accepted rest e = (refl, e)
 all_by (Journal side fault) rest e = absurd (omega (arith, e))
 all_by (Certificate fault) rest e = absurd (omega (arith, e))
@@ -76,25 +81,31 @@ ruled_parsed (Ok a) (Ok b) skew transit (Err fault) h = absurd (cc)
 ruled_parsed (Ok a) (Err fault) skew transit claim h = absurd (cc)
 ruled_parsed (Err fault) b skew transit claim h = absurd (cc)
 
-accepted_ruling : (a b : Result Lines JournalFault) (skew transit : ℕ) (claim : Result Claim CertificateFault) (r : Ruling)
+accepted_ruling : (a b : Result Lines JournalFault) (skew transit : ℕ) (claim : Result Claim CertificateFault)
+    (r : Ruling)
     → IsRulingOfParsed a b skew transit claim r → status_of r ≡ 0 → IsVerdictOfParsed a b skew transit claim Accepted
 accepted_ruling a b skew transit claim (Verdict v) h none =
-    ruled_parsed a b skew transit claim (subst (λ (x : VerdictValue). IsRulingOfParsed a b skew transit claim (Verdict x)) (accepts v none) h)
+    ruled_parsed a b skew transit claim (subst (λ (x : VerdictValue).
+    IsRulingOfParsed a b skew transit claim (Verdict x)) (accepts v none) h)
 accepted_ruling a b skew transit claim (Clocks take) h none = absurd (omega (arith, none))
 accepted_ruling a b skew transit claim Pair h none = absurd (omega (arith, none))
 accepted_ruling a b skew transit claim Skew h none = absurd (omega (arith, none))
 
 module _ (law : AcceptedTextsAreTrue) where
   ruled_true : (a b text : List ℕ) (skew transit : ℕ) (r : Ruling)
-      → IsRulingOfParsed (journal_of_side Primary a) (journal_of_side Secondary b) skew transit (certificate_of text) r → status_of r ≡ 0
+      → IsRulingOfParsed (journal_of_side Primary a) (journal_of_side Secondary b) skew transit (certificate_of text) r
+      → status_of r ≡ 0
       → TextsAreTrueInEveryRun a b text skew transit
   ruled_true a b text skew transit r h none =
-      law a b text skew transit (accepted_ruling (journal_of_side Primary a) (journal_of_side Secondary b) skew transit (certificate_of text) r h none)
+      law a b text skew transit (accepted_ruling (journal_of_side Primary a) (journal_of_side Secondary b) skew transit
+      (certificate_of text) r h none)
 
   -- one certificate
-  pub answer_true : (input line : List ℕ) (skew transit status : ℕ) → IsDeskAnswer input skew transit line status → status ≡ 0 → IsTrueInEveryRun input skew transit
+  pub answer_true : (input line : List ℕ) (skew transit status : ℕ) → IsDeskAnswer input skew transit line status
+      → status ≡ 0 → IsTrueOfTexts input skew transit
   answer_true input line skew transit status h none =
-      ruled_true (first_text input) (first_text (text_behind input)) (text_behind (text_behind input)) skew transit h.0 h.1 (sym h.3 ∙ none)
+      ruled_true (first_text input) (first_text (text_behind input))
+      (text_behind (text_behind input)) skew transit h.0 h.1 (sym h.3 ∙ none)
 
   -- each of many
   all_true : (a b : List ℕ) (skew transit : ℕ) (texts : List (List ℕ)) (rs : List Ruling)
@@ -103,19 +114,28 @@ module _ (law : AcceptedTextsAreTrue) where
   all_true a b skew transit [] [] h none = All-nil (λ text. TextsAreTrueInEveryRun a b text skew transit)
   all_true a b skew transit (text ∷ texts) (r ∷ rs) h none =
       let both = first_and_rest r (status_of_all rs) none in
-      All-cons (λ x. TextsAreTrueInEveryRun a b x skew transit) text texts (ruled_true a b text skew transit r h.0 both.0) (all_true a b skew transit texts rs h.1 both.1)
+      All-cons (λ x. TextsAreTrueInEveryRun a b x skew transit) text texts
+      (ruled_true a b text skew transit r h.0 both.0) (all_true a b skew transit texts rs h.1 both.1)
   all_true a b skew transit [] (r ∷ rs) h none = absurd h
   all_true a b skew transit (text ∷ texts) [] h none = absurd h
 
-  pub batch_true : (input text : List ℕ) (skew transit status : ℕ) → IsBatch input skew transit text status → status ≡ 0 → AreTrueInEveryRun input skew transit
+  pub batch_true : (input text : List ℕ) (skew transit status : ℕ) → IsBatch input skew transit text status
+      → status ≡ 0 → AreTrueInEveryRun input skew transit
   batch_true input text skew transit status h none =
-      let verdicts = h.1 in
-      (verdicts.0, verdicts.1, all_true (first_text input) (first_text (text_behind input)) skew transit verdicts.0 h.0 verdicts.2 (sym h.3 ∙ none))
+      let verdicts = h.1 in (
+        verdicts.0,
+        verdicts.1,
+        all_true (first_text input) (first_text (text_behind input)) skew transit verdicts.0 h.0
+            verdicts.2 (sym h.3 ∙ none),
+      )
 
 -- ---- of what was written where it is known what the reader had to give
 
-pub true_of_written : (answers : List ℕ → List ℕ → ℕ → Type 0) (says : List ℕ → Type 0) → ((input text : List ℕ) (status : ℕ) → answers input text status → status ≡ 0 → says input)
-    → (given held now : Option (List ℕ)) (r : Result Outcome DeskError) → IfOk r (λ outcome. IsWritten answers given held now outcome.status) → IfOk r (λ outcome. outcome.status ≡ 0 → IfSome given says)
+pub true_of_written : (answers : List ℕ → List ℕ → ℕ → Type 0) (says : List ℕ → Type 0)
+    → ((input text : List ℕ) (status : ℕ) → answers input text status → status ≡ 0 → says input)
+    → (given held now : Option (List ℕ)) (r : Result Outcome DeskError)
+    → IfOk r (λ outcome. IsWritten answers given held now outcome.status)
+    → IfOk r (λ outcome. outcome.status ≡ 0 → IfSome given says)
 true_of_written answers says by None held now (Ok outcome) h = λ none. tt
 true_of_written answers says by (Some input) held now (Ok outcome) h = λ none. by input h.0 outcome.status h.1 none
 true_of_written answers says by given held now (Err e) h = tt

@@ -7,5 +7,6 @@ use Rattle.pair_ruling.specs.declared.ruling.Ruling.{Ruling}
 use Rattle.pair_ruling.specs.Ruled.{IsRuledOut}
 use Rattle.attribution_desk.specs.Rulings.{IsRulingOfJournals}
 
-pub refused_as : (a b : Journal) (skew transit : ℕ) (claim : Certificate) (r : Ruling) → IsRuledOut a b skew r → IsRulingOfJournals a b skew transit claim r
+pub refused_as : (a b : Journal) (skew transit : ℕ) (claim : Certificate) (r : Ruling) → IsRuledOut a b skew r
+    → IsRulingOfJournals a b skew transit claim r
 refused_as a b skew transit claim r out = inl out

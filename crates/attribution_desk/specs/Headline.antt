@@ -7,8 +7,8 @@ use Rattle.desk_intake.specs.Input.{first_text, text_behind}
 use Rattle.attribution_desk.specs.Batch.{AreTexts}
 
 -- the certificate is true in every run of the pair that leaves the two journals in front of it
-abbrev pub IsTrueInEveryRun : List ℕ → (skew transit : ℕ) → Type 0
-IsTrueInEveryRun input skew transit =
+abbrev pub IsTrueOfTexts : List ℕ → (skew transit : ℕ) → Type 0
+IsTrueOfTexts input skew transit =
     TextsAreTrueInEveryRun (first_text input) (first_text (text_behind input)) (text_behind (text_behind input)) skew
     transit
 
@@ -20,6 +20,6 @@ AreTrueInEveryRun input skew transit =
 
 -- what status 0 says of the command that judges
 abbrev pub SaysTrue : Command → List ℕ → Type 0
-SaysTrue (Audit skew transit) input = IsTrueInEveryRun input skew transit
+SaysTrue (Audit skew transit) input = IsTrueOfTexts input skew transit
 SaysTrue (Batch skew transit workers) input = AreTrueInEveryRun input skew transit
 SaysTrue _ input = ⊤

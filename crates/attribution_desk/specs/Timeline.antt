@@ -12,7 +12,7 @@ use Rattle.journal_merge.specs.declared.merged.Merged.{Merged}
 use Rattle.journal_merge.specs.declared.merged.MergeError.{MergeError}
 use Rattle.journal_merge.specs.declared.merged.MergeError.TheVariants.{Unsent as NeverSent, Differs as SentOtherwise}
 use Rattle.journal_merge.specs.declared.merged.MergeError.TheVariants.{Circular as InACircle, Memory}
-use Rattle.journal_merge.specs.Answer.{IsAnswer as IsMerge}
+use Rattle.journal_merge.specs.Answer.{IsMergeAnswer as IsMerge}
 use Rattle.attribution.specs.declared.verdict.Verdict.{Verdict}
 use Rattle.attribution.specs.declared.verdict.Verdict.TheVariants.{Journal as JournalVerdict, Unsent, Differs, Circular}
 use Rattle.attribution.specs.VerdictText.{place_text, verdict_line}

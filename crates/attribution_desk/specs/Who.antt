@@ -1,6 +1,6 @@
 -- What the desk answers where it is asked who held a prefix at a moment.
 use Rattle.std.specs.Prelude.{◌≡◌, ◌⊎◌, ℕ, List, [], ◌∷◌, ◌++◌, codes}
-use Rattle.text_fields.specs.Cuts.{ended}
+use Rattle.text_fields.specs.Cuts.{with_stops}
 use Rattle.time_text.specs.Time.{IsTimeText}
 use Rattle.causal_order.specs.Journals.{Journals}
 use Rattle.claims.specs.declared.certificate.Certificate.{Certificate}
@@ -23,7 +23,7 @@ pub record IsHeldText (c : Certificate) (text : List ℕ) : Type 0 where
   pub from_is : IsTimeText c.from from
   pub to : List ℕ
   pub to_is : IsTimeText c.to to
-  pub spelled : text ≡ ended 10 (held_lines c from to) ++ certificate_text c
+  pub spelled : text ≡ with_stops 10 (held_lines c from to) ++ certificate_text c
 
 -- a certificate of the prefix round the moment that an auditor accepts, and the widest that plain evidence shows
 pub record IsHeld (js : Journals) (q : HolderQuery) (text : List ℕ) (status : ℕ) : Type 0 where

@@ -5,7 +5,7 @@ ghost use Rattle.std.specs.Result.{ForOk};
 ghost use Rattle.journal_text.specs.Closed.{IsClosed};
 ghost use Rattle.attribution_desk.specs.Answer.{IsAnswerOf, IsDeskAnswer};
 ghost use Rattle.attribution_desk.specs.Running.{IsWritten};
-ghost use Rattle.attribution_desk.specs.Headline.{IsTrueInEveryRun};
+ghost use Rattle.attribution_desk.specs.Headline.{IsTrueOfTexts};
 ghost use Rattle.attribution_desk.specs.Warnings.{IsJudgingWarning};
 
 use crate::answer::Answer;
@@ -56,7 +56,7 @@ pub fn judge<T: Threads + Sync>(
     ensures answer { IfOk result (λ answer. IsDeskAnswer input.now skew transit answer.line.items answer.status) }
     // What is accepted is true in every run of the pair that leaves these journals, with each clock within the skew of
     // true time and each answer within the transit.
-    ensures headline { IfOk result (λ answer. answer.status ≡ 0 → IsTrueInEveryRun input.now skew transit) }
+    ensures headline { IfOk result (λ answer. answer.status ≡ 0 → IsTrueOfTexts input.now skew transit) }
     ensures refused { IfErr result (λ e. e ≡ DeskError.Memory) }
 {
     accepted_texts_are_true();

@@ -1,7 +1,7 @@
 //! What is written of a client that held a prefix.
 
 ghost use Rattle.std.specs.Prelude.{◌≡◌, ◌++◌, ◌∷◌, [], IfOk, IfErr, OnOk};
-ghost use Rattle.text_fields.specs.Cuts.{ended};
+ghost use Rattle.text_fields.specs.Cuts.{with_stops};
 ghost use Rattle.certificate.specs.Spelling.{line_text, holder_words, interval_words};
 ghost use Rattle.time_text.specs.Time.{IsTimeText};
 ghost use Rattle.attribution_desk.specs.Who.{times_words, held_lines, IsHeldText};
@@ -54,7 +54,7 @@ fn add_held(
     from: &[u8],
     to: &[u8],
 ) -> Result<(), AllocError>
-    ensures { OnOk result (out.new.items ≡ out.old.items ++ ended 10 (held_lines certificate.now from.now to.now)) }
+    ensures { OnOk result (out.new.items ≡ out.old.items ++ with_stops 10 (held_lines certificate.now from.now to.now)) }
 {
     add_holder(out, &certificate.holder)?;
     add_interval(out, certificate.from, certificate.to)?;

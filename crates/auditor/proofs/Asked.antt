@@ -17,10 +17,12 @@ module _ (js : Journals) (skew transit : ℕ) (c : Certificate) (ks : List Condi
   pub none_asked : AreAsked js skew transit c ks 0
   none_asked = record { rest = λ v h. h }
 
-  pub one_asked : (i : ℕ) (k : Condition) → i < length ks → IsMet js skew transit c (get_or ks i k) → AreAsked js skew transit c ks i → AreAsked js skew transit c ks (i + 1)
+  pub one_asked : (i : ℕ) (k : Condition) → i < length ks → IsMet js skew transit c (get_or ks i k)
+      → AreAsked js skew transit c ks i → AreAsked js skew transit c ks (i + 1)
   one_asked i k lt met a = record { rest = λ v h. a.rest v (rw (drop-cons ks i k) (inr (met, rw add-one at h))) }
 
-  pub refused_at : (i : ℕ) (k : Condition) (v : Verdict) → i < length ks → Refuses js skew transit c (get_or ks i k) v → AreAsked js skew transit c ks i → IsVerdictBy js skew transit c ks v
+  pub refused_at : (i : ℕ) (k : Condition) (v : Verdict) → i < length ks → Refuses js skew transit c (get_or ks i k) v
+      → AreAsked js skew transit c ks i → IsVerdictBy js skew transit c ks v
   refused_at i k v lt refuses a = a.rest v (rw (drop-cons ks i k) (inl refuses))
 
   pub all_asked : (i : ℕ) → length ks ≤ i → AreAsked js skew transit c ks i → IsVerdictBy js skew transit c ks Accepted

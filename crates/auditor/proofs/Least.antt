@@ -1,5 +1,6 @@
 -- The least of the lines that a walk gives.
-use Rattle.std.specs.Prelude.{◌≡◌, ℕ, ◌+◌, ◌<◌, ◌≤◌, List, [], ◌∷◌, drop, Option, Some, None, MatchOption, slice_get, length, Contains as Has}
+use Rattle.std.specs.Prelude.{◌≡◌, ℕ, ◌+◌, ◌<◌, ◌≤◌, List, [], ◌∷◌, drop, Option, Some, None, MatchOption, slice_get}
+use Rattle.std.specs.Prelude.{length, Contains as Has}
 use Rattle.std.proofs.Common.{zero, suc, arith, sym, ◌∙◌, ap, subst, refl, inl, inr}
 use Rattle.std.proofs.lemmas.Bool.{cases_lt}
 use Rattle.binding_rules.specs.declared.role.Role.{Role}
@@ -21,7 +22,8 @@ irrefl_by Secondary n h = absurd (omega arith)
 before_irrefl : (r : Ref) → ComesBefore r r → ⊥
 before_irrefl r h = irrefl_by r.side r.number h
 
-trans_by : (x y z : Role) (k m n : ℕ) → ComesBefore (here x k) (here y m) → ComesBefore (here y m) (here z n) → ComesBefore (here x k) (here z n)
+trans_by : (x y z : Role) (k m n : ℕ) → ComesBefore (here x k) (here y m) → ComesBefore (here y m) (here z n)
+    → ComesBefore (here x k) (here z n)
 trans_by Primary Primary Primary k m n a b = omega arith
 trans_by Secondary Secondary Secondary k m n a b = omega arith
 trans_by Primary Primary Secondary k m n a b = omega arith
@@ -39,18 +41,22 @@ before_trans r s t a b = trans_by r.side s.side t.side r.number s.number t.numbe
 -- the least of the first i of which P holds, or none
 abbrev pub IsLeastOf : (Ref → Type 0) → List Ref → ℕ → Option Ref → Type 0
 IsLeastOf P given i None = (k : ℕ) (r : Ref) → k < i → slice_get given k ≡ Some r → P r → ⊥
-IsLeastOf P given i (Some m) = P m × ((k : ℕ) (r : Ref) → k < i → slice_get given k ≡ Some r → P r → ComesBefore r m → ⊥)
+IsLeastOf P given i (Some m) = P m × ((k : ℕ) (r : Ref) → k < i → slice_get given k ≡ Some r → P r → ComesBefore r m
+    → ⊥)
 
 module _ (P : Ref → Type 0) (given : List Ref) where
   -- the line at i, where it stands there again
-  same_line : (i k : ℕ) (r s : Ref) → k < i + 1 → i ≤ k → slice_get given i ≡ Some r → slice_get given k ≡ Some s → r ≡ s
-  same_line i k r s lt le a b = let at : i ≡ k = omega arith in let same : Some r ≡ Some s = sym a ∙ (ap (slice_get given) at ∙ b) in cc
+  same_line : (i k : ℕ) (r s : Ref) → k < i + 1 → i ≤ k → slice_get given i ≡ Some r → slice_get given k ≡ Some s
+      → r ≡ s
+  same_line i k r s lt le a b = let at : i ≡ k = omega arith in
+      let same : Some r ≡ Some s = sym a ∙ (ap (slice_get given) at ∙ b) in cc
 
   none_given : IsLeastOf P given 0 None
   none_given k r lt e u = absurd (omega arith)
 
   -- a line that is not both sooner and one of which P holds
-  least_kept : (i : ℕ) (o : Option Ref) (r : Ref) → slice_get given i ≡ Some r → (ComesFirst r o → P r → ⊥) → IsLeastOf P given i o → IsLeastOf P given (i + 1) o
+  least_kept : (i : ℕ) (o : Option Ref) (r : Ref) → slice_get given i ≡ Some r → (ComesFirst r o → P r → ⊥)
+      → IsLeastOf P given i o → IsLeastOf P given (i + 1) o
   least_kept i None r e n h = λ k s lt f u. elim (cases_lt k i) [
     | inl less ↦ h k s less f u
     | inr le ↦ n (omega arith) (subst P (sym (same_line i k r s lt le e f)) u)
@@ -60,12 +66,14 @@ module _ (P : Ref → Type 0) (given : List Ref) where
     λ k s lt f u before. elim (cases_lt k i) [
       | inl less ↦ h.1 k s less f u before
       | inr le ↦
-          let same = sym (same_line i k r s lt le e f) in n (subst (λ (x : Ref). ComesBefore x m) same before) (subst P same u)
+          let same = sym (same_line i k r s lt le e f) in
+          n (subst (λ (x : Ref). ComesBefore x m) same before) (subst P same u)
     ],
   )
 
   -- no line before i comes before r, nor does r itself
-  least_at : (i : ℕ) (r : Ref) → slice_get given i ≡ Some r → P r → ((k : ℕ) (s : Ref) → k < i → slice_get given k ≡ Some s → P s → ComesBefore s r → ⊥)
+  least_at : (i : ℕ) (r : Ref) → slice_get given i ≡ Some r → P r
+      → ((k : ℕ) (s : Ref) → k < i → slice_get given k ≡ Some s → P s → ComesBefore s r → ⊥)
       → IsLeastOf P given (i + 1) (Some r)
   least_at i r e u first = (
     u,
@@ -75,9 +83,11 @@ module _ (P : Ref → Type 0) (given : List Ref) where
     ],
   )
 
-  least_more : (i : ℕ) (o : Option Ref) (r : Ref) → slice_get given i ≡ Some r → P r → ComesFirst r o → IsLeastOf P given i o → IsLeastOf P given (i + 1) (Some r)
+  least_more : (i : ℕ) (o : Option Ref) (r : Ref) → slice_get given i ≡ Some r → P r → ComesFirst r o
+      → IsLeastOf P given i o → IsLeastOf P given (i + 1) (Some r)
   least_more i None r e u is h = least_at i r e u (λ k t lt f v before. h k t lt f v)
-  least_more i (Some m) r e u is h = least_at i r e u (λ k t lt f v before. h.1 k t lt f v (before_trans t r m before is))
+  least_more i (Some m) r e u is h = least_at i r e u (λ k t lt f v before.
+      h.1 k t lt f v (before_trans t r m before is))
 
   -- where each line of which P holds is given
   module _ (all : (r : Ref) → P r → (k : ℕ) × (k < length given) × (slice_get given k ≡ Some r)) where
@@ -95,7 +105,8 @@ pub record IsWalked (P : Ref → Type 0) (given left : List Ref) (least : Option
   pub rest : drop count given ≡ left
   pub found : IsLeastOf P given count least
 
-next_is : (given : List Ref) (i : ℕ) (r : Ref) (more : List Ref) → drop i given ≡ r ∷ more → (slice_get given i ≡ Some r) × (drop (i + 1) given ≡ more)
+next_is : (given : List Ref) (i : ℕ) (r : Ref) (more : List Ref) → drop i given ≡ r ∷ more
+    → (slice_get given i ≡ Some r) × (drop (i + 1) given ≡ more)
 next_is [] zero r more e = absurd (cc)
 next_is [] (suc i) r more e = absurd (cc)
 next_is (x ∷ given) zero r more e = let same : x ∷ given ≡ r ∷ more = e in (cc, cc)
@@ -113,18 +124,21 @@ module _ (P : Ref → Type 0) (given : List Ref) where
   none_walked = record { count = 0; rest = refl; found = none_given P given }
 
   -- the next line is not both sooner and one of which P holds
-  pub one_kept : (left more : List Ref) (o : Option Ref) (r : Ref) → left ≡ r ∷ more → (ComesFirst r o → P r → ⊥) → IsWalked P given left o → IsWalked P given more o
+  pub one_kept : (left more : List Ref) (o : Option Ref) (r : Ref) → left ≡ r ∷ more → (ComesFirst r o → P r → ⊥)
+      → IsWalked P given left o → IsWalked P given more o
   one_kept left more o r e n w =
       let at = next_is given w.count r more (w.rest ∙ e) in
       record { count = w.count + 1; rest = at.1; found = least_kept P given w.count o r at.0 n w.found }
 
-  pub one_more : (left more : List Ref) (o : Option Ref) (r : Ref) → left ≡ r ∷ more → P r → ComesFirst r o → IsWalked P given left o → IsWalked P given more (Some r)
+  pub one_more : (left more : List Ref) (o : Option Ref) (r : Ref) → left ≡ r ∷ more → P r → ComesFirst r o
+      → IsWalked P given left o → IsWalked P given more (Some r)
   one_more left more o r e u is w =
       let at = next_is given w.count r more (w.rest ∙ e) in
       record { count = w.count + 1; rest = at.1; found = least_more P given w.count o r at.0 u is w.found }
 
   -- what is left is given
-  pub next_given : (left more : List Ref) (o : Option Ref) (r : Ref) → left ≡ r ∷ more → IsWalked P given left o → Has given r
+  pub next_given : (left more : List Ref) (o : Option Ref) (r : Ref) → left ≡ r ∷ more → IsWalked P given left o
+      → Has given r
   next_given left more o r e w = Contains-get given w.count r (next_is given w.count r more (w.rest ∙ e)).0
 
   -- where each line of which P holds is given, and nothing is left

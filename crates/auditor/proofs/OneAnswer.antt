@@ -9,10 +9,11 @@ use Rattle.causal_order.specs.Journals.{Journals, journals_of}
 use Rattle.book_rules.specs.Laws.{LegalIsUnbroken, OneFirstBroken}
 use Rattle.journal_merge.specs.declared.merged.Merged.{Merged}
 use Rattle.journal_merge.specs.declared.merged.MergeError.{MergeError}
-use Rattle.journal_merge.specs.declared.merged.MergeError.TheVariants.{Unsent as NoSend, Differs as OtherSend, Circular as NoOrder, Memory}
+use Rattle.journal_merge.specs.declared.merged.MergeError.TheVariants.{Unsent as NoSend, Differs as OtherSend}
+use Rattle.journal_merge.specs.declared.merged.MergeError.TheVariants.{Circular as NoOrder, Memory}
 use Rattle.journal_merge.specs.Interleaving.{HasInterleaving}
 use Rattle.journal_merge.specs.Refusals.{AreMatched}
-use Rattle.journal_merge.specs.Answer.{IsAnswer, AnswerIsOne}
+use Rattle.journal_merge.specs.Answer.{IsMergeAnswer, AnswerIsOne}
 use Rattle.journal_merge.specs.Laws.{PlacedOnce}
 use Rattle.attribution.specs.declared.verdict.Verdict.{Verdict}
 use Rattle.attribution.specs.declared.verdict.Verdict.TheVariants.{Accepted, Rule, Unsent, Differs, Circular}
@@ -31,7 +32,7 @@ failed e = Err e
 
 -- a refusal of messages is the answer of a merge
 abbrev IsTold : Journals → Verdict → Type 0
-IsTold js v = (e : MergeError) × IsAnswer js (failed e) × (failed e ≢ failed Memory) × (v ≡ told e)
+IsTold js v = (e : MergeError) × IsMergeAnswer js (failed e) × (failed e ≢ failed Memory) × (v ≡ told e)
 
 refused_told : (js : Journals) (v : Verdict) → AreMessagesRefused js v → IsTold js v
 unfolding told
@@ -76,7 +77,8 @@ module _ (broken : LegalIsUnbroken) (first : OneFirstBroken) (answers : AnswerIs
   legal_not a b v legal (inr (p, inr (q, h))) = messages_not (journals_of a b) v legal.2 legal.3 h
 
   pub checked_once : CheckedOnce
-  checked_once a b (Legal m) (Legal n) h g = ap (λ rs. Legal (record { refs = rs })) (placed (journals_of a b) m.refs n.refs h.1 g.1)
+  checked_once a b (Legal m) (Legal n) h g =
+      ap (λ rs. Legal (record { refs = rs })) (placed (journals_of a b) m.refs n.refs h.1 g.1)
   checked_once a b (Legal m) (Refused w) h g = absurd (legal_not a b w h.0 g)
   checked_once a b (Refused v) (Legal n) h g = absurd (legal_not a b v g.0 h)
   checked_once a b (Refused v) (Refused w) h g = ap Refused (refused_once a b v w h g)

@@ -1,5 +1,6 @@
 -- Grants to other clients.
-use Rattle.std.specs.Prelude.{◌≡◌, ℕ, ◌<◌, ◌↔◌, IsTrue, Bool, false, List, [], length, Option, Some, None, MatchOption, Contains as Has}
+use Rattle.std.specs.Prelude.{◌≡◌, ℕ, ◌<◌, ◌↔◌, IsTrue, Bool, false, List, [], length, Option, Some, None, MatchOption}
+use Rattle.std.specs.Prelude.{Contains as Has}
 use Rattle.std.proofs.Common.{sym, subst, inl, inr, arith, get_or}
 use Rattle.std.proofs.lemmas.List.Elements.{Contains-get_or}
 use Rattle.std.proofs.lemmas.Bool.{cases_Bool}
@@ -23,7 +24,8 @@ use Rattle.auditor.proofs.Leases.{one_told, none_told}
 
 -- ---- one line
 
-pub others_by : (g : Delegation) (c : Certificate) (b : Bool) → (g.client ≡ c.holder → ⊥) → IsTrue b ↔ Overlaps g.prefix c.prefix → IsTrue b ↔ IsOthers g c
+pub others_by : (g : Delegation) (c : Certificate) (b : Bool) → (g.client ≡ c.holder → ⊥) → IsTrue b
+    ↔ Overlaps g.prefix c.prefix → IsTrue b ↔ IsOthers g c
 others_by g c b n d = (λ t. (n, d.0 t), λ h. d.1 h.1)
 
 pub holders_own : (g : Delegation) (c : Certificate) → g.client ≡ c.holder → IsTrue false ↔ IsOthers g c
@@ -36,7 +38,8 @@ module _ (js : Journals) (c : Certificate) (r : Ref) where
   pub bare_others : (g : Delegation) → Some g ≡ delegation_of js r → IsUncovered js c r → IsOthers g c
   bare_others g e u = subst (λ (x : Delegation). IsOthers x c) (one_told js r g u.0 e u.1.0) (u.1.1, u.1.2)
 
-  pub bare_by_names : (g : Delegation) (b : Bool) → Some g ≡ delegation_of js r → IsOthers g c → IsTrue b ↔ IsNamed c r → (b ≡ false → IsUncovered js c r) × (IsUncovered js c r → b ≡ false)
+  pub bare_by_names : (g : Delegation) (b : Bool) → Some g ≡ delegation_of js r → IsOthers g c → IsTrue b ↔ IsNamed c r
+      → (b ≡ false → IsUncovered js c r) × (IsUncovered js c r → b ≡ false)
   bare_by_names g b e o d = (
     λ f. bare g e o (λ named. let t = d.1 named in absurd (cc)),
     λ u. elim (cases_Bool b) [ inl t ↦ absurd (u.2 (d.0 t)) | inr f ↦ f ],
@@ -47,7 +50,8 @@ module _ (js : Journals) (c : Certificate) (r : Ref) where
 
 -- ---- foreign entries that name a line
 
-module _ (c : Certificate) (r : Ref) (indexes : List ℕ) (naming : (k : ℕ) → Has indexes k ↔ NamesAt (λ f. f.grant) c.foreign r k) where
+module _ (c : Certificate) (r : Ref) (indexes : List ℕ) (naming : (k : ℕ) → Has indexes k
+    ↔ NamesAt (λ f. f.grant) c.foreign r k) where
   pub named_by_some : 0 < length indexes → IsNamed c r
   named_by_some some =
       let n = (naming (get_or indexes 0 0)).0 (Contains-get_or indexes 0 0 some) in
@@ -68,6 +72,9 @@ module _ (js : Journals) (c : Certificate) (given : List Ref) (listed : IsListin
     | inr f ↦ absurd (none r (g, foreign, λ named. let t = (decides_named c r).1 named in absurd (cc)))
   ]
 
-  pub uncovered_found : (left : List Ref) → left ≡ [] → (o : Option Ref) → IsWalked (IsUncovered js c) given left o → MatchOption o (IsCovered js c) (IsLeast (IsUncovered js c))
-  uncovered_found left none None w = all_covered (nowhere (IsUncovered js c) given (uncovered_listed js c given listed) left none w)
-  uncovered_found left none (Some m) w = least_found (IsUncovered js c) given (uncovered_listed js c given listed) left none m w
+  pub uncovered_found : (left : List Ref) → left ≡ [] → (o : Option Ref) → IsWalked (IsUncovered js c) given left o
+      → MatchOption o (IsCovered js c) (IsLeast (IsUncovered js c))
+  uncovered_found left none None w = all_covered
+      (nowhere (IsUncovered js c) given (uncovered_listed js c given listed) left none w)
+  uncovered_found left none (Some m) w = least_found (IsUncovered js c) given
+      (uncovered_listed js c given listed) left none m w

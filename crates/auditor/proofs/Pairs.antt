@@ -8,7 +8,7 @@ use Rattle.journal_lines.specs.declared.line.Line.{Line}
 use Rattle.journal_lines.specs.Head.{volume_number}
 use Rattle.causal_order.specs.Journals.{journals_of}
 use Rattle.book_rules.specs.declared.rule.Rule.TheVariants.{Sequence}
-use Rattle.book_state.specs.Book.{Book, blank}
+use Rattle.book_state.specs.Book.{BookState, blank}
 use Rattle.book_state.specs.Effects.{after}
 use Rattle.book_rules.specs.VolumeRules.{KeepsSequence}
 use Rattle.book_rules.specs.Volumes.{AreSteps}
@@ -20,7 +20,7 @@ use Rattle.auditor.specs.Pair.{IsUnbroken, IsPairRefused, IsOrdered, IsChecked}
 
 -- ---- a journal that keeps the rules is short
 
-few_more : (ls : List Line) (b : Book) → AreSteps b ls → b.count ≤ 2 ^ 20 → b.count + length ls ≤ 2 ^ 20
+few_more : (ls : List Line) (b : BookState) → AreSteps b ls → b.count ≤ 2 ^ 20 → b.count + length ls ≤ 2 ^ 20
 few_more [] b steps few = omega arith
 few_more (l ∷ ls) b steps few =
     let s : KeepsSequence b l = steps.0 Sequence in

@@ -28,10 +28,10 @@ abbrev pub LastsTo : ℕ → ℤ → ℕ → Type 0
 LastsTo valid granted to = (valid ≡ infinity) ⊎ (pos to ≤ℤ (granted +ℤ pos (1000 * valid)))
 
 -- what was told of by this moment has ended by the other one, its answer's transit counted
-abbrev pub HasEnded : Lasting → ℤ → (skew transit moment : ℕ) → Type 0
-HasEnded (For valid) told skew transit moment =
-    (valid ≢ infinity) × ((told +ℤ pos (transit + 1000 * valid)) ≤ℤ pos moment)
-HasEnded (Until end) told skew transit moment = end + skew + transit ≤ moment
+abbrev pub IsSurelyOver : Lasting → ℤ → (skew transit moment : ℕ) → Type 0
+IsSurelyOver (For valid) granted skew transit moment =
+    (valid ≢ infinity) × ((granted +ℤ pos (transit + 1000 * valid)) ≤ℤ pos moment)
+IsSurelyOver (Until end) granted skew transit moment = end + skew + transit ≤ moment
 
 -- What a chain shows of a line, and of the lease that it grants.
 abbrev pub IsWrittenBy : Journals → List Ref → Ref → ℕ → ℕ → Type 0

@@ -5,7 +5,7 @@ ghost use Rattle.attribution.specs.Acceptance.{GivesBack, IsOutside, IsGranted, 
 ghost use Rattle.attribution.specs.Acceptance.{IsNew};
 ghost use Rattle.journal_lines.specs.declared.event.Event.TheVariants.{Release};
 ghost use Rattle.attribution.specs.Tests.{lease_of, delegation_of};
-ghost use Rattle.auditor.specs.Bounds.{IsLatestAt, IsEarliestAt, LastsTo, HasEnded, IsWrittenBy, IsReachedBy};
+ghost use Rattle.auditor.specs.Bounds.{IsLatestAt, IsEarliestAt, LastsTo, IsSurelyOver, IsWrittenBy, IsReachedBy};
 ghost use Rattle.auditor.specs.Bounds.{IsWrittenFrom, IsOver, IsLasting, IsHolders, IsDelegationOf, IsValidThroughout};
 
 use crate::source::LineSource;
@@ -39,7 +39,7 @@ pub fn delegation_at<L: Lines>(lines: &L, at: Ref) -> Option<Delegation>
 }
 
 /// The moment by which the chain shows the line to be written, in milliseconds: `None` where it is no chain from it.
-#[tactic(auto, using(crate::proofs::Bounds::latest_at, crate::proofs::Bounds::no_chain_from, crate::proofs::Bounds::begins_elsewhere))]
+#[tactic(auto, using(crate::proofs::Bounds::latest_at, crate::proofs::Bounds::no_chain_from, crate::proofs::Bounds::begins_elsewhere,))]
 fn latest_at<L: Lines>(lines: &L, chain: &Chain, at: Ref, skew: Skew) -> Option<i64>
     ensures { IsLatestAt (L.journals lines.now) chain.now at skew result }
 {
@@ -52,7 +52,7 @@ fn latest_at<L: Lines>(lines: &L, chain: &Chain, at: Ref, skew: Skew) -> Option<
 
 /// The moment at which, or after which, the chain shows the line to be written, in milliseconds: `None` where it is
 /// no chain to it.
-#[tactic(auto, using(crate::proofs::Bounds::earliest_at, crate::proofs::Bounds::no_chain_to, crate::proofs::Bounds::ends_elsewhere))]
+#[tactic(auto, using(crate::proofs::Bounds::earliest_at, crate::proofs::Bounds::no_chain_to, crate::proofs::Bounds::ends_elsewhere,))]
 pub fn earliest_at<L: Lines>(lines: &L, chain: &Chain, at: Ref, skew: Skew) -> Option<i64>
     ensures { IsEarliestAt (L.journals lines.now) chain.now at skew result }
 {
@@ -86,14 +86,14 @@ fn is_past(given: i64, wait: u64, moment: Reading) -> bool
 }
 
 /// Returns whether what was told of by this moment has ended by the other one.
-fn ends_by(lasting: Lasting, told: i64, skew: Skew, transit: Transit, moment: Reading) -> bool
-    ensures { IsTrue result ↔ HasEnded lasting told skew transit moment }
+fn ends_by(lasting: Lasting, granted: i64, skew: Skew, transit: Transit, moment: Reading) -> bool
+    ensures { IsTrue result ↔ IsSurelyOver lasting granted skew transit moment }
 {
     match lasting {
         Lasting::For(valid) => {
             valid != Lease::INFINITE
                 && is_past(
-                    told,
+                    granted,
                     transit.milliseconds() + u64::from(valid) * 1000,
                     moment,
                 )
@@ -243,7 +243,7 @@ fn is_valid_throughout<L: Lines>(
 
 /// Returns whether the grant that the piece names carries it: the lease is the holder's, of a prefix round the one
 /// asked of, and lasts from the piece's beginning to its end.
-#[tactic(auto, using(crate::proofs::Leases::granted_by_lease, crate::proofs::Leases::not_holders, crate::proofs::Leases::no_granted_lease))]
+#[tactic(auto, using(crate::proofs::Leases::granted_by_lease, crate::proofs::Leases::not_holders, crate::proofs::Leases::no_granted_lease,))]
 pub fn is_granted<L: Lines>(
     lines: &L,
     certificate: &Certificate,

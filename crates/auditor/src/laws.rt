@@ -36,7 +36,8 @@ pub fn unbroken_is_short()
     ensures { UnbrokenIsShort }
 {}
 
-/// What is accepted of three texts is true in every run of the pair that leaves the journals that they spell: the clause
+/// What is accepted of three texts is true in every run of the pair that leaves the journals that they spell: the
+/// clause
 /// `headline` of `audit_bytes`, for whoever reaches the same verdict by another way.
 pub fn accepted_texts_are_true()
     ensures { AcceptedTextsAreTrue }

@@ -55,7 +55,7 @@ fn has_line_of(chain: &Chain, side: Role) -> bool
 }
 
 /// Returns whether clocks show that the piece's grant came after the side's open line.
-#[tactic(auto, using(crate::proofs::OpenLines::clear_of_open, crate::proofs::OpenLines::no_chain, crate::proofs::OpenLines::no_open_line))]
+#[tactic(auto, using(crate::proofs::OpenLines::clear_of_open, crate::proofs::OpenLines::no_chain, crate::proofs::OpenLines::no_open_line,))]
 fn is_clear_of_open<L: Lines>(lines: &L, piece: &Piece, side: Role, skew: Skew) -> bool
     ensures { IsTrue result ↔ IsClearOfOpen (L.journals lines.now) skew piece.now side }
 {

@@ -12,7 +12,7 @@ use lead_time::{Skew, Transit};
 
 /// The number, from 1, of the first piece that doesn't begin where it must or has no moment. Where the pieces end
 /// before the interval or past it, or there is none, the number past the last.
-#[tactic(auto, using(crate::proofs::Tiling::gap_begins, crate::proofs::Tiling::gap_empty, crate::proofs::Tiling::next_in_place, crate::proofs::Tiling::first_in_place, crate::proofs::Tiling::all_in_place, crate::proofs::Tiling::gap_past_last, crate::proofs::Tiling::gap_of_none))]
+#[tactic(auto, using(crate::proofs::Tiling::gap_begins, crate::proofs::Tiling::gap_empty, crate::proofs::Tiling::next_in_place, crate::proofs::Tiling::first_in_place, crate::proofs::Tiling::all_in_place, crate::proofs::Tiling::gap_past_last, crate::proofs::Tiling::gap_of_none,))]
 pub fn first_gap(certificate: &Certificate) -> Option<u64>
     ensures { MatchOption result (IsTiled certificate.now) (IsGap certificate.now) }
 {

@@ -66,7 +66,7 @@ impl<'a> PlainSource<'a> {
     }
 
     /// The next line of a walk over those that answer the question.
-    #[tactic(auto, using(crate::proofs::Given::first_given, crate::proofs::Given::second_given, crate::proofs::Given::none_given))]
+    #[tactic(auto, using(crate::proofs::Given::first_given, crate::proofs::Given::second_given, crate::proofs::Given::none_given,))]
     fn next_line(&self, question: &Question, walk: &mut Walk) -> Option<Ref>
         ensures { Gives result (passing (answers question.now) self.now walk.old.next walk.old.onward)
             (passing (answers question.now) self.now walk.new.next walk.new.onward) }
@@ -125,7 +125,7 @@ impl LineSource for PlainSource<'_> {
 }
 
 /// The first line of this side, from the index on, that answers the question.
-#[tactic(auto, using(crate::proofs::Given::found_here, crate::proofs::Given::passed_by, crate::proofs::Given::none_behind))]
+#[tactic(auto, using(crate::proofs::Given::found_here, crate::proofs::Given::passed_by, crate::proofs::Given::none_behind,))]
 fn next_on(side: Role, lines: &[Line], question: &Question, from: usize) -> Option<Ref>
     requires few { length lines.now < 2 ^ 32 }
     ensures { MatchOption result (passing_from (answers question.now) side (from + 1) (drop from lines.now) ≡ [])

@@ -8,7 +8,7 @@ use Rattle.binding_rules.specs.declared.taking.Outcome.{Outcome}
 use Rattle.binding_rules.specs.declared.taking.Outcome.TheVariants.{Accept, Drop}
 use Rattle.binding_rules.specs.Table.{outcome_of}
 use Rattle.binding_rules.specs.Reply.{after_reply}
-use Rattle.book_state.specs.Book.{Book, is_unit}
+use Rattle.book_state.specs.Book.{BookState, is_unit}
 
 -- a reply that changes nothing is dropped
 abbrev pub reply_outcome : Option UnitValue → Outcome
@@ -16,7 +16,7 @@ reply_outcome None = Drop
 reply_outcome (Some u) = Accept
 
 -- in the book's term; a message about what is no unit is dropped
-abbrev pub body_outcome : Book → ℕ → Body → Outcome
+abbrev pub body_outcome : BookState → ℕ → Body → Outcome
 body_outcome b now (Update m) =
     if is_unit b.pools m.prefix then outcome_of b.role (b.units m.prefix) now b.waiting m else Drop
 body_outcome b now (Reply r) =
@@ -28,7 +28,7 @@ is_contact (Contact ask answer) = true
 is_contact _ = false
 
 -- a server that waits learns a higher term from its partner's contact; else a message of another term is dropped
-abbrev pub outcome : Book → ℕ → PartnerMessage → Outcome
+abbrev pub outcome : BookState → ℕ → PartnerMessage → Outcome
 outcome b now m =
     if m.term == b.term
     then body_outcome b now m.body

@@ -2,7 +2,7 @@
 
 ghost use Rattle.book_rules.specs.Fits.{Fits};
 
-use book_state::{Standing, Units};
+use book_state::{StateNumbers, Units};
 
 mod looking;
 mod making;
@@ -12,7 +12,7 @@ mod replaying;
 /// the `Book` of `book_state` by `state`.
 #[derive(Drop)]
 pub struct Table {
-    pub(crate) standing: Standing,
+    pub(crate) numbers: StateNumbers,
     pub(crate) units: Units,
-    ghost fits: { Fits standing units },
+    ghost fits: { Fits numbers units },
 }

@@ -1,5 +1,7 @@
 -- What a change of one unit, and one more pool, make of a table.
-use Rattle.std.proofs.Common.{◌≡◌, ℕ, ◌+◌, ◌-◌, ◌%◌, ◌<◌, ◌≤◌, ◌==◌, ◌⊎◌, Bool, true, false, List, [], ◌∷◌, ◌++◌, length, ap, sym, ◌∙◌, subst, arith, inl, inr, refl, ap₂, Option, Some, None, get_or, take, length-append}
+use Rattle.std.proofs.Common.{◌≡◌, ℕ, ◌+◌, ◌-◌, ◌%◌, ◌<◌, ◌≤◌, ◌==◌, ◌⊎◌, Bool, true, false, List, [], ◌∷◌, ◌++◌}
+use Rattle.std.proofs.Common.{length, ap, sym, ◌∙◌, subst, arith, inl, inr, refl, ap₂, Option, Some, None, get_or, take}
+use Rattle.std.proofs.Common.{length-append}
 use Rattle.std.specs.Prelude.{if◌then◌else◌, Contains as Has, replicate, zero, suc}
 use Rattle.std.specs.List.{sum_by}
 use Rattle.std.proofs.Math.ListN.{set, get_or-append, length-set, length-replicate}
@@ -27,15 +29,18 @@ same_means p q e = ap₂ prefix_at (grind (arith, nat_tests)) (grind (arith, nat
 pub same_itself : (p : Prefix) → same_prefix p p ≡ true
 same_itself p = grind (arith, nat_tests)
 
-pub put_unit : (pools : List Pool) (units : List UnitValue) (marks : ℕ) (p : Prefix) (i : ℕ) (u : UnitValue) → IsDelegable pools units marks → IsPrefix p
+pub put_unit : (pools : List Pool) (units : List UnitValue) (marks : ℕ) (p : Prefix) (i : ℕ) (u : UnitValue)
+    → IsDelegable pools units marks → IsPrefix p
     → place_on 0 pools p ≡ Some i → (q : Prefix)
-    → unit_at (record { pools = pools; units = set units i u }) q ≡ (if same_prefix q p then u else unit_at (record { pools = pools; units = units }) q)
+    → unit_at (record { pools = pools; units = set units i u }) q
+    ≡ (if same_prefix q p then u else unit_at (record { pools = pools; units = units }) q)
 unfolding unit_at
 put_unit pools units marks p i u h good at q = by_same (same_prefix q p) refl where
   inside : i < length units
   inside = let w = place_within 0 pools p i h.each at in omega (arith, w.below, h.whole)
 
-  placed : (b : Bool) (o : Option ℕ) → place_on 0 pools q ≡ o → (q.address % size_of q.length == 0) ≡ b → same_prefix q p ≡ false
+  placed : (b : Bool) (o : Option ℕ) → place_on 0 pools q ≡ o → (q.address % size_of q.length == 0) ≡ b
+      → same_prefix q p ≡ false
       → (if b then unit_by (set units i u) o else fresh) ≡ (if b then unit_by units o else fresh)
   placed false o e aligned apart = refl
   placed true None e aligned apart = refl
@@ -46,7 +51,8 @@ put_unit pools units marks p i u h good at q = by_same (same_prefix q p) refl wh
       absurd cc))
 
   by_same : (b : Bool) → same_prefix q p ≡ b
-      → unit_at (record { pools = pools; units = set units i u }) q ≡ (if b then u else unit_at (record { pools = pools; units = units }) q)
+      → unit_at (record { pools = pools; units = set units i u }) q
+      ≡ (if b then u else unit_at (record { pools = pools; units = units }) q)
   by_same true e =
       let one = same_means q p e in
       let zero : (p.address % size_of p.length == 0) ≡ true = let r = good.host_bits in grind (arith, nat_tests) in
@@ -58,31 +64,39 @@ fresh_anywhere zero i = refl
 fresh_anywhere (suc n) zero = refl
 fresh_anywhere (suc n) (suc i) = fresh_anywhere n i
 
-pub add_pool : (pools : List Pool) (units : List UnitValue) (marks n : ℕ) (more : Pool) → IsDelegable pools units marks → IsPool more → (q : Prefix)
-    → unit_at (record { pools = pools ++ more ∷ []; units = units ++ replicate n fresh }) q ≡ unit_at (record { pools = pools; units = units }) q
+pub add_pool : (pools : List Pool) (units : List UnitValue) (marks n : ℕ) (more : Pool) → IsDelegable pools units marks
+    → IsPool more → (q : Prefix)
+    → unit_at (record { pools = pools ++ more ∷ []; units = units ++ replicate n fresh }) q
+    ≡ unit_at (record { pools = pools; units = units }) q
 unfolding unit_at
 add_pool pools units marks n more h good q = aligned (q.address % size_of q.length == 0) where
   stays : (o : Option ℕ) → place_on 0 pools q ≡ o → unit_by (units ++ replicate n fresh) o ≡ unit_by units o
   stays None e = refl
-  stays (Some j) e = let w = place_within 0 pools q j h.each e in get_or-append units (replicate n fresh) fresh j (omega (arith, w.below, h.whole))
+  stays (Some j) e = let w = place_within 0 pools q j h.each e in
+      get_or-append units (replicate n fresh) fresh j (omega (arith, w.below, h.whole))
 
-  behind : (o : Option ℕ) → ((i : ℕ) → o ≡ Some i → 0 + sum_by units_in pools ≤ i) → unit_by (units ++ replicate n fresh) o ≡ fresh
+  behind : (o : Option ℕ) → ((i : ℕ) → o ≡ Some i → 0 + sum_by units_in pools ≤ i)
+      → unit_by (units ++ replicate n fresh) o ≡ fresh
   behind None past = refl
-  behind (Some j) past = get_or-append_right units (replicate n fresh) j fresh (omega (arith, past j refl, h.whole)) ∙ fresh_anywhere n (j - length units)
+  behind (Some j) past = get_or-append_right units (replicate n fresh) j fresh (omega (arith, past j refl, h.whole))
+      ∙ fresh_anywhere n (j - length units)
 
   found : (place_on 0 (pools ++ more ∷ []) q ≡ place_on 0 pools q)
-      ⊎ ((place_on 0 pools q ≡ None) × ((i : ℕ) → place_on 0 (pools ++ more ∷ []) q ≡ Some i → 0 + sum_by units_in pools ≤ i))
+      ⊎ ((place_on 0 pools q ≡ None) × ((i : ℕ) → place_on 0 (pools ++ more ∷ []) q ≡ Some i
+      → 0 + sum_by units_in pools ≤ i))
       → unit_by (units ++ replicate n fresh) (place_on 0 (pools ++ more ∷ []) q) ≡ unit_by units (place_on 0 pools q)
   found (inl e) = rw e (stays (place_on 0 pools q) refl)
   found (inr x) = behind (place_on 0 (pools ++ more ∷ []) q) x.1 ∙ rw x.0 refl
 
   aligned : (b : Bool)
-      → (if b then unit_by (units ++ replicate n fresh) (place_on 0 (pools ++ more ∷ []) q) else fresh) ≡ (if b then unit_by units (place_on 0 pools q) else fresh)
+      → (if b then unit_by (units ++ replicate n fresh) (place_on 0 (pools ++ more ∷ []) q) else fresh)
+      ≡ (if b then unit_by units (place_on 0 pools q) else fresh)
   aligned false = refl
   aligned true = found (pushed_place 0 pools more q good)
 
 -- the unit of a place
-pub unit_placed : (pools : List Pool) (units : List UnitValue) (p : Prefix) (i : ℕ) (u : UnitValue) → IsPrefix p → place_on 0 pools p ≡ Some i → i < length units
+pub unit_placed : (pools : List Pool) (units : List UnitValue) (p : Prefix) (i : ℕ) (u : UnitValue) → IsPrefix p
+    → place_on 0 pools p ≡ Some i → i < length units
     → u ≡ get_or units i u → u ≡ unit_at (record { pools = pools; units = units }) p
 unfolding unit_at
 unit_placed pools units p i u good at lt is =
@@ -96,37 +110,49 @@ unit_nowhere t p e = by_test (p.address % size_of p.length == 0) where
   by_test false = refl
   by_test true = rw e refl
 
-pub disjoint_push : (pools : List Pool) (more : Pool) → AreDisjoint pools → ((q : Pool) → Has pools q → Overlaps q.prefix more.prefix → ⊥) → AreDisjoint (pools ++ more ∷ [])
+pub disjoint_push : (pools : List Pool) (more : Pool) → AreDisjoint pools
+    → ((q : Pool) → Has pools q → Overlaps q.prefix more.prefix → ⊥) → AreDisjoint (pools ++ more ∷ [])
 disjoint_push [] more d apart = (λ q has. absurd (omega (arith, has.1)), tt)
 disjoint_push (pool ∷ pools) more d apart = (
   λ q has meets. (elim (Contains-push_cases pools more q has) [
     | inl old ↦ d.0 q old meets
-    | inr same ↦ apart pool (0, omega arith, refl) (subst (λ (r : Pool). Overlaps pool.prefix r.prefix) (sym same) meets)
+    | inr same ↦ apart pool (0, omega arith, refl)
+        (subst (λ (r : Pool). Overlaps pool.prefix r.prefix) (sym same) meets)
   ]),
   disjoint_push pools more d.1 (λ q has. apart q (Contains-append_right (pool ∷ []) pools q has)),
 )
 
 -- one pool more
-pub delegable_push : (pools : List Pool) (units : List UnitValue) (marks : ℕ) (more : Pool) → IsDelegable pools units marks → IsPool more
+pub delegable_push : (pools : List Pool) (units : List UnitValue) (marks : ℕ) (more : Pool)
+    → IsDelegable pools units marks → IsPool more
     → ((q : Pool) → Has pools q → Overlaps q.prefix more.prefix → ⊥) → sum_by units_in pools + units_in more ≤ 65536
     → IsDelegable (pools ++ more ∷ []) (units ++ replicate (units_in more) fresh) marks
 delegable_push pools units marks more h good apart few =
     let all : sum_by units_in (pools ++ more ∷ []) ≡ sum_by units_in pools + units_in more
     = sum_by-append units_in pools (more ∷ []) ∙ omega (arith, sum_by-cons units_in more []) in
-    let none : sum_by mark_of (replicate (units_in more) fresh) ≡ 0 = sum_by-replicate mark_of (units_in more) fresh ∙ omega arith in
+    let none : sum_by mark_of (replicate (units_in more) fresh) ≡ 0 =
+    sum_by-replicate mark_of (units_in more) fresh ∙ omega arith in
     record {
       each = All-push IsPool pools more h.each good;
       disjoint = disjoint_push pools more h.disjoint apart;
-      whole = omega (arith, length-append units (replicate (units_in more) fresh), length-replicate (units_in more) fresh, h.whole, all);
+      whole = omega (
+        arith,
+        length-append units (replicate (units_in more) fresh),
+        length-replicate (units_in more) fresh,
+        h.whole,
+        all,
+      );
       few = omega (arith, all, few);
       marked = omega (arith, h.marked, none, sum_by-append mark_of units (replicate (units_in more) fresh));
     }
 
 -- one unit changed
-pub delegable_set : (pools : List Pool) (units : List UnitValue) (marks i : ℕ) (u was : UnitValue) → IsDelegable pools units marks → i < length units
+pub delegable_set : (pools : List Pool) (units : List UnitValue) (marks i : ℕ) (u was : UnitValue)
+    → IsDelegable pools units marks → i < length units
     → was ≡ get_or units i was → IsDelegable pools (set units i u) (marks - mark_of was + mark_of u)
 delegable_set pools units marks i u was h lt is =
-    let old : mark_of (get_or units i fresh) ≡ mark_of was = ap mark_of (get_or_default units i fresh was lt ∙ sym is) in
+    let old : mark_of (get_or units i fresh) ≡ mark_of was =
+    ap mark_of (get_or_default units i fresh was lt ∙ sym is) in
     let change = sum_by-set mark_of units i u fresh lt in
     let least = sum_by-set mark_of units i fresh fresh lt in
     record {
@@ -150,7 +176,8 @@ mark_one u = by_test u.marked where
   by_test false = omega arith
 
 -- what is filled up with fresh units
-pub filled_up : (units : List UnitValue) (to was n : ℕ) (u : UnitValue) → was ≡ length units → to ≡ length units + n → u ≡ fresh
+pub filled_up : (units : List UnitValue) (to was n : ℕ) (u : UnitValue) → was ≡ length units → to ≡ length units + n
+    → u ≡ fresh
     → take to units ++ replicate (to - was) u ≡ units ++ replicate n fresh
 filled_up units to was n u is sum e =
     let all : take to units ≡ units = take_all to units (omega arith) in

@@ -1,6 +1,6 @@
 //! The state that a server's book is in, and what each line makes of it.
 //!
-//! A state has numbers ([`Standing`]), pools ([`Pool`]) and a unit for each prefix that these delegate ([`Units`],
+//! A state has numbers ([`StateNumbers`]), pools ([`Pool`]) and a unit for each prefix that these delegate ([`Units`],
 //! found by pool and offset). `next` gives the numbers behind a line; a [`Change`] is the one unit that a line changes;
 //! [`Place`] is how far the head lines of a volume have come. Which lines may follow is said by the rules, in
 //! `book_rules`.
@@ -11,22 +11,22 @@
 //!
 //! ```text
 //! let unit = changed(&was, expired(&was.status), Status::Expired);
-//! units.change(&Some(Change { prefix, unit })); // and then standing.next(&line)
+//! units.change(&Some(Change { prefix, unit })); // and then numbers.next(&line)
 //! ```
 #![tactic(auto)]
 
+mod book_numbers;
 mod change;
 mod head_order;
-mod next_standing;
+mod next_numbers;
 mod place;
 mod pool;
-mod standing;
 mod unit_changes;
 mod units;
 
+pub use book_numbers::{GREATEST_START, StateNumbers, YEAR};
 pub use change::Change;
 pub use place::Place;
-pub use pool::{MOST_UNITS, Pool};
-pub use standing::{Standing, YEAR};
+pub use pool::{MOST_POOLS, MOST_UNITS, Pool};
 pub use unit_changes::{changed, expired, seized, unit_of};
 pub use units::Units;

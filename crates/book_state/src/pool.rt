@@ -8,6 +8,9 @@ use prefix_range::Prefix;
 /// The most units that the pools of a server have together.
 pub const MOST_UNITS: usize = 65_536;
 
+/// The most pools of a server.
+pub const MOST_POOLS: usize = 16;
+
 /// Returns how many addresses a prefix of this length has, where these aren't all addresses.
 fn addresses(length: u8) -> u128
     requires some { 1 ≤ length }

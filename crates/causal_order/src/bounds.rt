@@ -33,7 +33,7 @@ fn follows<L: Lines>(lines: &L, earlier: Ref, later: Ref) -> bool
 }
 
 /// Returns whether the references from `first` on name lines, each of which was written after the one before it.
-#[tactic(auto, using(crate::proofs::Walking::breaks_at_line, crate::proofs::Walking::breaks_at_link, crate::proofs::Walking::goes_on, crate::proofs::Walking::ends))]
+#[tactic(auto, using(crate::proofs::Walking::breaks_at_line, crate::proofs::Walking::breaks_at_link, crate::proofs::Walking::goes_on, crate::proofs::Walking::ends,))]
 fn is_chain_from<L: Lines>(lines: &L, first: Ref, rest: &[Ref]) -> bool
     ensures { result ≡ is_chain (L.journals lines.now) (first ∷ rest.now) }
 {
@@ -85,7 +85,7 @@ pub fn last_of_chain(chain: &[Ref]) -> Option<Ref>
 
 /// The moment by which the chain's first line was written: what the clock showed at its last line, and the skew,
 /// in milliseconds. `None` where it is no chain.
-#[tactic(auto, using(crate::proofs::Walking::some_latest, crate::proofs::Walking::chain_ends, crate::proofs::Walking::end_is_read))]
+#[tactic(auto, using(crate::proofs::Walking::some_latest, crate::proofs::Walking::chain_ends, crate::proofs::Walking::end_is_read,))]
 pub fn latest_of<L: Lines>(lines: &L, chain: &[Ref], skew: Skew) -> Option<i64>
     ensures { IsLatest (L.journals lines.now) chain.now skew result }
 {
@@ -99,7 +99,7 @@ pub fn latest_of<L: Lines>(lines: &L, chain: &[Ref], skew: Skew) -> Option<i64>
 
 /// The moment before which the chain's last line was not written: what the clock showed at its first line, less
 /// the skew, in milliseconds. `None` where it is no chain.
-#[tactic(auto, using(crate::proofs::Walking::some_earliest, crate::proofs::Walking::chain_begins, crate::proofs::Walking::begin_is_read))]
+#[tactic(auto, using(crate::proofs::Walking::some_earliest, crate::proofs::Walking::chain_begins, crate::proofs::Walking::begin_is_read,))]
 pub fn earliest_of<L: Lines>(lines: &L, chain: &[Ref], skew: Skew) -> Option<i64>
     ensures { IsEarliest (L.journals lines.now) chain.now skew result }
 {

@@ -10,14 +10,16 @@ use Rattle.certificate.specs.Lines.{with_cleared}
 abbrev pub clearing : Piece → Clear → Piece
 clearing p clear = record p { clear = p.clear ++ clear ∷ [] }
 
-pub cleared_last : (front : List Piece) (p : Piece) (clear : Clear) → with_cleared (front ++ p ∷ []) clear ≡ Some (front ++ clearing p clear ∷ [])
+pub cleared_last : (front : List Piece) (p : Piece) (clear : Clear)
+    → with_cleared (front ++ p ∷ []) clear ≡ Some (front ++ clearing p clear ∷ [])
 unfolding with_cleared
 cleared_last [] p clear = refl
 cleared_last (q ∷ []) p clear = refl
 cleared_last (q ∷ r ∷ front) p clear = ap (option_map (λ more. q ∷ more)) (cleared_last (r ∷ front) p clear)
 
 -- the last piece, and those before it
-pub cleared_takes : (ps qs : List Piece) (clear : Clear) → with_cleared ps clear ≡ Some qs → (front : List Piece) × (p : Piece) × (ps ≡ front ++ p ∷ []) × (qs ≡ front ++ clearing p clear ∷ [])
+pub cleared_takes : (ps qs : List Piece) (clear : Clear) → with_cleared ps clear ≡ Some qs
+    → (front : List Piece) × (p : Piece) × (ps ≡ front ++ p ∷ []) × (qs ≡ front ++ clearing p clear ∷ [])
 unfolding with_cleared
 cleared_takes [] qs clear e = absurd cc
 cleared_takes (p ∷ []) qs clear e = ([], p, refl, sym (some_is (clearing p clear ∷ []) qs e))

@@ -11,7 +11,8 @@ pub ok_is : {A : Type 0} (x y : A) → done x ≡ Ok y → x ≡ y
 ok_is x y e = cc
 
 -- the value of a step that gave one
-pub bind_ok : {A B : Type 0} (r : Result A CertificateFault) (f : A → Result B CertificateFault) (y : B) → (r >>! f) ≡ Ok y → (x : A) × (r ≡ Ok x) × (f x ≡ Ok y)
+pub bind_ok : {A B : Type 0} (r : Result A CertificateFault) (f : A → Result B CertificateFault) (y : B)
+    → (r >>! f) ≡ Ok y → (x : A) × (r ≡ Ok x) × (f x ≡ Ok y)
 bind_ok (Ok x) f y e = (x, refl, e)
 bind_ok (Err fault) f y e = absurd cc
 

@@ -29,15 +29,28 @@ letter_lacks stop Primary lt e = absurd (omega arith)
 letter_lacks stop Secondary lt e = absurd (omega arith)
 
 pub ref_lacks : (stop : ℕ) (r : Ref) → stop < 48 → IsReference r → Lacks stop (ref_text r)
-ref_lacks stop r low h = (letter_lacks stop r.side (omega arith), decimal_lacks stop r.number low (omega (arith, h.most)))
+ref_lacks stop r low h = (
+  letter_lacks stop r.side (omega arith),
+  decimal_lacks stop r.number low (omega (arith, h.most)),
+)
 
 pub links_lack : (refs : List Ref) → AllByRecursion IsReference refs → AllLack 62 (map ref_text refs)
 links_lack [] h = tt
-links_lack (r ∷ refs) h = ((letter_lacks 62 r.side (lit< tt), digits_lack (decimal r.number) (digits_decimal own r.number (omega (arith, h.0.most)))), links_lack refs h.1)
+links_lack (r ∷ refs) h = (
+  (
+    letter_lacks 62 r.side (lit< tt),
+    digits_lack (decimal r.number)
+        (digits_decimal own r.number (omega (arith, h.0.most))),
+  ),
+  links_lack refs h.1,
+)
 
-refs_lack : (stop : ℕ) (refs : List Ref) → stop < 48 → AllByRecursion IsReference refs → AllLack stop (map ref_text refs)
+refs_lack : (stop : ℕ) (refs : List Ref) → stop < 48 → AllByRecursion IsReference refs
+    → AllLack stop (map ref_text refs)
 refs_lack stop [] low h = tt
 refs_lack stop (r ∷ refs) low h = (ref_lacks stop r low h.0, refs_lack stop refs low h.1)
 
-pub chain_lacks : (stop : ℕ) (chain : List Ref) → stop < 48 → AllByRecursion IsReference chain → Lacks stop (chain_text chain)
-chain_lacks stop chain low h = Lacks-joined stop 62 (map ref_text chain) (refs_lack stop chain low h) (λ e. absurd (omega arith))
+pub chain_lacks : (stop : ℕ) (chain : List Ref) → stop < 48 → AllByRecursion IsReference chain
+    → Lacks stop (chain_text chain)
+chain_lacks stop chain low h = Lacks-joined stop 62 (map ref_text chain) (refs_lack stop chain low h)
+    (λ e. absurd (omega arith))

@@ -2,7 +2,7 @@
 use Rattle.std.specs.Prelude.{ℕ, ◌^◌, ◌≤◌, List, [], ◌∷◌, ◌++◌, length, map, codes}
 use Rattle.std.specs.Fmt.{decimal}
 use Rattle.std.specs.List.{flat_map, AllByRecursion}
-use Rattle.text_fields.specs.Cuts.{joined, ended}
+use Rattle.text_fields.specs.Cuts.{joined, with_stops}
 use Rattle.text_fields.specs.Octets.{hex}
 use Rattle.client_id.specs.Duid.{IsDuid}
 use Rattle.prefix_range.specs.Prefix.{Prefix, IsPrefix}
@@ -123,7 +123,7 @@ certificate_lines c = lines_of c ++ end_text ∷ []
 
 -- and the whole text
 abbrev pub certificate_text : Certificate → List ℕ
-certificate_text c = ended LINE_FEED (certificate_lines c)
+certificate_text c = with_stops LINE_FEED (certificate_lines c)
 
 -- ---- what is spelled
 

@@ -1,7 +1,7 @@
 //! A certificate's text, as it is written: `push_` calls append a field, `add_` calls words behind the first, or lines.
 
 ghost use Rattle.std.specs.Prelude.{◌≡◌, ◌++◌, ◌∷◌, [], map, OnOk, IfOk, IfErr, codes};
-ghost use Rattle.text_fields.specs.Cuts.{behind, ended};
+ghost use Rattle.text_fields.specs.Cuts.{behind, with_stops};
 ghost use Rattle.certificate.specs.Spelling.{ref_text, chain_text, order_words, why_words, clear_words, latest_words};
 ghost use Rattle.certificate.specs.Spelling.{reason_words, holder_words, prefix_words, interval_words, piece_words};
 ghost use Rattle.certificate.specs.Spelling.{foreign_words, line_text, opening_lines, piece_lines, certificate_text};
@@ -190,7 +190,7 @@ fn add_piece_line(out: &mut Vec<u8>, piece: &Piece) -> Result<(), AllocError>
 
 /// A piece's line and the releases' behind it.
 fn add_piece(out: &mut Vec<u8>, piece: &Piece) -> Result<(), AllocError>
-    ensures { OnOk result (out.new.items ≡ out.old.items ++ ended LINE_FEED (piece_lines piece.now)) }
+    ensures { OnOk result (out.new.items ≡ out.old.items ++ with_stops LINE_FEED (piece_lines piece.now)) }
 {
     add_piece_line(out, piece)?;
     for clear in piece.clear.as_slice() {
@@ -240,7 +240,7 @@ fn add_interval(out: &mut Vec<u8>, from: Reading, to: Reading) -> Result<(), All
 
 /// The lines before the first piece.
 fn add_opening(out: &mut Vec<u8>, certificate: &Certificate) -> Result<(), AllocError>
-    ensures { OnOk result (out.new.items ≡ out.old.items ++ ended LINE_FEED (opening_lines certificate.now)) }
+    ensures { OnOk result (out.new.items ≡ out.old.items ++ with_stops LINE_FEED (opening_lines certificate.now)) }
 {
     out.extend_from_slice(b"pd-certificate 1\n")?;
     add_holder(out, &certificate.holder)?;

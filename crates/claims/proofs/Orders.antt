@@ -1,11 +1,13 @@
 -- The order in which entries are found, as entries are added and as it is searched.
-use Rattle.std.specs.Prelude.{◌≡◌, ℕ, ◌+◌, ◌-◌, ◌^◌, ◌<◌, ◌≤◌, ◌↔◌, List, [], ◌∷◌, ◌++◌, length, All, Some, slice_get, Contains as Has}
+use Rattle.std.specs.Prelude.{◌≡◌, ℕ, ◌+◌, ◌-◌, ◌^◌, ◌<◌, ◌≤◌, ◌↔◌, List, [], ◌∷◌, ◌++◌, length, All, Some, slice_get}
+use Rattle.std.specs.Prelude.{Contains as Has}
 use Rattle.std.specs.List.{insert, between}
 use Rattle.std.specs.List.Sorted.{IsNonDecreasingBy, IsPermutation}
 use Rattle.std.proofs.Common.{zero, suc, sym, ◌∙◌, ap, subst, refl, arith, get_or, inl, inr}
 use Rattle.std.proofs.lemmas.Bool.{cases_lt}
 use Rattle.std.proofs.lemmas.List.Elements.{All-push, All-cons, All-weaker, Contains-append_right}
-use Rattle.std.proofs.lemmas.List.Sorted.{IsNonDecreasingBy-insert, IsPermutation-insert, All-permutation, Contains-permutation}
+use Rattle.std.proofs.lemmas.List.Sorted.{IsNonDecreasingBy-insert, IsPermutation-insert, All-permutation}
+use Rattle.std.proofs.lemmas.List.Sorted.{Contains-permutation}
 use Rattle.std.proofs.lemmas.Option.{slice_get_within, slice_get_cases}
 use Rattle.std.proofs.Common.{length-append}
 use Rattle.std.proofs.lemmas.List.Edits.{length-between, get_or-between}
@@ -41,7 +43,8 @@ get_last [] x = refl
 get_last (y ∷ xs) x = get_last xs x
 
 module _ {T : Type 0} (named : T → Ref) (entries : List T) (order : List ℕ) (h : IsOrder named entries order) where
-  kept_place : (x : T) (i d : ℕ) → i < length order → place_at named (entries ++ x ∷ []) (get_or order i d) ≡ place_at named entries (get_or order i d)
+  kept_place : (x : T) (i d : ℕ) → i < length order → place_at named (entries ++ x ∷ []) (get_or order i d)
+      ≡ place_at named entries (get_or order i d)
   kept_place x i d lt = ap (place_in named) (get_front entries (x ∷ []) (get_or order i d) (h.within i d lt))
 
   kept_sorted : (x : T) → IsNonDecreasingBy (place_at named (entries ++ x ∷ [])) order
@@ -59,13 +62,15 @@ module _ {T : Type 0} (named : T → Ref) (entries : List T) (order : List ℕ) 
 
   module _ (x : T) (short : (named x).number < 2 ^ 32) (behind : ℕ) (le : behind ≤ length order)
       (before : (i d : ℕ) → i < behind → place_at named entries (get_or order i d) < place_of (named x) + 1)
-      (rest : (i d : ℕ) → behind ≤ i → i < length order → place_of (named x) + 1 ≤ place_at named entries (get_or order i d)) where
+      (rest : (i d : ℕ) → behind ≤ i → i < length order → place_of (named x) + 1
+      ≤ place_at named entries (get_or order i d)) where
     same : IsPermutation (length entries ∷ order) (insert order behind (length entries))
     same = IsPermutation-insert order behind (length entries)
 
     below : All (λ k. k < length (entries ++ x ∷ [])) (length entries ∷ order)
     below = All-cons (λ k. k < length (entries ++ x ∷ [])) (length entries) order (omega (arith, long x))
-        (All-weaker (λ k. k < length entries) (λ k. k < length (entries ++ x ∷ [])) (λ k lt. omega (arith, lt, long x)) order h.within)
+        (All-weaker (λ k. k < length entries) (λ k. k < length (entries ++ x ∷ []))
+        (λ k lt. omega (arith, lt, long x)) order h.within)
 
     there : (k : ℕ) → k < length (entries ++ x ∷ []) → Has (length entries ∷ order) k
     there k lt = elim (cases_lt k (length entries)) [
@@ -74,7 +79,8 @@ module _ {T : Type 0} (named : T → Ref) (entries : List T) (order : List ℕ) 
     ]
 
     risen : IsNonDecreasingBy (place_at named (entries ++ x ∷ [])) (insert order behind (length entries))
-    risen = IsNonDecreasingBy-insert (place_at named (entries ++ x ∷ [])) order behind (length entries) (kept_sorted x) le
+    risen = IsNonDecreasingBy-insert (place_at named (entries ++ x ∷ [])) order behind (length entries)
+        (kept_sorted x) le
         (λ k d lt. omega (arith, before k d lt, kept_place x k d (omega (arith, le, lt)), new_place x))
         (λ k d ge lt. omega (arith, rest k d ge lt, kept_place x k d lt, new_place x))
 
@@ -88,32 +94,43 @@ module _ {T : Type 0} (named : T → Ref) (entries : List T) (order : List ℕ) 
 
 -- ---- the entries that name a line
 
-module _ {T : Type 0} (named : T → Ref) (entries : List T) (order : List ℕ) (h : IsOrder named entries order) (line : Ref) (first behind : ℕ)
+module _ {T : Type 0} (named : T → Ref) (entries : List T) (order : List ℕ) (h : IsOrder named entries order)
+    (line : Ref) (first behind : ℕ)
     (most : first ≤ length order) (within : behind ≤ length order)
     (before_first : (i d : ℕ) → i < first → place_at named entries (get_or order i d) < place_of line)
     (from_first : (i d : ℕ) → first ≤ i → i < length order → place_of line ≤ place_at named entries (get_or order i d))
     (before_behind : (i d : ℕ) → i < behind → place_at named entries (get_or order i d) < place_of line + 1)
-    (from_behind : (i d : ℕ) → behind ≤ i → i < length order → place_of line + 1 ≤ place_at named entries (get_or order i d)) where
+    (from_behind : (i d : ℕ) → behind ≤ i → i < length order → place_of line + 1
+    ≤ place_at named entries (get_or order i d)) where
   pub in_order : first ≤ behind
   in_order = elim (cases_lt behind first) [
-    | inl lt ↦ absurd (omega (arith, before_first behind 0 lt, from_behind behind 0 (omega arith) (omega (arith, lt, most))))
+    | inl lt ↦ absurd (omega (
+      arith,
+      before_first behind 0 lt,
+      from_behind behind 0 (omega arith) (omega (arith, lt, most)),
+    ))
     | inr le ↦ le
   ]
 
   -- an index between the two is that of an entry that names the line
-  its_line : (short : line.number < 2 ^ 32) (k : ℕ) (x : T) → slice_get entries k ≡ Some x → get_or entries k x ≡ x → place_at named entries k ≡ place_of line → named x ≡ line
+  its_line : (short : line.number < 2 ^ 32) (k : ℕ) (x : T) → slice_get entries k ≡ Some x → get_or entries k x ≡ x
+      → place_at named entries k ≡ place_of line → named x ≡ line
   its_line short k x at is same =
-      let small : (named x).number < 2 ^ 32 = subst (λ (y : T). (named y).number < 2 ^ 32) is (h.short k x (slice_get_within entries k x at)) in
+      let small : (named x).number < 2 ^ 32 =
+      subst (λ (y : T). (named y).number < 2 ^ 32) is (h.short k x (slice_get_within entries k x at)) in
       one_line (named x) line small short (sym (ap (place_in named) at) ∙ same)
 
   found : (short : line.number < 2 ^ 32) (k : ℕ) → Has (between first behind order) k → NamesAt named entries line k
   found short k has =
       let inside : first + has.0 < behind = omega (arith, has.1, length-between order first behind within) in
       let is : get_or order (first + has.0) k ≡ k = sym (get_or-between order first behind has.0 k inside) ∙ has.2 in
-      let low = subst (λ (n : ℕ). place_of line ≤ place_at named entries n) is (from_first (first + has.0) k (omega arith) (omega (arith, inside, within))) in
-      let high = subst (λ (n : ℕ). place_at named entries n < place_of line + 1) is (before_behind (first + has.0) k inside) in
+      let low = subst (λ (n : ℕ). place_of line ≤ place_at named entries n) is
+      (from_first (first + has.0) k (omega arith) (omega (arith, inside, within))) in
+      let high = subst (λ (n : ℕ). place_at named entries n < place_of line + 1) is
+      (before_behind (first + has.0) k inside) in
       let same : place_at named entries k ≡ place_of line = omega (arith, low, high) in
-      let lt : k < length entries = subst (λ (n : ℕ). n < length entries) is (h.within (first + has.0) k (omega (arith, inside, within))) in
+      let lt : k < length entries = subst (λ (n : ℕ). n < length entries) is
+      (h.within (first + has.0) k (omega (arith, inside, within))) in
       elim (slice_get_cases entries k).1 [
         | inl c ↦ (c.0, c.2, its_line short k c.0 c.2 c.3 same)
         | inr c ↦ absurd (omega (arith, c.0, lt))
@@ -122,12 +139,22 @@ module _ {T : Type 0} (named : T → Ref) (entries : List T) (order : List ℕ) 
   listed : (k : ℕ) → NamesAt named entries line k → Has (between first behind order) k
   listed k n =
       let at = h.whole k (slice_get_within entries k n.0 n.1) in
-      let same : place_at named entries (get_or order at.0 k) ≡ place_of line = ap (place_at named entries) at.2 ∙ (ap (place_in named) n.1 ∙ ap place_of n.2) in
-      let low : first ≤ at.0 = elim (cases_lt at.0 first) [ inl lt ↦ absurd (omega (arith, before_first at.0 k lt, same)) | inr le ↦ le ] in
-      let high : at.0 < behind = elim (cases_lt at.0 behind) [ inl lt ↦ lt | inr le ↦ absurd (omega (arith, from_behind at.0 k le at.1, same)) ] in (
+      let same : place_at named entries (get_or order at.0 k) ≡ place_of line =
+      ap (place_at named entries) at.2 ∙ (ap (place_in named) n.1 ∙ ap place_of n.2) in
+      let low : first ≤ at.0 = elim (cases_lt at.0 first) [
+        | inl lt ↦
+            absurd (omega (arith, before_first at.0 k lt, same))
+        | inr le ↦ le
+      ] in
+      let high : at.0 < behind = elim (cases_lt at.0 behind) [
+        | inl lt ↦ lt
+        | inr le ↦ absurd (omega (arith, from_behind at.0 k le at.1, same))
+      ] in (
         at.0 - first,
         omega (arith, low, high, length-between order first behind within),
-        get_or-between order first behind (at.0 - first) k (omega (arith, low, high)) ∙ (ap (λ (i : ℕ). get_or order i k) (let z : first + (at.0 - first) ≡ at.0 = omega (arith, low) in z) ∙ at.2),
+        get_or-between order first behind (at.0 - first) k (omega (arith, low, high))
+            ∙ (ap (λ (i : ℕ). get_or order i k) (let z : first + (at.0 - first) ≡ at.0 = omega (arith, low) in z)
+            ∙ at.2),
       )
 
   pub named_between : line.number < 2 ^ 32 → (k : ℕ) → Has (between first behind order) k ↔ NamesAt named entries line k

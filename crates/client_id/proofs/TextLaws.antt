@@ -1,5 +1,7 @@
 -- The identifier that is read of a text is spelled so, and an identifier that is spelled is read again.
-use Rattle.std.proofs.Common.{◌≡◌, ℕ, ◌-◌, ◌<◌, ◌≤◌, ◌≢◌, ◌^◌, take, Bool, true, false, cond, eqb, ltb, List, length, [], ◌∷◌, ◌/◌, ◌%◌, inl, inr, zero, suc, get_or, Option, Some, None, Result, Ok, Err, refl, sym, ap, subst, ◌∙◌, arith}
+use Rattle.std.proofs.Common.{◌≡◌, ℕ, ◌-◌, ◌<◌, ◌≤◌, ◌≢◌, ◌^◌, take, Bool, true, false, cond, eqb, ltb, List, length}
+use Rattle.std.proofs.Common.{[], ◌∷◌, ◌/◌, ◌%◌, inl, inr, zero, suc, get_or, Option, Some, None, Result, Ok, Err, refl}
+use Rattle.std.proofs.Common.{sym, ap, subst, ◌∙◌, arith}
 use Rattle.std.proofs.Math.Seq.{take-append_seam}
 use Rattle.std.specs.Prelude.{option_map, is_some, replicate}
 use Rattle.std.specs.Int.{w32, to_be_bytes, from_be_bytes}
@@ -17,7 +19,8 @@ use Rattle.client_id.specs.Duid.{IsDuid, IsHex, iaid_text, duid_in, duid_by, dui
 
 -- ---- lengths
 
-chosen_length : (a b : Bool) (octets d : List ℕ) → cond a (Err TooShort) (cond b (Err TooLong) (Ok octets)) ≡ Ok d → (a ≡ false) × (b ≡ false) × (octets ≡ d)
+chosen_length : (a b : Bool) (octets d : List ℕ) → cond a (Err TooShort) (cond b (Err TooLong) (Ok octets)) ≡ Ok d
+    → (a ≡ false) × (b ≡ false) × (octets ≡ d)
 chosen_length true b octets d e = absurd cc
 chosen_length false true octets d e = absurd cc
 chosen_length false false octets d e = (refl, refl, cc)
@@ -37,7 +40,8 @@ not_hex false false octets e = cc
 
 -- ---- DUIDs
 
-by_takes : (o : Option (List ℕ)) (d : List ℕ) → duid_by o ≡ Ok d → (octets : List ℕ) × (o ≡ Some octets) × (duid_in octets ≡ Ok d)
+by_takes : (o : Option (List ℕ)) (d : List ℕ) → duid_by o ≡ Ok d
+    → (octets : List ℕ) × (o ≡ Some octets) × (duid_in octets ≡ Ok d)
 by_takes None d e = absurd cc
 by_takes (Some octets) d e = (octets, refl, e)
 
@@ -68,7 +72,8 @@ some_spells : (text : List ℕ) (o : Option (List ℕ)) → octets_of text ≡ o
 some_spells text None e h = refl
 some_spells text (Some octets) e h = let t = octets_take text octets e in absurd (h (octets, t.1, t.0))
 
-pub hex_fault : (text : List ℕ) → (duid_of text ≡ Err Hex → IsHex text → ⊥) × ((IsHex text → ⊥) → duid_of text ≡ Err Hex)
+pub hex_fault : (text : List ℕ) → (duid_of text ≡ Err Hex → IsHex text → ⊥)
+    × ((IsHex text → ⊥) → duid_of text ≡ Err Hex)
 unfolding duid_of
 hex_fault text = (
   λ e h. (let s = spells text h in none_is s.0 (sym (by_hex (octets_of text) e) ∙ s.1)),
@@ -125,14 +130,17 @@ pub short_fault : (text : List ℕ) → is_some (octets_of text) ≡ true → le
 short_fault text e lt = sym (short_hex text e lt)
 
 -- octets that are no identifier, and not too few, are too many
-pub long_fault : (text : List ℕ) → is_some (octets_of text) ≡ true → 6 ≤ length text → duid_word text ≡ None → Err TooLong ≡ duid_of text
+pub long_fault : (text : List ℕ) → is_some (octets_of text) ≡ true → 6 ≤ length text → duid_word text ≡ None
+    → Err TooLong ≡ duid_of text
 long_fault text e least none =
     let s = some_of (octets_of text) e in
     let o = octets_take text s.0 s.1 in
     let long = ap length o.0 ∙ length-hex s.0 in
     elim (cases_lt 130 (length s.0)) [
       | inl lt ↦ sym (long_hex text e (omega (arith, long, lt)))
-      | inr le ↦ (let is : duid_of text ≡ Ok s.0 = duid_found text s.0 s.1 ∙ in_again s.0 (record { fits = o.1; least = omega (arith, long); most = le }) in let some = ap found_duid is in absurd cc)
+      | inr le ↦ (let is : duid_of text ≡ Ok s.0 = duid_found text s.0 s.1
+          ∙ in_again s.0 (record { fits = o.1; least = omega (arith, long); most = le }) in
+          let some = ap found_duid is in absurd cc)
     ]
 
 -- the lengths of words that spell identifiers
@@ -141,7 +149,9 @@ none_found None h = refl
 none_found (Some d) h = absurd (h d refl)
 
 pub wrong_length : (word : List ℕ) → (6 ≤ length word → length word ≤ 260 → length word % 2 ≢ 0) → duid_word word ≡ None
-wrong_length word wrong = none_found (duid_word word) (λ d e. let t = duid_word_takes word d e in let long = ap length t.0 ∙ length-hex d in wrong (omega (arith, long, t.1.least)) (omega (arith, long, t.1.most)) (omega (arith, long)))
+wrong_length word wrong = none_found (duid_word word) (λ d e. let t = duid_word_takes word d e in
+    let long = ap length t.0 ∙ length-hex d in
+    wrong (omega (arith, long, t.1.least)) (omega (arith, long, t.1.most)) (omega (arith, long)))
 
 pub word_found : (r : Result (List ℕ) ClientIdError) (d : List ℕ) → found_duid r ≡ Some d → Ok d ≡ r
 word_found r d e = sym (word_by r d e)
@@ -154,14 +164,24 @@ no_digits text e = ap found_duid (no_hex text (unmapped (octets_of text) e))
     unmapped None e = refl
     unmapped (Some x) e = absurd cc
 
-pub read_octets : (text bytes : List ℕ) → 6 ≤ length text → length text ≤ 260 → option_map padded (octets_of text) ≡ Some bytes → (IsPadded bytes (length text / 2)) × (duid_word text ≡ Some (take (length text / 2) bytes))
+pub read_octets : (text bytes : List ℕ) → 6 ≤ length text → length text ≤ 260
+    → option_map padded (octets_of text) ≡ Some bytes → (IsPadded bytes (length text / 2))
+    × (duid_word text ≡ Some (take (length text / 2) bytes))
 read_octets text bytes least most e =
     let m = map_some (octets_of text) padded bytes e in
     let o = octets_take text m.0 m.1 in
     let count : length text / 2 ≡ length m.0 = omega (arith, ap length o.0, length-hex m.0) in
     let fits = is_padded m.0 o.1 (omega (arith, count)) (omega (arith, count)) in
-    let front : take (length text / 2) bytes ≡ m.0 = ap (λ (n : ℕ). take n bytes) count ∙ (ap (λ (b : List ℕ). take (length m.0) b) (sym m.2) ∙ take-append_seam m.0 (replicate (130 - length m.0) 0)) in
-    (subst (λ (n : ℕ). IsPadded bytes n) (sym count) (subst (λ (b : List ℕ). IsPadded b (length m.0)) m.2 fits), ap found_duid (duid_found text m.0 m.1 ∙ in_again m.0 (record { fits = o.1; least = omega (arith, count); most = omega (arith, count) })) ∙ ap (λ (x : List ℕ). Some x) (sym front))
+    let front : take (length text / 2) bytes ≡ m.0 = ap (λ (n : ℕ). take n bytes) count
+    ∙ (ap (λ (b : List ℕ). take (length m.0) b) (sym m.2) ∙ take-append_seam m.0 (replicate (130 - length m.0) 0))
+    in (
+      subst (λ (n : ℕ). IsPadded bytes n) (sym count) (subst (λ (b : List ℕ). IsPadded b (length m.0)) m.2 fits),
+      ap found_duid (duid_found text m.0 m.1 ∙ in_again m.0 (record {
+        fits = o.1;
+        least = omega (arith, count);
+        most = omega (arith, count);
+      })) ∙ ap (λ (x : List ℕ). Some x) (sym front),
+    )
 
 -- ---- IAIDs
 
@@ -200,9 +220,14 @@ encode_digit (suc (suc (suc (suc (suc (suc (suc (suc (suc (suc (suc (suc zero)))
 encode_digit (suc (suc (suc (suc (suc (suc (suc (suc (suc (suc (suc (suc (suc zero))))))))))))) lt = refl
 encode_digit (suc (suc (suc (suc (suc (suc (suc (suc (suc (suc (suc (suc (suc (suc zero)))))))))))))) lt = refl
 encode_digit (suc (suc (suc (suc (suc (suc (suc (suc (suc (suc (suc (suc (suc (suc (suc zero))))))))))))))) lt = refl
-encode_digit (suc (suc (suc (suc (suc (suc (suc (suc (suc (suc (suc (suc (suc (suc (suc (suc n)))))))))))))))) lt = absurd (omega arith)
+encode_digit (suc (suc (suc (suc (suc (suc (suc (suc (suc (suc (suc (suc (suc (suc (suc (suc n)))))))))))))))) lt =
+    absurd (omega arith)
 
 pub encoded : (octets : List ℕ) → AreOctets octets → encode_lower octets ≡ hex octets
 unfolding encode_with
 encoded [] h = refl
-encoded (x ∷ octets) h = rw (encode_digit (x / 16) (omega arith), encode_digit (x % 16) (omega arith), encoded octets h.1) refl
+encoded (x ∷ octets) h = rw (
+  encode_digit (x / 16) (omega arith),
+  encode_digit (x % 16) (omega arith),
+  encoded octets h.1,
+) refl

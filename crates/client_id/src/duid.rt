@@ -93,7 +93,7 @@ fn fill(text: &[u8], bytes: &mut [u8; 130]) -> Option<()>
 }
 
 /// Why a text spells no identifier: first a fault of its digits, then one of its length.
-#[tactic(auto, using(crate::proofs::TextLaws::hex_fault_is, crate::proofs::TextLaws::short_fault, crate::proofs::TextLaws::long_fault))]
+#[tactic(auto, using(crate::proofs::TextLaws::hex_fault_is, crate::proofs::TextLaws::short_fault, crate::proofs::TextLaws::long_fault,))]
 fn fault_of(text: &[u8]) -> ClientIdError
     requires { duid_word text.now ≡ None }
     ensures { Err result ≡ duid_of text.now }

@@ -4,17 +4,18 @@ use Rattle.std.proofs.Common.{refl, ap, ◌∙◌, arith}
 use Rattle.journal_lines.specs.declared.line.Line.{Line}
 use Rattle.journal_lines.specs.declared.line.Journal.{Journal}
 use Rattle.journal_lines.specs.Head.{volume_number}
-use Rattle.book_state.specs.Book.{Book, blank}
+use Rattle.book_state.specs.Book.{BookState, blank}
 use Rattle.book_state.specs.Effects.{after}
 use Rattle.book_rules.specs.Volumes.{book_after}
 use Rattle.order_book.specs.Answer.{reply_to}
 use Rattle.order_book.specs.Replayed.{state_of, with_line}
 use Rattle.locked_book.specs.declared.receipt.Receipt.{Receipt}
-use Rattle.locked_book.specs.Serving.{line_at, last_receipt, Stands}
+use Rattle.locked_book.specs.Serving.{line_at, last_receipt, ReceiptStands}
 use Rattle.client_service.specs.Lines.{receipts_from, receipts_of}
 
 -- the receipt at a place is that of the line there
-at_place : (count : ℕ) (b : Book) (ls : List Line) (i : ℕ) (r : Receipt) → slice_get (receipts_from count b ls) i ≡ Some r
+at_place : (count : ℕ) (b : BookState) (ls : List Line) (i : ℕ) (r : Receipt)
+    → slice_get (receipts_from count b ls) i ≡ Some r
     → (r.number ≡ count + i + 1) × (slice_get ls i ≡ Some r.line)
 at_place count b [] i r h = absurd cc
 at_place count b (l ∷ ls) zero r h =
@@ -26,13 +27,14 @@ at_place count b (l ∷ ls) (suc i) r h =
     let number = rest.0 in
     (omega (arith, number), rest.1)
 
-stands_if : (ls : List Line) (found : Option Receipt) → ((r : Receipt) → found ≡ Some r → line_at ls r.number ≡ Some r.line)
-    → Stands ls found
+stands_if : (ls : List Line) (found : Option Receipt)
+    → ((r : Receipt) → found ≡ Some r → line_at ls r.number ≡ Some r.line)
+    → ReceiptStands ls found
 stands_if ls None h = tt
 stands_if ls (Some r) h = h r refl
 
 -- the last of them stands
-pub last_stands : (j : Journal) → Stands j.lines (last_receipt (receipts_of j))
+pub last_stands : (j : Journal) → ReceiptStands j.lines (last_receipt (receipts_of j))
 last_stands j =
     let all = receipts_of j in
     stands_if j.lines (last_receipt all) (λ r h.
@@ -41,9 +43,10 @@ last_stands j =
     let place : r.number ≡ suc (length all - 1) = omega (arith, number) in
     ap (λ n. line_at j.lines n) place ∙ at.1)
 
-further : (count n : ℕ) (b : Book) (ls : List Line) (l : Line) → n ≡ count + length ls + 1
+further : (count n : ℕ) (b : BookState) (ls : List Line) (l : Line) → n ≡ count + length ls + 1
     → receipts_from count b (ls ++ l ∷ [])
-    ≡ receipts_from count b ls ++ record { number = n; line = l; reply = reply_to (book_after b ls) l.reading l.event } ∷ []
+    ≡ receipts_from count b ls ++ record { number = n; line = l; reply = reply_to (book_after b ls) l.reading l.event }
+    ∷ []
 further count n b [] l is =
     let same : count + 1 ≡ n = omega (arith, is) in
     ap (λ k. record { number = k; line = l; reply = reply_to b l.reading l.event } ∷ []) same

@@ -66,12 +66,14 @@ module _ (MayHave : List Receipt → Journal → Type 0) (partner : Partner) (m 
         let told = told_more (take count m.ias) answers first.0 had h.0 t.answer h.2.0 first.2 ends in (
           first.0 ++ h.2.0,
           h.2.1 ∙ (ap (λ rs. rs ++ h.2.0) first.1 ∙ append_assoc had first.0 h.2.0),
-          subst (λ ias. AreTold MayHave partner m now had ias (answers ++ t.answer ∷ []) (first.0 ++ h.2.0)) (sym more) told,
+          subst (λ ias. AreTold MayHave partner m now had ias (answers ++ t.answer ∷ []) (first.0 ++ h.2.0))
+              (sym more) told,
           ap (λ o. or_earlier o line) h.2.3 ∙ (ap (λ o. or_earlier (last_number h.2.0) o) first.3
               ∙ sym (last_number-append first.0 h.2.0)),
         )
 
-    pub first_pushed : (t : Told) (told : List IaAnswer) (last : Option ℕ) → EndsAt MayHave partner m now count mid has (Ok t)
+    pub first_pushed : (t : Told) (told : List IaAnswer) (last : Option ℕ)
+        → EndsAt MayHave partner m now count mid has (Ok t)
         → told ≡ answers ++ t.answer ∷ [] → last ≡ or_earlier t.line line
         → AreFirstTold MayHave partner m now (count + 1) had has told last
     first_pushed t told last h pushed later =

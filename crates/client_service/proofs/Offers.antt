@@ -37,26 +37,30 @@ module _ (MayHave : List Receipt → Journal → Type 0) (now : ℕ) where
   takeover had r h = ap (λ e. if is_takeover e then None else Some r.number) h.2.3.1.line.named
 
   numbers_nothing : (partner : Partner) (had : List Receipt) (order : Order) (added : List Receipt)
-      (result : Result IaAnswer ServeError) → Ends MayHave partner Solicit now had order added result → last_number added ≡ None
+      (result : Result IaAnswer ServeError) → Ends MayHave partner Solicit now had order added result
+      → last_number added ≡ None
   numbers_nothing Up had order added result h = ap (λ rs. last_number rs) (at_once_nothing had order added result h)
   numbers_nothing Down had order added result (inl h) =
       ap (λ rs. last_number rs) (at_once_nothing had order added result h.1)
   numbers_nothing Down had order added result (inr more) =
       elim more.goes_on [
         | inl h ↦
-            ap (λ rs. last_number rs) (h.2 ∙ ap (λ rs. h.0 ∷ rs) (at_once_nothing (had ++ h.0 ∷ []) order h.1 result h.4))
+            ap (λ rs. last_number rs) (h.2 ∙ ap (λ rs. h.0 ∷ rs)
+            (at_once_nothing (had ++ h.0 ∷ []) order h.1 result h.4))
             ∙ takeover had h.0 h.3
         | inr h ↦ ap (λ rs. last_number rs) h.0
       ]
 
   module _ (m : ClientMessage) (solicit : m.kind ≡ Solicit) where
-    of_solicit : (partner : Partner) (had : List Receipt) (ia : IaPd) (added : List Receipt) (result : Result IaAnswer ServeError)
+    of_solicit : (partner : Partner) (had : List Receipt) (ia : IaPd) (added : List Receipt)
+        (result : Result IaAnswer ServeError)
         → Ends MayHave partner m.kind now had (order_for m ia) added result
         → Ends MayHave partner Solicit now had (order_for m ia) added result
     of_solicit partner had ia added result h =
         subst (λ kind. Ends MayHave partner kind now had (order_for m ia) added result) solicit h
 
-    advertises : (partner : Partner) (had : List Receipt) (ias : List IaPd) (answers : List IaAnswer) (added : List Receipt)
+    advertises : (partner : Partner) (had : List Receipt) (ias : List IaPd) (answers : List IaAnswer)
+        (added : List Receipt)
         → AreTold MayHave partner m now had ias answers added → last_number added ≡ None
     advertises partner had [] [] added h = ap (λ rs. last_number rs) h
     advertises partner had [] (a ∷ answers) added h = absurd h
@@ -77,11 +81,13 @@ module _ (MayHave : List Receipt → Journal → Type 0) (now : ℕ) where
         let own = at_once_nothing had (order_for m ia) h.0 (Ok a) (of_solicit Up had ia h.0 (Ok a) h.3) in
         h.2 ∙ (ap (λ rs. rs ++ h.1) own ∙ adds_nothing (had ++ h.0) ias answers h.1 h.4)
 
-    refused_nothing : (had has : List Receipt) (e : ServeError) → IsSilent MayHave Up [] m now had has (Refused e) → has ≡ had
+    refused_nothing : (had has : List Receipt) (e : ServeError) → IsSilent MayHave Up [] m now had has (Refused e)
+        → has ≡ had
     refused_nothing had has e h =
         let t = h.2 in
         let before = adds_nothing had (take t.0 m.ias) t.2 t.3 t.7 in
-        let last = at_once_nothing (had ++ t.3) (order_for m t.1) t.4 (Err e) (of_solicit Up (had ++ t.3) t.1 t.4 (Err e) t.8) in
+        let last = at_once_nothing (had ++ t.3) (order_for m t.1) t.4 (Err e)
+        (of_solicit Up (had ++ t.3) t.1 t.4 (Err e) t.8) in
         let none = t.6 ∙ (ap (λ rs. rs ++ t.4) before ∙ last) in
         h.1 ∙ (ap (λ rs. had ++ rs) none ∙ append-nil had)
 

@@ -89,7 +89,8 @@ module _ (MayHave : List Receipt → Journal → Type 0) (now : ℕ) (order : Or
 
 -- ---- takeovers
 
-module _ (MayHave : List Receipt → Journal → Type 0) (kind : ClientKind) (now : ℕ) (order : Order) (had mid has : List Receipt)
+module _ (MayHave : List Receipt → Journal → Type 0) (kind : ClientKind) (now : ℕ) (order : Order)
+    (had mid has : List Receipt)
     (told : Told) (lacks : told.answer ≡ NoPrefix) (first : EndsIn MayHave kind now order had mid (Ok told)) where
   nothing_added : (k : ClientKind) (added : List Receipt) → IsToldAs MayHave k now had order added NoPrefix → added ≡ []
   nothing_added Solicit added h = h.0
@@ -116,17 +117,20 @@ module _ (MayHave : List Receipt → Journal → Type 0) (kind : ClientKind) (no
   takeover_number : (r : Receipt) → IsSeizeServed MayHave now had (Ok r) → number_of r ≡ None
   takeover_number r h = ap (λ e. if is_takeover e then None else Some r.number) h.2.3.1.line.named
 
-  numbered : (r : Receipt) (rest : List Receipt) (result : Result Told ServeError) → IsSeizeServed MayHave now had (Ok r)
+  numbered : (r : Receipt) (rest : List Receipt) (result : Result Told ServeError)
+      → IsSeizeServed MayHave now had (Ok r)
       → IsNumbered rest result → IsNumbered (r ∷ rest) result
   numbered r rest (Ok t) h number =
-      number ∙ (sym (or_none (last_number rest)) ∙ ap (λ o. or_earlier (last_number rest) o) (sym (takeover_number r h)))
+      number ∙ (sym (or_none (last_number rest))
+      ∙ ap (λ o. or_earlier (last_number rest) o) (sym (takeover_number r h)))
   numbered r rest (Err e) h number = tt
 
   pub once_more : (behind : List Receipt) (result : Result Told ServeError) → Seizes MayHave now mid behind (Ok true)
       → EndsIn MayHave kind now order behind has result → EndsAs MayHave Down kind now order had has result
   once_more behind result seized again =
       let r = seized.0 in
-      let taken : IsSeizeServed MayHave now had (Ok r) = subst (λ rs. IsSeizeServed MayHave now rs (Ok r)) unchanged seized.2 in
+      let taken : IsSeizeServed MayHave now had (Ok r) =
+      subst (λ rs. IsSeizeServed MayHave now rs (Ok r)) unchanged seized.2 in
       let at : behind ≡ had ++ r ∷ [] = seized.1 ∙ ap (λ rs. rs ++ r ∷ []) unchanged in (
         r ∷ again.0,
         again.1 ∙ (ap (λ rs. rs ++ again.0) at ∙ append_assoc had (r ∷ []) again.0),
@@ -154,7 +158,8 @@ module _ (MayHave : List Receipt → Journal → Type 0) (kind : ClientKind) (no
     no_number,
   )
 
-  pub ends_strange : (e : ServeError) → Seizes MayHave now mid has (Err e) → EndsAs MayHave Down kind now order had has (Err e)
+  pub ends_strange : (e : ServeError) → Seizes MayHave now mid has (Err e)
+      → EndsAs MayHave Down kind now order had has (Err e)
   ends_strange e strange = (
     [],
     none_added had has (strange.0 ∙ unchanged),

@@ -5,7 +5,7 @@ use Rattle.journal_lines.specs.declared.event.Event.TheVariants.{Seize}
 use Rattle.journal_lines.specs.declared.line.Line.{Line}
 use Rattle.journal_lines.specs.declared.line.Journal.{Journal}
 use Rattle.journal_lines.specs.Head.{volume_number}
-use Rattle.book_state.specs.Book.{Book, blank}
+use Rattle.book_state.specs.Book.{BookState, blank}
 use Rattle.book_state.specs.Effects.{after}
 use Rattle.order_book.specs.Answer.{reply_to}
 use Rattle.locked_book.specs.declared.receipt.Receipt.{Receipt}
@@ -13,7 +13,7 @@ use Rattle.locked_book.specs.declared.receipt.Receipt.{Receipt}
 -- ---- a book that nobody else serves
 
 -- a receipt for each line behind so many, each with the reply that the line had
-abbrev pub receipts_from : ℕ → Book → List Line → List Receipt
+abbrev pub receipts_from : ℕ → BookState → List Line → List Receipt
 receipts_from count b [] = []
 receipts_from count b (l ∷ ls) =
     record { number = count + 1; line = l; reply = reply_to b l.reading l.event }

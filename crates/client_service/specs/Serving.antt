@@ -9,7 +9,7 @@ use Rattle.order_book.specs.Replayed.{IsLegal, state_of}
 use Rattle.locked_book.specs.declared.receipt.Receipt.{Receipt}
 use Rattle.locked_book.specs.declared.error.ServeError.{ServeError}
 use Rattle.locked_book.specs.declared.error.ServeError.TheVariants.{Stranger}
-use Rattle.locked_book.specs.Serving.{last_receipt, Stands, IsStrange, IsPassServed, IsOffered}
+use Rattle.locked_book.specs.Serving.{last_receipt, ReceiptStands, IsStrange, IsPassServed, IsPassOffered}
 
 -- at a legal journal that the book may have, of whom these receipts are known
 abbrev pub AtJournal : (List Receipt → Journal → Type 0) → List Receipt → (Journal → Type 0) → Type 0
@@ -25,14 +25,14 @@ IsOrderServed MayHave now had order result =
 abbrev pub IsOfferMade : (List Receipt → Journal → Type 0) → ℕ → List Receipt → Order
     → Result (Prefix × ℕ) ServeError → Type 0
 IsOfferMade MayHave now had order result =
-    AtJournal MayHave had (λ j. IsOffered j (last_receipt had) now order result)
+    AtJournal MayHave had (λ j. IsPassOffered j (last_receipt had) now order result)
 
 -- at a journal, for whoever had this receipt last: the lowest unit that may be taken over
-abbrev pub IsSeizable : Journal → Option Receipt → ℕ → Result (Option Prefix) ServeError → Type 0
-IsSeizable j last now (Ok found) = Stands j.lines last × IsLeastOf (IsToSeize (state_of j) now) found
-IsSeizable j last now (Err (Stranger number line)) = IsStrange j.lines last number line
-IsSeizable j last now (Err _) = ⊥
+abbrev pub IsSeizableFor : Journal → Option Receipt → ℕ → Result (Option Prefix) ServeError → Type 0
+IsSeizableFor j last now (Ok found) = ReceiptStands j.lines last × IsLeastOf (IsToSeize (state_of j) now) found
+IsSeizableFor j last now (Err (Stranger number line)) = IsStrange j.lines last number line
+IsSeizableFor j last now (Err _) = ⊥
 
 abbrev pub IsSeizableFound : (List Receipt → Journal → Type 0) → ℕ → List Receipt
     → Result (Option Prefix) ServeError → Type 0
-IsSeizableFound MayHave now had result = AtJournal MayHave had (λ j. IsSeizable j (last_receipt had) now result)
+IsSeizableFound MayHave now had result = AtJournal MayHave had (λ j. IsSeizableFor j (last_receipt had) now result)

@@ -18,7 +18,7 @@ use Rattle.server_book.specs.declared.messages.IaAnswer.TheVariants.{Given, NoPr
 use Rattle.locked_book.specs.declared.receipt.Receipt.{Receipt}
 use Rattle.locked_book.specs.declared.error.ServeError.{ServeError}
 use Rattle.locked_book.specs.declared.error.ServeError.TheVariants.{Book, Stranger}
-use Rattle.locked_book.specs.Serving.{last_receipt, Stands}
+use Rattle.locked_book.specs.Serving.{last_receipt, ReceiptStands}
 use Rattle.client_service.specs.declared.partner.Partner.{Partner}
 use Rattle.client_service.specs.declared.partner.Partner.TheVariants.{Up, Down}
 use Rattle.client_service.specs.Serving.{AtJournal, IsOrderServed, IsOfferMade, IsSeizableFound}
@@ -42,7 +42,7 @@ abbrev pub ByRefusal : (List Receipt → Journal → Type 0) → ℕ → List Re
     → Type 0
 ByRefusal MayHave now had order added e =
     (added ≡ [])
-    × AtJournal MayHave had (λ j. Stands j.lines (last_receipt had) × IsFirstRefusal (state_of j) now order e)
+    × AtJournal MayHave had (λ j. ReceiptStands j.lines (last_receipt had) × IsFirstRefusal (state_of j) now order e)
 
 -- an order that was served: what its line granted, or released
 abbrev pub IsServedAs : (List Receipt → Journal → Type 0) → ℕ → List Receipt → Order → List Receipt → IaAnswer

@@ -4,7 +4,7 @@ ghost use Rattle.std.specs.Prelude.{◌≡◌, ◌<◌, length, IfOk, IfErr, Mat
 ghost use Rattle.client_service.specs.Ending.{AreAllTold, IsCutShort, EndsAt};
 ghost use Rattle.client_service.specs.Lines.{or_earlier};
 
-use crate::ordering::ended;
+use crate::ordering::at_last;
 use crate::partner::Partner;
 use crate::service::Service;
 use crate::silence::Silence;
@@ -33,7 +33,7 @@ fn or_earlier(line: Option<u32>, earlier: Option<u32>) -> Option<u32>
 }
 
 /// Returns what the message's IA_PD at a place ends in, counted from 0.
-fn ended_at<S: Service>(
+fn at_last_for<S: Service>(
     service: &S,
     pass: &mut S::Pass,
     partner: Partner,
@@ -45,7 +45,7 @@ fn ended_at<S: Service>(
     ensures { EndsAt S.may_have partner message.now now place (S.receipts pass.old) (S.receipts pass.new) result }
 {
     match order_of(message, place) {
-        Some(order) => ended(service, pass, partner, message.kind, now, &order),
+        Some(order) => at_last(service, pass, partner, message.kind, now, &order),
         None => unreachable!(),
     }
 }
@@ -68,7 +68,7 @@ pub(crate) fn all_told<S: Service>(
     let mut answers = Vec::new(alloc);
     let mut line = None;
     for place in 0..message.ias.as_slice().len() {
-        let told = match ended_at(service, pass, partner, now, message, place) {
+        let told = match at_last_for(service, pass, partner, now, message, place) {
             Ok(told) => told,
             Err(refusal) => return Err(Silence::Refused(refusal)),
         };

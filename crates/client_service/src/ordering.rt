@@ -129,7 +129,7 @@ fn seizes<S: Service>(service: &S, pass: &mut S::Pass, now: Reading) -> Result<b
 
 /// Returns what an order of a message of this type ends in. Where no prefix is left and the partner is down, a unit is
 /// taken over, and it is ordered once more.
-pub(crate) fn ended<S: Service>(
+pub(crate) fn at_last<S: Service>(
     service: &S,
     pass: &mut S::Pass,
     partner: Partner,

@@ -1,5 +1,6 @@
 -- How long the first text of the input is.
-use Rattle.std.proofs.Common.{◌≡◌, ◌≢◌, ℕ, ◌+◌, ◌≤◌, Bool, true, false, cond, List, [], ◌∷◌, length, refl, ap, length-append, arith}
+use Rattle.std.proofs.Common.{◌≡◌, ◌≢◌, ℕ, ◌+◌, ◌≤◌, Bool, true, false, cond, List, [], ◌∷◌, length, refl, ap}
+use Rattle.std.proofs.Common.{length-append, arith}
 use Rattle.text_fields.specs.Cuts.{joined, split}
 use Rattle.text_fields.proofs.CutLaws.{joined-split}
 use Rattle.desk_intake.specs.Input.{begins_with_end, first_length, text_length}
@@ -13,15 +14,19 @@ goes_by true n later e = absurd cc
 goes_by false n later e = refl
 
 -- a line that others follow
-pub line_ends : (line : List ℕ) (rest : List (List ℕ)) → rest ≢ [] → begins_with_end line ≡ true → first_length (line ∷ rest) ≡ length line + 1
+pub line_ends : (line : List ℕ) (rest : List (List ℕ)) → rest ≢ [] → begins_with_end line ≡ true
+    → first_length (line ∷ rest) ≡ length line + 1
 unfolding first_length
 line_ends line [] some t = absurd (some refl)
-line_ends line (next ∷ rest) some t = ends_by (begins_with_end line) line (length line + 1 + first_length (next ∷ rest)) t
+line_ends line (next ∷ rest) some t = ends_by (begins_with_end line) line
+    (length line + 1 + first_length (next ∷ rest)) t
 
-pub line_goes : (line : List ℕ) (rest : List (List ℕ)) → rest ≢ [] → begins_with_end line ≡ false → first_length (line ∷ rest) ≡ length line + 1 + first_length rest
+pub line_goes : (line : List ℕ) (rest : List (List ℕ)) → rest ≢ [] → begins_with_end line ≡ false
+    → first_length (line ∷ rest) ≡ length line + 1 + first_length rest
 unfolding first_length
 line_goes line [] some t = absurd (some refl)
-line_goes line (next ∷ rest) some t = goes_by (begins_with_end line) (length line + 1) (length line + 1 + first_length (next ∷ rest)) t
+line_goes line (next ∷ rest) some t = goes_by (begins_with_end line) (length line + 1)
+    (length line + 1 + first_length (next ∷ rest)) t
 
 -- no text is longer than the input
 least_by : (b : Bool) (n later most : ℕ) → n ≤ most → later ≤ most → cond b n later ≤ most
@@ -35,7 +40,8 @@ first_within (last ∷ []) = omega arith
 first_within (line ∷ next ∷ lines) =
     let whole = length-append line (10 ∷ joined 10 (next ∷ lines)) in
     let rest = first_within (next ∷ lines) in
-    least_by (begins_with_end line) (length line + 1) (length line + 1 + first_length (next ∷ lines)) (length (joined 10 (line ∷ next ∷ lines))) (omega (arith, whole)) (omega (arith, whole, rest))
+    least_by (begins_with_end line) (length line + 1) (length line + 1 + first_length (next ∷ lines))
+    (length (joined 10 (line ∷ next ∷ lines))) (omega (arith, whole)) (omega (arith, whole, rest))
 
 pub text_within : (input : List ℕ) → text_length input ≤ length input
 text_within input = omega (arith, first_within (split 10 input), ap length (joined-split 10 input))

@@ -21,16 +21,16 @@ TakesAll has_taken old given new =
     (input : List ℕ) × TakesOn has_taken old input new × IfSome given (λ all. all ≡ input)
 
 -- this is the first text, whatever follows
-abbrev pub IsWhole : List ℕ → Type 0
-IsWhole text = (more : List ℕ) → text_length (text ++ more) ≡ length text
+abbrev pub IsWholeText : List ℕ → Type 0
+IsWholeText text = (more : List ℕ) → text_length (text ++ more) ≡ length text
 
 -- the input's first text stays, whatever follows
-abbrev pub HasEnded : List ℕ → Type 0
-HasEnded input = (more : List ℕ) → text_length (input ++ more) ≡ text_length input
+abbrev pub TextHasEnded : List ℕ → Type 0
+TextHasEnded input = (more : List ℕ) → text_length (input ++ more) ≡ text_length input
 
 -- The input's first text goes on, in a line that begins with these octets: whatever follows, as much of that belongs to
 -- it as behind these octets alone.
-pub record GoesOn (input line : List ℕ) : Type 0 where
+pub record TextGoesOn (input line : List ℕ) : Type 0 where
   pub unbroken : Lacks 10 line
   pub alike : (more : List ℕ) → text_length (input ++ more) + length line ≡ length input + text_length (line ++ more)
 
@@ -38,7 +38,7 @@ pub record GoesOn (input line : List ℕ) : Type 0 where
 -- line that begins so.
 pub record HasTakenFirst (side : Role) (intake : JournalIntake) (input : List ℕ) : Type 0 where
   pub read : HasParsed (journal_of_side side) intake.reader (first_text input)
-  pub stands : MatchOption intake.line (HasEnded input) (λ line. GoesOn input line.items)
+  pub stands : MatchOption intake.line (TextHasEnded input) (λ line. TextGoesOn input line.items)
 
 -- the intake has taken this input: journal A and journal B, as far as they have come, B's text all that follows A's
 pub record HasTakenPair (intake : PairIntake) (input : List ℕ) : Type 0 where
@@ -46,7 +46,7 @@ pub record HasTakenPair (intake : PairIntake) (input : List ℕ) : Type 0 where
   pub secondary : HasParsed (journal_of_side Secondary) intake.secondary (text_behind input)
 
 -- the intake has taken this input: journal A, journal B and the certificate, as far as they have come
-pub record HasTaken (intake : Intake) (input : List ℕ) : Type 0 where
+pub record IntakeHasTaken (intake : Intake) (input : List ℕ) : Type 0 where
   pub primary : HasTakenFirst Primary intake.primary input
   pub secondary : HasTakenFirst Secondary intake.secondary (text_behind input)
   pub certificate : intake.certificate.items ≡ text_behind (text_behind input)

@@ -6,7 +6,7 @@ ghost use Rattle.binding_rules.specs.declared.role.Role.TheVariants.{Primary as 
 ghost use Rattle.journal_text.specs.Closed.{IsClosed};
 ghost use Rattle.journal_text.specs.Faults.{journal_of_side};
 ghost use Rattle.desk_intake.specs.Input.{first_text, text_behind};
-ghost use Rattle.desk_intake.specs.Intake.{HasTaken};
+ghost use Rattle.desk_intake.specs.Intake.{IntakeHasTaken};
 
 use crate::error::DeskError;
 use crate::journal_intake::JournalIntake;
@@ -36,7 +36,7 @@ pub struct ReadInput {
 impl Intake {
     /// An intake that has taken nothing.
     pub fn new(alloc: Global) -> Intake
-        ensures { HasTaken result [] }
+        ensures { IntakeHasTaken result [] }
     {
         Intake {
             primary: JournalIntake::new(alloc, Role::Primary),
@@ -48,12 +48,12 @@ impl Intake {
     /// The journals of the input that was taken, and what follows them.
     pub fn finish(self) -> ReadInput
         // What was made by `new` and `take` has taken some input.
-        requires { (input : List ℕ) × HasTaken self input }
-        ensures primary { (input : List ℕ) → HasTaken self input
+        requires { (input : List ℕ) × IntakeHasTaken self input }
+        ensures primary { (input : List ℕ) → IntakeHasTaken self input
             → result.primary ≡ journal_of_side A (first_text input) }
-        ensures secondary { (input : List ℕ) → HasTaken self input
+        ensures secondary { (input : List ℕ) → IntakeHasTaken self input
             → result.secondary ≡ journal_of_side B (first_text (text_behind input)) }
-        ensures rest { (input : List ℕ) → HasTaken self input
+        ensures rest { (input : List ℕ) → IntakeHasTaken self input
             → result.rest.items ≡ text_behind (text_behind input) }
         ensures primary_closed { ForOk result.primary (λ journal. IsClosed journal.lines) }
         ensures secondary_closed { ForOk result.secondary (λ journal. IsClosed journal.lines) }
@@ -69,7 +69,7 @@ impl Intake {
 }
 
 impl Taking for Intake {
-    ghost has_taken = { HasTaken };
+    ghost has_taken = { IntakeHasTaken };
 
     // A journal's fault is kept, and what follows is still taken.
     fn take<H: Threads + Sync>(

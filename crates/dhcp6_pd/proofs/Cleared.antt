@@ -14,6 +14,8 @@ cleared_host length address =
     ap (λ (n : ℕ). n % s) e ∙ mul-mod_left (address / s) s
 
 pub prefix_made : (octets : List ℕ) (p : Prefix) → 25 ≤ length octets → slice_index octets 8 ≤ 128
-    → p ≡ record { address = cleared (slice_index octets 8) (address_of octets); length = slice_index octets 8 } → prefix_in octets ≡ Ok p
+    → p ≡ record { address = cleared (slice_index octets 8) (address_of octets); length = slice_index octets 8 }
+    → prefix_in octets ≡ Ok p
 unfolding prefix_in
-prefix_made octets p whole short e = rw (le-ltb (length octets) 25 whole, le-ltb 128 (slice_index octets 8) short) (ap (λ (x : Prefix). Ok x) (sym e))
+prefix_made octets p whole short e = rw (le-ltb (length octets) 25 whole, le-ltb 128 (slice_index octets 8) short)
+    (ap (λ (x : Prefix). Ok x) (sym e))

@@ -14,7 +14,8 @@ pub record IsOther (code : ℕ) : Type 0 where
   pub ia : (code == IA_PD) ≡ false
 
 -- what holds of each code that is read and of all others holds of every code
-pub by_code : (P : ℕ → Type 0) → P CLIENT_ID → P SERVER_ID → P RELAY_MESSAGE → P INTERFACE_ID → P IA_PD → ((code : ℕ) → IsOther code → P code) → (code : ℕ) → P code
+pub by_code : (P : ℕ → Type 0) → P CLIENT_ID → P SERVER_ID → P RELAY_MESSAGE → P INTERFACE_ID → P IA_PD
+    → ((code : ℕ) → IsOther code → P code) → (code : ℕ) → P code
 by_code P client server relayed interface ia other code =
     elim (cases_eq code CLIENT_ID) [
       | inl e ↦ subst P (sym e) client
@@ -50,5 +51,13 @@ pub record SameData (o : DhcpOption) (options : List DhcpOption) : Type 0 where
 abbrev pub option_of : ℕ → List ℕ → DhcpOption
 option_of code octets = record { code = code; octets = octets }
 
-pub same_data : (code : ℕ) (octets : List ℕ) (options : List DhcpOption) → IsOther code → SameData (option_of code octets) options
-same_data code octets options h = record { client = rw h.client refl; server = rw h.server refl; relayed = rw h.relayed refl; interface = rw h.interface refl; ia = rw h.ia refl }
+pub same_data : (code : ℕ) (octets : List ℕ) (options : List DhcpOption) → IsOther code
+    → SameData (option_of code octets) options
+same_data code octets options h = record {
+  client = rw h.client refl;
+  server = rw h.server refl;
+  relayed =
+      rw h.relayed refl;
+  interface = rw h.interface refl;
+  ia = rw h.ia refl;
+}

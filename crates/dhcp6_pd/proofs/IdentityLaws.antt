@@ -1,5 +1,6 @@
 -- What is read is what the octets spell.
-use Rattle.std.proofs.Common.{◌≡◌, ℕ, suc, ◌<◌, get_or, List, [], ◌∷◌, Option, Some, None, Result, Ok, Err, refl, ap, subst, ◌∙◌}
+use Rattle.std.proofs.Common.{◌≡◌, ℕ, suc, ◌<◌, get_or, List, [], ◌∷◌, Option, Some, None, Result, Ok, Err, refl, ap}
+use Rattle.std.proofs.Common.{subst, ◌∙◌}
 use Rattle.std.specs.Prelude.{IfOk, if◌then◌else◌}
 use Rattle.std.specs.Str.{bytes_eq}
 use Rattle.std.proofs.lemmas.Slice.Eq.{bytes_eq-Decides}
@@ -18,18 +19,23 @@ use Rattle.dhcp6_pd.specs.Answers.{Gives}
 use Rattle.dhcp6_pd.proofs.Binds.{bind_ok, allowed, ok_is}
 use Rattle.dhcp6_pd.proofs.MessageLaws.{message_takes, message_again}
 
-pub untested_takes : (octets : List ℕ) (u : UntestedMessage) → AreOctets octets → message_in MAX_RELAYS octets ≡ Ok u → SpellsUntested octets u
+pub untested_takes : (octets : List ℕ) (u : UntestedMessage) → AreOctets octets → message_in MAX_RELAYS octets ≡ Ok u
+    → SpellsUntested octets u
 untested_takes octets u fits e = let h = message_takes MAX_RELAYS octets u fits e in record { spelled = h.0; few = h.1 }
 
-pub untested_again : (octets : List ℕ) (u : UntestedMessage) → SpellsUntested octets u → message_in MAX_RELAYS octets ≡ Ok u
+pub untested_again : (octets : List ℕ) (u : UntestedMessage) → SpellsUntested octets u
+    → message_in MAX_RELAYS octets ≡ Ok u
 untested_again octets u h = message_again u.relays MAX_RELAYS octets u h.spelled h.few
 
 -- ---- the identifiers
 
-same_server : (own server : List ℕ) → (let r : Result (Unit {0}) PdFault = if bytes_eq server own then Ok tt else Err NotOurs in r) ≡ Ok tt → Some server ≡ Some own
-same_server own server e = ap (λ (x : List ℕ). Some x) ((bytes_eq-Decides server own).0 (allowed {A = Unit {0}} (bytes_eq server own) NotOurs (Ok tt) tt e).0)
+same_server : (own server : List ℕ) → (let r : Result (Unit {0}) PdFault =
+    if bytes_eq server own then Ok tt else Err NotOurs in r) ≡ Ok tt → Some server ≡ Some own
+same_server own server e = ap (λ (x : List ℕ). Some x)
+    ((bytes_eq-Decides server own).0 (allowed {A = Unit {0}} (bytes_eq server own) NotOurs (Ok tt) tt e).0)
 
-server_takes : (own : List ℕ) (kind : ClientKind) (server : Option (List ℕ)) → for_server own kind server ≡ Ok tt → server ≡ server_for own kind
+server_takes : (own : List ℕ) (kind : ClientKind) (server : Option (List ℕ)) → for_server own kind server ≡ Ok tt
+    → server ≡ server_for own kind
 unfolding for_server
 server_takes own Solicit None e = refl
 server_takes own Solicit (Some server) e = absurd cc
@@ -54,7 +60,8 @@ client_some : (o : Option (List ℕ)) (client : List ℕ) → or_no_client o ≡
 client_some None client e = absurd cc
 client_some (Some x) client e = ap (λ (y : List ℕ). Some y) (ok_is x client e)
 
-identified_takes : (own : List ℕ) (u : UntestedMessage) (m : ClientMessage) → identified own u ≡ Ok m → u ≡ addressed own m
+identified_takes : (own : List ℕ) (u : UntestedMessage) (m : ClientMessage) → identified own u ≡ Ok m
+    → u ≡ addressed own m
 unfolding identified
 identified_takes own u m e =
     let c = bind_ok (or_no_client u.client) _ m e in
@@ -69,7 +76,8 @@ identified_again own m = rw (server_again own m.kind) refl
 
 -- ---- the message
 
-pub message_of_takes : (own octets : List ℕ) (m : ClientMessage) → AreOctets octets → message_of own octets ≡ Ok m → Spells own octets m
+pub message_of_takes : (own octets : List ℕ) (m : ClientMessage) → AreOctets octets → message_of own octets ≡ Ok m
+    → Spells own octets m
 message_of_takes own octets m fits e =
     let b = bind_ok (message_in MAX_RELAYS octets) (identified own) m e in
     subst (SpellsUntested octets) (identified_takes own b.0 m b.2) (untested_takes octets b.0 fits b.1)
@@ -83,9 +91,12 @@ pub are_octets : (octets : List ℕ) → ((k : ℕ) → get_or octets k 0 < 256)
 are_octets [] h = tt
 are_octets (x ∷ octets) h = (h 0, are_octets octets (λ k. h (suc k)))
 
-pub is_found : (own octets : List ℕ) (r : Result ClientMessage PdError) → AreOctets octets → Gives (λ m. m) r (message_of own octets) → IfOk r (λ m. Spells own octets m)
+pub is_found : (own octets : List ℕ) (r : Result ClientMessage PdError) → AreOctets octets
+    → Gives (λ m. m) r (message_of own octets) → IfOk r (λ m. Spells own octets m)
 is_found own octets (Ok m) fits h = message_of_takes own octets m fits h
 is_found own octets (Err e) fits h = tt
 
-pub is_only : (own octets : List ℕ) (r : Result ClientMessage PdError) (m : ClientMessage) → Gives (λ x. x) r (message_of own octets) → Spells own octets m → Gives (λ x. x) r (Ok m)
-is_only own octets r m h spelled = subst (λ (parsed : Result ClientMessage PdFault). Gives (λ x. x) r parsed) (message_of_again own octets m spelled) h
+pub is_only : (own octets : List ℕ) (r : Result ClientMessage PdError) (m : ClientMessage)
+    → Gives (λ x. x) r (message_of own octets) → Spells own octets m → Gives (λ x. x) r (Ok m)
+is_only own octets r m h spelled = subst (λ (parsed : Result ClientMessage PdFault). Gives (λ x. x) r parsed)
+    (message_of_again own octets m spelled) h

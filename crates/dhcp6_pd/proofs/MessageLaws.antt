@@ -1,10 +1,13 @@
 -- What is read is a message in its relays, whatever its identifiers are.
-use Rattle.std.proofs.Common.{◌≡◌, ℕ, zero, suc, ◌≤◌, Bool, true, false, List, [], ◌∷◌, length, take, drop, Option, Some, None, Result, Ok, Err, refl, sym, ap, subst, ◌∙◌, arith, le-ltb}
+use Rattle.std.proofs.Common.{◌≡◌, ℕ, zero, suc, ◌≤◌, Bool, true, false, List, [], ◌∷◌, length, take, drop, Option}
+use Rattle.std.proofs.Common.{Some, None, Result, Ok, Err, refl, sym, ap, subst, ◌∙◌, arith, le-ltb}
 use Rattle.std.specs.Prelude.{◌==◌, slice_index, if◌then◌else◌}
 use Rattle.std.proofs.lemmas.Bool.{ltb-false, eqb-true, eq-eqb}
 use Rattle.std.specs.List.{AllByRecursion}
 use Rattle.text_fields.specs.Octets.{AreOctets}
-use Rattle.dhcp6_pd.specs.declared.numbers.TheConstants.{CLIENT_ID, SERVER_ID, RELAY_MESSAGE, INTERFACE_ID, IA_PD, SOLICIT, REQUEST, RENEW, REBIND, RELEASE, RELAY_FORWARD, MAX_IAS}
+use Rattle.dhcp6_pd.specs.declared.numbers.TheConstants.{CLIENT_ID, SERVER_ID, RELAY_MESSAGE, INTERFACE_ID, IA_PD}
+use Rattle.dhcp6_pd.specs.declared.numbers.TheConstants.{SOLICIT, REQUEST, RENEW, REBIND, RELEASE, RELAY_FORWARD}
+use Rattle.dhcp6_pd.specs.declared.numbers.TheConstants.{MAX_IAS}
 use Rattle.dhcp6_pd.specs.declared.error.PdFault.{PdFault}
 use Rattle.dhcp6_pd.specs.declared.error.PdFault.TheVariants.{TooDeep}
 use Rattle.dhcp6_pd.specs.declared.message.ClientKind.{ClientKind}
@@ -18,10 +21,12 @@ use Rattle.dhcp6_pd.specs.declared.untested.UntestedMessage.{UntestedMessage}
 use Rattle.dhcp6_pd.specs.Options.{DhcpOption, IsOption, data_of}
 use Rattle.dhcp6_pd.specs.Rows.{Row, row_of, folded}
 use Rattle.dhcp6_pd.specs.Grammar.{type_of, listed, SpellIas, SpellsClient, SpellsRelay, SpellsFrom}
-use Rattle.dhcp6_pd.specs.Faults.{client_option, no_client_options, kind_of, client_message, client_in, relay_option, no_relay_options, to_message, or_short, relay_of, by_relay, relay_in, or_ignored, by_type, message_in}
+use Rattle.dhcp6_pd.specs.Faults.{client_option, no_client_options, kind_of, client_message, client_in, relay_option}
+use Rattle.dhcp6_pd.specs.Faults.{no_relay_options, to_message, or_short, relay_of, by_relay, relay_in, or_ignored}
+use Rattle.dhcp6_pd.specs.Faults.{by_type, message_in}
 use Rattle.dhcp6_pd.proofs.Binds.{bind_ok, passed, ok_is}
 use Rattle.dhcp6_pd.proofs.Wholes.{folded_whole, are_options, row_is, octets_drop}
-use Rattle.dhcp6_pd.proofs.OnceLaws.{Once, Marks, AddsIas}
+use Rattle.dhcp6_pd.proofs.OnceLaws.{Once, Sees, AddsIas}
 use Rattle.dhcp6_pd.proofs.ClientOptionLaws.{AddsToClient, client_options_takes, client_options_again}
 use Rattle.dhcp6_pd.proofs.RelayOptionLaws.{Stands, AddsToRelay}
 use Rattle.dhcp6_pd.proofs.HeldLaws.{held_takes, held_again}
@@ -30,7 +35,8 @@ use Rattle.dhcp6_pd.proofs.HeldLaws.{held_takes, held_again}
 
 pub kind_takes : (x : ℕ) (kind : ClientKind) → kind_of x ≡ Some kind → x ≡ type_of kind
 unfolding kind_of
-kind_takes x kind e = by (x == SOLICIT) (x == REQUEST) (x == RENEW) (x == REBIND) (x == RELEASE) refl refl refl refl refl e
+kind_takes x kind e = by (x == SOLICIT) (x == REQUEST) (x == RENEW) (x == REBIND)
+    (x == RELEASE) refl refl refl refl refl e
   where
     some_is : (a b : ClientKind) → Some a ≡ Some b → a ≡ b
     some_is a b e = cc
@@ -38,8 +44,10 @@ kind_takes x kind e = by (x == SOLICIT) (x == REQUEST) (x == RENEW) (x == REBIND
     is : (n : ℕ) (a : ClientKind) → (x == n) ≡ true → n ≡ type_of a → Some a ≡ Some kind → x ≡ type_of kind
     is n a t same e = eqb-true x n t ∙ (same ∙ ap type_of (some_is a kind e))
 
-    by : (a b c d f : Bool) → (x == SOLICIT) ≡ a → (x == REQUEST) ≡ b → (x == RENEW) ≡ c → (x == REBIND) ≡ d → (x == RELEASE) ≡ f
-        → (if a then Some Solicit else if b then Some Request else if c then Some Renew else if d then Some Rebind else if f then Some Release else None) ≡ Some kind → x ≡ type_of kind
+    by : (a b c d f : Bool) → (x == SOLICIT) ≡ a → (x == REQUEST) ≡ b → (x == RENEW) ≡ c → (x == REBIND) ≡ d
+        → (x == RELEASE) ≡ f
+        → (if a then Some Solicit else if b then Some Request else if c then Some Renew else if d then Some Rebind else
+        if f then Some Release else None) ≡ Some kind → x ≡ type_of kind
     by true b c d f ta tb tc td tf e = is SOLICIT Solicit ta refl e
     by false true c d f ta tb tc td tf e = is REQUEST Request tb refl e
     by false false true d f ta tb tc td tf e = is RENEW Renew tc refl e
@@ -57,19 +65,19 @@ kind_again Release = (refl, refl)
 
 -- ---- an option that stands once or not at all
 
-pub marks_once : (before after : Bool) (all : List (List ℕ)) → Marks before all after → length all ≤ 1
-marks_once before after [] h = omega arith
-marks_once before after (octets ∷ all) h = let none = h.1 in omega (arith, ap length none)
+pub sees_once : (before after : Bool) (all : List (List ℕ)) → Sees before all after → length all ≤ 1
+sees_once before after [] h = omega arith
+sees_once before after (octets ∷ all) h = let none = h.1 in omega (arith, ap length none)
 
 -- whether an option stands there
 abbrev pub stood : List (List ℕ) → Bool
 stood [] = false
 stood (octets ∷ all) = true
 
-pub marks_of : (all : List (List ℕ)) → length all ≤ 1 → Marks false all (stood all)
-marks_of [] few = refl
-marks_of (octets ∷ []) few = (refl, refl, refl)
-marks_of (octets ∷ more ∷ all) few = absurd (omega arith)
+pub sees_of : (all : List (List ℕ)) → length all ≤ 1 → Sees false all (stood all)
+sees_of [] few = refl
+sees_of (octets ∷ []) few = (refl, refl, refl)
+sees_of (octets ∷ more ∷ all) few = absurd (omega arith)
 
 -- ---- a client's message
 
@@ -77,18 +85,21 @@ none_yet : length no_client_options.ias ≤ MAX_IAS
 none_yet = omega arith
 
 -- an identifier that stands once or not at all
-once_listed : (slot : Option (List ℕ)) (all : List (List ℕ)) → Once None all slot → (all ≡ listed slot) × AllByRecursion IsDuid (listed slot)
+once_listed : (slot : Option (List ℕ)) (all : List (List ℕ)) → Once None all slot
+    → (all ≡ listed slot) × AllByRecursion IsDuid (listed slot)
 once_listed slot [] h = rw h (refl, tt)
 once_listed slot (duid ∷ all) h = rw (h.3, h.2) (refl, (h.1, tt))
 
-once_again : (slot : Option (List ℕ)) (all : List (List ℕ)) → all ≡ listed slot → AllByRecursion IsDuid (listed slot) → Once None all slot
+once_again : (slot : Option (List ℕ)) (all : List (List ℕ)) → all ≡ listed slot → AllByRecursion IsDuid (listed slot)
+    → Once None all slot
 once_again None all is h = rw is refl
 once_again (Some duid) all is h = rw is (refl, h.0, refl, refl)
 
 ias_of : (all : List (List ℕ)) (ias : List IaPd) → AddsIas [] all ias → SpellIas all ias
 ias_of all ias h = subst (SpellIas all) (sym h.joined) h.spelled
 
-client_takes : (kind : ClientKind) (octets : List ℕ) (u : UntestedMessage) → AreOctets octets → slice_index octets 0 ≡ type_of kind → client_in kind octets ≡ Ok u → (u.relays ≡ []) × SpellsClient octets u
+client_takes : (kind : ClientKind) (octets : List ℕ) (u : UntestedMessage) → AreOctets octets
+    → slice_index octets 0 ≡ type_of kind → client_in kind octets ≡ Ok u → (u.relays ≡ []) × SpellsClient octets u
 unfolding client_in
 client_takes kind octets u fits type e =
     let long = passed _ _ _ u e in
@@ -96,10 +107,12 @@ client_takes kind octets u fits type e =
     let kept = b.0 in
     let all = folded_whole client_option no_client_options kept (row_of (drop 4 octets)) b.1 in
     let options = are_options all.0 (drop 4 octets) (octets_drop 4 octets fits) all.1 in
-    let adds = client_options_takes all.0 no_client_options kept options.each (ap (folded client_option no_client_options) (sym all.1) ∙ b.1) in
+    let adds = client_options_takes all.0 no_client_options kept options.each
+    (ap (folded client_option no_client_options) (sym all.1) ∙ b.1) in
     let client = once_listed kept.client (data_of CLIENT_ID all.0) adds.client in
     let server = once_listed kept.server (data_of SERVER_ID all.0) adds.server in
-    subst (λ (x : UntestedMessage). (x.relays ≡ []) × SpellsClient octets x) (ok_is (client_message kind octets kept) u b.2) (
+    subst (λ (x : UntestedMessage). (x.relays ≡ []) × SpellsClient octets x)
+    (ok_is (client_message kind octets kept) u b.2) (
       refl,
       record {
         whole = ltb-false (length octets) 4 long.0;
@@ -111,14 +124,15 @@ client_takes kind octets u fits type e =
         client_duid = client.1;
         server = server.0;
         server_duid = server.1;
-        relayed = marks_once false kept.relayed (data_of RELAY_MESSAGE all.0) adds.relayed;
-        interface = marks_once false kept.interface (data_of INTERFACE_ID all.0) adds.interface;
+        relayed = sees_once false kept.relayed (data_of RELAY_MESSAGE all.0) adds.relayed;
+        interface = sees_once false kept.interface (data_of INTERFACE_ID all.0) adds.interface;
         ias = ias_of (data_of IA_PD all.0) kept.ias adds.ias;
         few = adds.ias.few none_yet;
       },
     )
 
-client_again : (octets : List ℕ) (u : UntestedMessage) → SpellsClient octets u → client_in u.kind octets ≡ Ok (record u { relays = [] })
+client_again : (octets : List ℕ) (u : UntestedMessage) → SpellsClient octets u
+    → client_in u.kind octets ≡ Ok (record u { relays = [] })
 unfolding client_in
 client_again octets u h =
     let kept : ClientOptions = record {
@@ -131,21 +145,25 @@ client_again octets u h =
     let adds : AddsToClient no_client_options h.options kept = record {
       client = once_again u.client (data_of CLIENT_ID h.options) h.client h.client_duid;
       server = once_again u.server (data_of SERVER_ID h.options) h.server h.server_duid;
-      relayed = marks_of (data_of RELAY_MESSAGE h.options) h.relayed;
-      interface = marks_of (data_of INTERFACE_ID h.options) h.interface;
+      relayed = sees_of (data_of RELAY_MESSAGE h.options) h.relayed;
+      interface = sees_of (data_of INTERFACE_ID h.options) h.interface;
       ias = record { new = u.ias; spelled = h.ias; joined = refl; few = λ _. h.few };
     } in
-    let all : folded client_option no_client_options (row_of (drop 4 octets)) ≡ Ok kept = ap (folded client_option no_client_options) (row_is (drop 4 octets) h.options h.spelled) ∙ client_options_again h.options no_client_options kept h.few adds in
+    let all : folded client_option no_client_options (row_of (drop 4 octets)) ≡ Ok kept =
+    ap (folded client_option no_client_options) (row_is (drop 4 octets) h.options h.spelled)
+    ∙ client_options_again h.options no_client_options kept h.few adds in
     rw (le-ltb (length octets) 4 h.whole, all) (ap (λ (x : List ℕ). Ok (record u { relays = []; xid = x })) (sym h.xid))
 
 -- ---- a relay's message
 
 -- an option's data are octets
-data_fits : (code : ℕ) (options : List DhcpOption) (octets : List ℕ) (more : List (List ℕ)) → AllByRecursion IsOption options → data_of code options ≡ octets ∷ more → AreOctets octets
+data_fits : (code : ℕ) (options : List DhcpOption) (octets : List ℕ) (more : List (List ℕ))
+    → AllByRecursion IsOption options → data_of code options ≡ octets ∷ more → AreOctets octets
 data_fits code [] octets more each e = absurd cc
 data_fits code (o ∷ options) octets more each e = by (o.code == code) (data_fits code options octets more each.1) e
   where
-    by : (this : Bool) → (data_of code options ≡ octets ∷ more → AreOctets octets) → (if this then o.octets ∷ data_of code options else data_of code options) ≡ octets ∷ more → AreOctets octets
+    by : (this : Bool) → (data_of code options ≡ octets ∷ more → AreOctets octets)
+        → (if this then o.octets ∷ data_of code options else data_of code options) ≡ octets ∷ more → AreOctets octets
     by true later e = let same : o.octets ≡ octets = cc in subst AreOctets same each.0.octets
     by false later e = later e
 
@@ -153,8 +171,10 @@ stands_listed : (after : Option (List ℕ)) (all : List (List ℕ)) → Stands N
 stands_listed after [] h = ap listed (sym h)
 stands_listed after (octets ∷ all) h = ap (λ (xs : List (List ℕ)). octets ∷ xs) h.1 ∙ ap listed (sym h.2)
 
-relay_takes : (parse : List ℕ → Result UntestedMessage PdFault) (octets : List ℕ) (h : UntestedMessage) → AreOctets octets → slice_index octets 0 ≡ RELAY_FORWARD → relay_in parse octets ≡ Ok h
-    → (u : UntestedMessage) × (r : Relay) × (inside : List ℕ) × AreOctets inside × (parse inside ≡ Ok u) × SpellsRelay octets r inside × (by_relay r u ≡ h)
+relay_takes : (parse : List ℕ → Result UntestedMessage PdFault) (octets : List ℕ) (h : UntestedMessage)
+    → AreOctets octets → slice_index octets 0 ≡ RELAY_FORWARD → relay_in parse octets ≡ Ok h
+    → (u : UntestedMessage) × (r : Relay) × (inside : List ℕ) × AreOctets inside × (parse inside ≡ Ok u)
+    × SpellsRelay octets r inside × (by_relay r u ≡ h)
 unfolding relay_in relay_of
 relay_takes parse octets h fits type e =
     let long = passed _ _ _ h e in
@@ -162,7 +182,8 @@ relay_takes parse octets h fits type e =
     let some = bind_ok (or_short up.0.1) _ h up.2 in
     let inner = bind_ok (parse some.0.0) _ h some.2 in
     let last = bind_ok (folded relay_option up.0.0 some.0.1) _ h inner.2 in
-    let found : to_message no_relay_options (row_of (drop 34 octets)) ≡ Ok (up.0.0, Some (some.0.0, some.0.1)) = up.1 ∙ ap (λ (x : Option (List ℕ × Row)). Ok (up.0.0, x)) (short_some up.0.1 some.0 some.1) in
+    let found : to_message no_relay_options (row_of (drop 34 octets)) ≡ Ok (up.0.0, Some (some.0.0, some.0.1)) =
+    up.1 ∙ ap (λ (x : Option (List ℕ × Row)). Ok (up.0.0, x)) (short_some up.0.1 some.0 some.1) in
     let holds = held_takes (row_of (drop 34 octets)) some.0.1 no_relay_options up.0.0 last.0 some.0.0 found last.1 in
     let options = are_options holds.options (drop 34 octets) (octets_drop 34 octets fits) holds.is in (
       inner.0,
@@ -180,8 +201,8 @@ relay_takes parse octets h fits type e =
         spelled = options;
         held = holds.only;
         interface = stands_listed last.0.interface (data_of INTERFACE_ID holds.options) holds.adds.interface;
-        client = marks_once false last.0.client (data_of CLIENT_ID holds.options) holds.adds.client;
-        server = marks_once false last.0.server (data_of SERVER_ID holds.options) holds.adds.server;
+        client = sees_once false last.0.client (data_of CLIENT_ID holds.options) holds.adds.client;
+        server = sees_once false last.0.server (data_of SERVER_ID holds.options) holds.adds.server;
       },
       ok_is _ _ last.2,
     )
@@ -194,32 +215,55 @@ pub stands_of : (interface : Option (List ℕ)) → Stands None (listed interfac
 stands_of None = refl
 stands_of (Some octets) = (refl, refl, refl)
 
-relay_again : (parse : List ℕ → Result UntestedMessage PdFault) (octets : List ℕ) (r : Relay) (inside : List ℕ) (u : UntestedMessage) → SpellsRelay octets r inside → parse inside ≡ Ok u → relay_in parse octets ≡ Ok (by_relay r u)
+relay_again : (parse : List ℕ → Result UntestedMessage PdFault) (octets : List ℕ) (r : Relay) (inside : List ℕ)
+    (u : UntestedMessage) → SpellsRelay octets r inside → parse inside ≡ Ok u
+    → relay_in parse octets ≡ Ok (by_relay r u)
 unfolding relay_in relay_of
 relay_again parse octets r inside u h e =
-    let last : RelayOptions = record { client = stood (data_of CLIENT_ID h.options); server = stood (data_of SERVER_ID h.options); relayed = true; interface = r.interface } in
-    let held : Marks false (inside ∷ []) true = (refl, refl, refl) in
+    let last : RelayOptions = record {
+      client = stood (data_of CLIENT_ID h.options);
+      server =
+          stood (data_of SERVER_ID h.options);
+      relayed = true;
+      interface = r.interface;
+    } in
+    let held : Sees false (inside ∷ []) true = (refl, refl, refl) in
     let adds : AddsToRelay no_relay_options h.options last = record {
-      client = marks_of (data_of CLIENT_ID h.options) h.client;
-      server = marks_of (data_of SERVER_ID h.options) h.server;
-      relayed = subst (λ (xs : List (List ℕ)). Marks false xs true) (sym h.held) held;
+      client = sees_of (data_of CLIENT_ID h.options) h.client;
+      server = sees_of (data_of SERVER_ID h.options) h.server;
+      relayed = subst (λ (xs : List (List ℕ)). Sees false xs true) (sym h.held) held;
       interface = subst (λ (xs : List (List ℕ)). Stands None xs r.interface) (sym h.interface) (stands_of r.interface);
     } in
     let at = held_again h.options no_relay_options last inside adds h.held in
-    let found : to_message no_relay_options (row_of (drop 34 octets)) ≡ Ok (at.up, Some (inside, at.left)) = ap (to_message no_relay_options) (row_is (drop 34 octets) h.options h.spelled) ∙ at.found in
+    let found : to_message no_relay_options (row_of (drop 34 octets)) ≡ Ok (at.up, Some (inside, at.left)) =
+    ap (to_message no_relay_options) (row_is (drop 34 octets) h.options h.spelled) ∙ at.found in
     let same : relay_of octets last ≡ r =
-    ap (λ (x : ℕ). record { hops = x; link = take 16 (drop 2 octets); peer = take 16 (drop 18 octets); interface = r.interface }) (sym h.hops)
-    ∙ (ap (λ (x : List ℕ). record { hops = r.hops; link = x; peer = take 16 (drop 18 octets); interface = r.interface }) (sym h.link)
+    ap (λ (x : ℕ). record {
+      hops = x;
+      link = take 16 (drop 2 octets);
+      peer = take 16 (drop 18 octets);
+      interface =
+          r.interface;
+    }) (sym h.hops)
+    ∙ (ap (λ (x : List ℕ). record {
+      hops = r.hops;
+      link = x;
+      peer = take 16 (drop 18 octets);
+      interface =
+          r.interface;
+    }) (sym h.link)
     ∙ ap (λ (x : List ℕ). record { hops = r.hops; link = r.link; peer = x; interface = r.interface }) (sym h.peer)) in
     rw (le-ltb (length octets) 34 h.whole, found, e, at.rest) (ap (λ (x : Relay). Ok (by_relay x u)) same)
 
 -- ---- the message and its relays
 
 -- a message of a type that no relay's has
-other_takes : (x : ℕ) (octets : List ℕ) (u : UntestedMessage) → AreOctets (x ∷ octets) → or_ignored (kind_of x) (x ∷ octets) ≡ Ok u → (u.relays ≡ []) × SpellsClient (x ∷ octets) u
+other_takes : (x : ℕ) (octets : List ℕ) (u : UntestedMessage) → AreOctets (x ∷ octets)
+    → or_ignored (kind_of x) (x ∷ octets) ≡ Ok u → (u.relays ≡ []) × SpellsClient (x ∷ octets) u
 other_takes x octets u fits e = by (kind_of x) refl e
   where
-    by : (o : Option ClientKind) → kind_of x ≡ o → or_ignored o (x ∷ octets) ≡ Ok u → (u.relays ≡ []) × SpellsClient (x ∷ octets) u
+    by : (o : Option ClientKind) → kind_of x ≡ o → or_ignored o (x ∷ octets) ≡ Ok u
+        → (u.relays ≡ []) × SpellsClient (x ∷ octets) u
     by None is e = absurd cc
     by (Some kind) is e = client_takes kind (x ∷ octets) u fits (kind_takes x kind is) e
 
@@ -227,13 +271,15 @@ other_takes x octets u fits e = by (kind_of x) refl e
 abbrev SpellsIn : ℕ → List ℕ → UntestedMessage → Type 0
 SpellsIn left octets u = SpellsFrom octets u.relays u × (length u.relays ≤ left)
 
-no_relay : (left : ℕ) (octets : List ℕ) (u : UntestedMessage) → (u.relays ≡ []) × SpellsClient octets u → SpellsIn left octets u
+no_relay : (left : ℕ) (octets : List ℕ) (u : UntestedMessage) → (u.relays ≡ []) × SpellsClient octets u
+    → SpellsIn left octets u
 no_relay left octets u both =
     let none : length u.relays ≡ 0 = ap length both.0 in
     (subst (λ (rs : List Relay). SpellsFrom octets rs u) (sym both.0) both.1, omega (arith, none))
 
 -- which relays are written down does not matter inside them
-spells_by : (by : List Relay) (relays : List Relay) (octets : List ℕ) (u : UntestedMessage) → SpellsFrom octets relays u → SpellsFrom octets relays (record u { relays = by })
+spells_by : (by : List Relay) (relays : List Relay) (octets : List ℕ) (u : UntestedMessage)
+    → SpellsFrom octets relays u → SpellsFrom octets relays (record u { relays = by })
 spells_by by [] octets u h = record {
   whole = h.whole;
   kind = h.kind;
@@ -251,28 +297,37 @@ spells_by by [] octets u h = record {
 }
 spells_by by (r ∷ relays) octets u h = (h.0, h.1, spells_by by relays h.0 u h.2)
 
-pub message_takes : (left : ℕ) (octets : List ℕ) (u : UntestedMessage) → AreOctets octets → message_in left octets ≡ Ok u → SpellsIn left octets u
+pub message_takes : (left : ℕ) (octets : List ℕ) (u : UntestedMessage) → AreOctets octets
+    → message_in left octets ≡ Ok u → SpellsIn left octets u
 unfolding message_in
 message_takes zero [] u fits e = absurd cc
 message_takes (suc left) [] u fits e = absurd cc
 message_takes zero (x ∷ octets) u fits e = by (x == RELAY_FORWARD) e
   where
-    by : (t : Bool) → (if t then Err TooDeep else or_ignored (kind_of x) (x ∷ octets)) ≡ Ok u → SpellsIn 0 (x ∷ octets) u
+    by : (t : Bool) → (if t then Err TooDeep else or_ignored (kind_of x) (x ∷ octets)) ≡ Ok u
+        → SpellsIn 0 (x ∷ octets) u
     by true e = absurd cc
     by false e = no_relay 0 (x ∷ octets) u (other_takes x octets u fits e)
 message_takes (suc left) (x ∷ octets) u fits e = by (x == RELAY_FORWARD) refl (message_takes left) e
   where
-    by : (t : Bool) → (x == RELAY_FORWARD) ≡ t → ((inside : List ℕ) (v : UntestedMessage) → AreOctets inside → message_in left inside ≡ Ok v → SpellsIn left inside v)
-        → (if t then relay_in (message_in left) (x ∷ octets) else or_ignored (kind_of x) (x ∷ octets)) ≡ Ok u → SpellsIn (suc left) (x ∷ octets) u
+    by : (t : Bool) → (x == RELAY_FORWARD) ≡ t
+        → ((inside : List ℕ) (v : UntestedMessage) → AreOctets inside → message_in left inside ≡ Ok v
+        → SpellsIn left inside v)
+        → (if t then relay_in (message_in left) (x ∷ octets) else or_ignored (kind_of x) (x ∷ octets)) ≡ Ok u
+        → SpellsIn (suc left) (x ∷ octets) u
     by true test again e =
         let r = relay_takes (message_in left) (x ∷ octets) u fits (eqb-true x RELAY_FORWARD test) e in
         let v = r.0 in
         let later = again r.2 v r.3 r.4 in
         let few : suc (length v.relays) ≤ suc left = omega (arith, later.1) in
-        subst (SpellsIn (suc left) (x ∷ octets)) r.6 ((r.2, r.5, spells_by (r.1 ∷ v.relays) v.relays r.2 v later.0), few)
+        subst (SpellsIn (suc left) (x ∷ octets)) r.6 (
+          (r.2, r.5, spells_by (r.1 ∷ v.relays) v.relays r.2 v later.0),
+          few,
+        )
     by false test again e = no_relay (suc left) (x ∷ octets) u (other_takes x octets u fits e)
 
-client_typed : (relay : List ℕ → Result UntestedMessage PdFault) (octets : List ℕ) (u : UntestedMessage) → SpellsClient octets u → by_type relay octets ≡ Ok (record u { relays = [] })
+client_typed : (relay : List ℕ → Result UntestedMessage PdFault) (octets : List ℕ) (u : UntestedMessage)
+    → SpellsClient octets u → by_type relay octets ≡ Ok (record u { relays = [] })
 client_typed relay [] u h = absurd (let w = h.whole in omega (arith, w))
 client_typed relay (x ∷ octets) u h =
     let type : x ≡ type_of u.kind = h.kind in
@@ -281,15 +336,18 @@ client_typed relay (x ∷ octets) u h =
     let known : kind_of x ≡ Some u.kind = ap kind_of type ∙ k.1 in
     rw (other, known) (client_again (x ∷ octets) u h)
 
-pub relay_typed : (relay : List ℕ → Result UntestedMessage PdFault) (octets : List ℕ) → 34 ≤ length octets → slice_index octets 0 ≡ RELAY_FORWARD → by_type relay octets ≡ relay octets
+pub relay_typed : (relay : List ℕ → Result UntestedMessage PdFault) (octets : List ℕ) → 34 ≤ length octets
+    → slice_index octets 0 ≡ RELAY_FORWARD → by_type relay octets ≡ relay octets
 relay_typed relay [] long type = absurd (omega (arith, long))
 relay_typed relay (x ∷ octets) long type = let this : x ≡ RELAY_FORWARD = type in rw (eq-eqb x RELAY_FORWARD this) refl
 
-pub message_again : (relays : List Relay) (left : ℕ) (octets : List ℕ) (u : UntestedMessage) → SpellsFrom octets relays u → length relays ≤ left → message_in left octets ≡ Ok (record u { relays = relays })
+pub message_again : (relays : List Relay) (left : ℕ) (octets : List ℕ) (u : UntestedMessage)
+    → SpellsFrom octets relays u → length relays ≤ left → message_in left octets ≡ Ok (record u { relays = relays })
 unfolding message_in
 message_again [] zero octets u h few = client_typed (λ _. Err TooDeep) octets u h
 message_again [] (suc left) octets u h few = client_typed (relay_in (message_in left)) octets u h
 message_again (r ∷ relays) zero octets u h few = absurd (omega arith)
 message_again (r ∷ relays) (suc left) octets u h few =
     relay_typed (relay_in (message_in left)) octets h.1.whole h.1.kind
-    ∙ relay_again (message_in left) octets r h.0 (record u { relays = relays }) h.1 (message_again relays left h.0 u h.2 (omega (arith, few)))
+    ∙ relay_again (message_in left) octets r h.0 (record u { relays = relays }) h.1
+    (message_again relays left h.0 u h.2 (omega (arith, few)))

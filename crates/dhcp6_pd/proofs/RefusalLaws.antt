@@ -1,12 +1,15 @@
 -- Each refusal in the words of the protocol.
-use Rattle.std.proofs.Common.{◌≡◌, ◌≢◌, ℕ, Bool, true, false, List, Option, Some, None, Result, Ok, Err, refl, sym, ap, subst, ◌∙◌}
+use Rattle.std.proofs.Common.{◌≡◌, ◌≢◌, ℕ, Bool, true, false, List, Option, Some, None, Result, Ok, Err, refl, sym, ap}
+use Rattle.std.proofs.Common.{subst, ◌∙◌}
 use Rattle.std.specs.Prelude.{IsSome, IsSomeAnd, if◌then◌else◌}
 use Rattle.std.specs.Str.{bytes_eq}
 use Rattle.std.proofs.lemmas.Slice.Eq.{bytes_eq-Decides}
 use Rattle.text_fields.specs.Octets.{AreOctets}
 use Rattle.text_fields.specs.Parsing.{◌>>!◌}
 use Rattle.dhcp6_pd.specs.declared.error.PdFault.{PdFault}
-use Rattle.dhcp6_pd.specs.declared.error.PdFault.TheVariants.{Short, OptionLength, DuplicateId, NoClientId, ServerIdPresent, ServerIdMissing, NotOurs, TooDeep, TooManyIas, Ignored, BadPrefixLength}
+use Rattle.dhcp6_pd.specs.declared.error.PdFault.TheVariants.{Short, OptionLength, DuplicateId, NoClientId}
+use Rattle.dhcp6_pd.specs.declared.error.PdFault.TheVariants.{ServerIdPresent, ServerIdMissing, NotOurs, TooDeep}
+use Rattle.dhcp6_pd.specs.declared.error.PdFault.TheVariants.{TooManyIas, Ignored, BadPrefixLength}
 use Rattle.dhcp6_pd.specs.declared.error.PdError.{PdError}
 use Rattle.dhcp6_pd.specs.declared.error.PdError.TheVariants.{Fault, TooLong, Memory}
 use Rattle.dhcp6_pd.specs.declared.message.ClientKind.{ClientKind}
@@ -14,7 +17,8 @@ use Rattle.dhcp6_pd.specs.declared.message.ClientKind.TheVariants.{Solicit, Requ
 use Rattle.dhcp6_pd.specs.declared.message.ClientMessage.{ClientMessage}
 use Rattle.dhcp6_pd.specs.declared.untested.UntestedMessage.{UntestedMessage}
 use Rattle.dhcp6_pd.specs.declared.numbers.TheConstants.{MAX_RELAYS}
-use Rattle.dhcp6_pd.specs.Refusals.{Refuses, IsOfForm, IsMalformed, IsDeeper, IsOfOtherType, SpellsOne, IsToAny, NamesNoClient, NamesServerOfAny, NamesNoServer, NamesAnother}
+use Rattle.dhcp6_pd.specs.Refusals.{Refuses, IsOfForm, IsMalformed, IsDeeper, IsOfOtherType, SpellsOne, IsToAny}
+use Rattle.dhcp6_pd.specs.Refusals.{NamesNoClient, NamesServerOfAny, NamesNoServer, NamesAnother}
 use Rattle.dhcp6_pd.specs.Faults.{message_in, for_server, identified, message_of}
 use Rattle.dhcp6_pd.specs.Answers.{Gives}
 use Rattle.dhcp6_pd.proofs.FaultLaws.{Faults, OfOctets, message_faults}
@@ -43,7 +47,8 @@ err_is : (a b : PdFault) → (let r : Result ClientMessage PdFault = Err a in r)
 err_is a b e = cc
 
 same_not : (own server : List ℕ) → bytes_eq server own ≡ false → server ≢ own
-same_not own server e is = absurd (let t : bytes_eq server own ≡ true = (bytes_eq-Decides server own).1 is in let u : true ≡ false = sym t ∙ e in cc)
+same_not own server e is = absurd (let t : bytes_eq server own ≡ true = (bytes_eq-Decides server own).1 is in
+    let u : true ≡ false = sym t ∙ e in cc)
 
 differs : (own server : List ℕ) → server ≢ own → bytes_eq server own ≡ false
 differs own server ne = by (bytes_eq server own) refl
@@ -57,25 +62,41 @@ unfolding identified for_server
 says_takes own u fault e = by u.client u.kind u.server e
   where
     to_one : (client : List ℕ) (kind : ClientKind) (server : Option (List ℕ)) → (IsToAny kind → ⊥) → (m : ClientMessage)
-        → (for_server own Request server >>! λ _. Ok m) ≡ Err fault → Says own (identifying u (Some client) kind server) fault
-    to_one client kind None one m e = subst (Says own (identifying u (Some client) kind None)) (err_is _ _ e) (refl, one, refl)
+        → (for_server own Request server >>! λ _. Ok m) ≡ Err fault
+        → Says own (identifying u (Some client) kind server) fault
+    to_one client kind None one m e = subst (Says own (identifying u (Some client) kind None)) (err_is _ _ e) (
+      refl,
+      one,
+      refl,
+    )
     to_one client kind (Some server) one m e = another (bytes_eq server own) refl e
       where
-        another : (b : Bool) → bytes_eq server own ≡ b → ((let r : Result (Unit {0}) PdFault = if b then Ok tt else Err NotOurs in r) >>! λ _. Ok m) ≡ Err fault → Says own (identifying u (Some client) kind (Some server)) fault
+        another : (b : Bool) → bytes_eq server own ≡ b
+            → ((let r : Result (Unit {0}) PdFault = if b then Ok tt else Err NotOurs in r) >>! λ _. Ok m) ≡ Err fault
+            → Says own (identifying u (Some client) kind (Some server)) fault
         another true is e = absurd cc
-        another false is e = subst (Says own (identifying u (Some client) kind (Some server))) (err_is _ _ e) (refl, one, same_not own server is)
+        another false is e = subst (Says own (identifying u (Some client) kind (Some server))) (err_is _ _ e) (
+          refl,
+          one,
+          same_not own server is,
+        )
 
-    by : (client : Option (List ℕ)) (kind : ClientKind) (server : Option (List ℕ)) → identified own (identifying u client kind server) ≡ Err fault → Says own (identifying u client kind server) fault
+    by : (client : Option (List ℕ)) (kind : ClientKind) (server : Option (List ℕ))
+        → identified own (identifying u client kind server) ≡ Err fault
+        → Says own (identifying u client kind server) fault
     by None kind server e = subst (Says own (identifying u None kind server)) (err_is _ _ e) refl
     by (Some client) Solicit None e = absurd cc
-    by (Some client) Solicit (Some server) e = subst (Says own (identifying u (Some client) Solicit (Some server))) (err_is _ _ e) (refl, tt, refl)
+    by (Some client) Solicit (Some server) e =
+        subst (Says own (identifying u (Some client) Solicit (Some server))) (err_is _ _ e) (refl, tt, refl)
     by (Some client) Rebind None e = absurd cc
-    by (Some client) Rebind (Some server) e = subst (Says own (identifying u (Some client) Rebind (Some server))) (err_is _ _ e) (refl, tt, refl)
+    by (Some client) Rebind (Some server) e =
+        subst (Says own (identifying u (Some client) Rebind (Some server))) (err_is _ _ e) (refl, tt, refl)
     by (Some client) Request server e = to_one client Request server (λ one. one) _ e
     by (Some client) Renew server e = to_one client Renew server (λ one. one) _ e
     by (Some client) Release server e = to_one client Release server (λ one. one) _ e
 
-present : (own : List ℕ) (u : UntestedMessage) (client : Option (List ℕ)) (kind : ClientKind) (server : Option (List ℕ)) → IsSome client → IsToAny kind → IsSome server
+present : (own : List ℕ) (u : UntestedMessage) (client : Option (List ℕ)) (kind : ClientKind)
+    (server : Option (List ℕ)) → IsSome client → IsToAny kind → IsSome server
     → identified own (identifying u client kind server) ≡ Err ServerIdPresent
 unfolding identified for_server
 present own u None kind server client any some = absurd (let e : false ≡ true = client in cc)
@@ -86,7 +107,8 @@ present own u (Some client) Request (Some server) is any some = absurd any
 present own u (Some client) Renew (Some server) is any some = absurd any
 present own u (Some client) Release (Some server) is any some = absurd any
 
-missing : (own : List ℕ) (u : UntestedMessage) (client : Option (List ℕ)) (kind : ClientKind) → IsSome client → (IsToAny kind → ⊥) → identified own (identifying u client kind None) ≡ Err ServerIdMissing
+missing : (own : List ℕ) (u : UntestedMessage) (client : Option (List ℕ)) (kind : ClientKind) → IsSome client
+    → (IsToAny kind → ⊥) → identified own (identifying u client kind None) ≡ Err ServerIdMissing
 unfolding identified for_server
 missing own u None kind is one = absurd (let e : false ≡ true = is in cc)
 missing own u (Some client) Solicit is one = absurd (one tt)
@@ -95,7 +117,8 @@ missing own u (Some client) Request is one = refl
 missing own u (Some client) Renew is one = refl
 missing own u (Some client) Release is one = refl
 
-another : (own : List ℕ) (u : UntestedMessage) (client : Option (List ℕ)) (kind : ClientKind) (server : Option (List ℕ)) → IsSome client → (IsToAny kind → ⊥) → IsSomeAnd server (λ s. s ≢ own)
+another : (own : List ℕ) (u : UntestedMessage) (client : Option (List ℕ)) (kind : ClientKind)
+    (server : Option (List ℕ)) → IsSome client → (IsToAny kind → ⊥) → IsSomeAnd server (λ s. s ≢ own)
     → identified own (identifying u client kind server) ≡ Err NotOurs
 unfolding identified for_server
 another own u None kind server is one ne = absurd (let e : false ≡ true = is in cc)
@@ -120,27 +143,34 @@ says_again own u BadPrefixLength h = absurd h
 says_again own u TooDeep h = absurd h
 says_again own u Ignored h = absurd h
 
-message_fails : (own octets : List ℕ) (fault : PdFault) → AreOctets octets → (OfOctets fault → ⊥) → message_of own octets ≡ Err fault → SpellsOne octets (λ u. Says own u fault)
+message_fails : (own octets : List ℕ) (fault : PdFault) → AreOctets octets → (OfOctets fault → ⊥)
+    → message_of own octets ≡ Err fault → SpellsOne octets (λ u. Says own u fault)
 message_fails own octets fault fits last e = by (message_in MAX_RELAYS octets) refl (message_faults MAX_RELAYS octets) e
   where
-    by : (r : Result UntestedMessage PdFault) → message_in MAX_RELAYS octets ≡ r → Faults OfOctets r → (r >>! identified own) ≡ Err fault → SpellsOne octets (λ u. Says own u fault)
+    by : (r : Result UntestedMessage PdFault) → message_in MAX_RELAYS octets ≡ r → Faults OfOctets r
+        → (r >>! identified own) ≡ Err fault → SpellsOne octets (λ u. Says own u fault)
     by (Ok u) is h e = (u, untested_takes octets u fits is, says_takes own u fault e)
     by (Err other) is h e = absurd (let same : other ≡ fault = cc in last (subst OfOctets same h))
 
-fails_message : (own octets : List ℕ) (fault : PdFault) → SpellsOne octets (λ u. Says own u fault) → message_of own octets ≡ Err fault
+fails_message : (own octets : List ℕ) (fault : PdFault) → SpellsOne octets (λ u. Says own u fault)
+    → message_of own octets ≡ Err fault
 fails_message own octets fault h = rw (untested_again octets h.0 h.1) (says_again own h.0 fault h.2)
 
-pub deeper_fails : (own octets : List ℕ) → AreOctets octets → message_of own octets ≡ Err TooDeep → IsDeeper MAX_RELAYS octets
+pub deeper_fails : (own octets : List ℕ) → AreOctets octets → message_of own octets ≡ Err TooDeep
+    → IsDeeper MAX_RELAYS octets
 deeper_fails own octets fits e = by (message_in MAX_RELAYS octets) refl e
   where
-    by : (r : Result UntestedMessage PdFault) → message_in MAX_RELAYS octets ≡ r → (r >>! identified own) ≡ Err TooDeep → IsDeeper MAX_RELAYS octets
+    by : (r : Result UntestedMessage PdFault) → message_in MAX_RELAYS octets ≡ r → (r >>! identified own) ≡ Err TooDeep
+        → IsDeeper MAX_RELAYS octets
     by (Ok u) is e = absurd (says_takes own u TooDeep e)
     by (Err fault) is e = deep_takes MAX_RELAYS octets fits (is ∙ cc)
 
-pub other_fails : (own octets : List ℕ) → AreOctets octets → message_of own octets ≡ Err Ignored → IsOfOtherType MAX_RELAYS octets
+pub other_fails : (own octets : List ℕ) → AreOctets octets → message_of own octets ≡ Err Ignored
+    → IsOfOtherType MAX_RELAYS octets
 other_fails own octets fits e = by (message_in MAX_RELAYS octets) refl e
   where
-    by : (r : Result UntestedMessage PdFault) → message_in MAX_RELAYS octets ≡ r → (r >>! identified own) ≡ Err Ignored → IsOfOtherType MAX_RELAYS octets
+    by : (r : Result UntestedMessage PdFault) → message_in MAX_RELAYS octets ≡ r → (r >>! identified own) ≡ Err Ignored
+        → IsOfOtherType MAX_RELAYS octets
     by (Ok u) is e = absurd (says_takes own u Ignored e)
     by (Err fault) is e = other_takes MAX_RELAYS octets fits (is ∙ cc)
 
@@ -148,13 +178,16 @@ pub fails_deeper : (own octets : List ℕ) → IsDeeper MAX_RELAYS octets → me
 fails_deeper own octets h = rw (deep_again MAX_RELAYS octets h.inside h.carried h.some h.kind) refl
 
 pub fails_other : (own octets : List ℕ) → IsOfOtherType MAX_RELAYS octets → message_of own octets ≡ Err Ignored
-fails_other own octets h = rw (other_again h.relays MAX_RELAYS octets h.inside h.few h.carried h.some h.relay h.other) refl
+fails_other own octets h = rw (other_again h.relays MAX_RELAYS octets h.inside h.few h.carried h.some h.relay h.other)
+    refl
 
 -- ---- what a function answers that gives what parsing gives
 
-refuses : {Why : Type 0} (r : Result ClientMessage PdError) (parsed : Result ClientMessage PdFault) (fault : PdFault) → Gives (λ m. m) r parsed → (parsed ≡ Err fault → Why) → (Why → parsed ≡ Err fault)
+refuses : {Why : Type 0} (r : Result ClientMessage PdError) (parsed : Result ClientMessage PdFault) (fault : PdFault)
+    → Gives (λ m. m) r parsed → (parsed ≡ Err fault → Why) → (Why → parsed ≡ Err fault)
     → Refuses r fault Why
-refuses (Ok m) parsed fault h takes again no_memory = ((λ e. absurd cc), (λ why. absurd (let e : Err fault ≡ Ok m = sym (again why) ∙ h in cc)))
+refuses (Ok m) parsed fault h takes again no_memory =
+    ((λ e. absurd cc), (λ why. absurd (let e : Err fault ≡ Ok m = sym (again why) ∙ h in cc)))
 refuses (Err (Fault other)) parsed fault h takes again no_memory = (
   (λ e. takes (h ∙ (let same : other ≡ fault = cc in ap (λ (f : PdFault). Err f) same))),
   (λ why. ap (λ (f : PdFault). Err (Fault f)) (err_is other fault (sym h ∙ again why))),
@@ -175,8 +208,11 @@ no_form own u BadPrefixLength form says = says
 no_form own u TooDeep form says = form
 no_form own u Ignored form says = form
 
-malformed : (own octets : List ℕ) (fault : PdFault) → IsOfForm fault → message_of own octets ≡ Err fault → IsMalformed octets
-malformed own octets fault form e u h = no_form own u fault form (says_takes own u fault (sym (ap (λ (r : Result UntestedMessage PdFault). r >>! identified own) (untested_again octets u h)) ∙ e))
+malformed : (own octets : List ℕ) (fault : PdFault) → IsOfForm fault → message_of own octets ≡ Err fault
+    → IsMalformed octets
+malformed own octets fault form e u h =
+    no_form own u fault form (says_takes own u fault
+    (sym (ap (λ (r : Result UntestedMessage PdFault). r >>! identified own) (untested_again octets u h)) ∙ e))
 
 -- each refusal of a function whose answer is what parsing gives
 pub record RefusesEach (own octets : List ℕ) (r : Result ClientMessage PdError) : Type 0 where
@@ -188,9 +224,11 @@ pub record RefusesEach (own octets : List ℕ) (r : Result ClientMessage PdError
   pub missing : Refuses r ServerIdMissing (SpellsOne octets NamesNoServer)
   pub not_ours : Refuses r NotOurs (SpellsOne octets (NamesAnother own))
 
-pub refuses_each : (own octets : List ℕ) (r : Result ClientMessage PdError) → AreOctets octets → Gives (λ m. m) r (message_of own octets) → RefusesEach own octets r
+pub refuses_each : (own octets : List ℕ) (r : Result ClientMessage PdError) → AreOctets octets
+    → Gives (λ m. m) r (message_of own octets) → RefusesEach own octets r
 refuses_each own octets r fits h = record {
-  malformed = λ fault form e. malformed own octets fault form (subst (λ (x : Result ClientMessage PdError). Gives (λ m. m) x (message_of own octets)) e h);
+  malformed = λ fault form e. malformed own octets fault form
+      (subst (λ (x : Result ClientMessage PdError). Gives (λ m. m) x (message_of own octets)) e h);
   ignored = refuses r (message_of own octets) Ignored h (other_fails own octets fits) (fails_other own octets);
   too_deep = refuses r (message_of own octets) TooDeep h (deeper_fails own octets fits) (fails_deeper own octets);
   no_client = by_name NoClientId (λ e. e);
@@ -200,4 +238,5 @@ refuses_each own octets r fits h = record {
 }
   where
     by_name : (fault : PdFault) → (OfOctets fault → ⊥) → Refuses r fault (SpellsOne octets (λ u. Says own u fault))
-    by_name fault last = refuses r (message_of own octets) fault h (message_fails own octets fault fits last) (fails_message own octets fault)
+    by_name fault last = refuses r (message_of own octets) fault h (message_fails own octets fault fits last)
+        (fails_message own octets fault)

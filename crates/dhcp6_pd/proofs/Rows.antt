@@ -1,5 +1,6 @@
 -- Octets as a row of options.
-use Rattle.std.proofs.Common.{◌≡◌, ℕ, zero, suc, ◌+◌, ◌<◌, ◌≤◌, List, [], ◌∷◌, length, take, drop, refl, sym, ap, ◌∙◌, arith}
+use Rattle.std.proofs.Common.{◌≡◌, ℕ, zero, suc, ◌+◌, ◌<◌, ◌≤◌, List, [], ◌∷◌, length, take, drop, refl, sym, ap, ◌∙◌}
+use Rattle.std.proofs.Common.{arith}
 use Rattle.std.proofs.lemmas.List.{drop-drop}
 use Rattle.std.proofs.lemmas.Bool.{lt-ltb, le-ltb}
 use Rattle.byteorder.specs.Endian.{big_number}
@@ -23,14 +24,30 @@ unfolding row_behind
 row_short [] some few = absurd (omega arith)
 row_short (x ∷ octets) some few = rw (lt-ltb (length octets) 3 (omega arith)) refl
 
-pub row_long : (octets : List ℕ) → 4 ≤ length octets → length (drop 4 octets) < big_number 2 (drop 2 octets) → row_of octets ≡ Broken OptionLength
+pub row_long : (octets : List ℕ) → 4 ≤ length octets → length (drop 4 octets) < big_number 2 (drop 2 octets)
+    → row_of octets ≡ Broken OptionLength
 unfolding row_behind
 row_long [] some few = absurd (omega arith)
-row_long (x ∷ octets) some few = rw (le-ltb (length octets) 3 (omega arith), lt-ltb (length (drop 3 octets)) (big_number 2 (drop 1 octets)) few) refl
+row_long (x ∷ octets) some few = rw (
+  le-ltb (length octets) 3 (omega arith),
+  lt-ltb (length (drop 3 octets)) (big_number 2 (drop 1 octets)) few,
+) refl
 
 pub row_next : (octets : List ℕ) → 4 ≤ length octets → big_number 2 (drop 2 octets) ≤ length (drop 4 octets)
-    → row_of octets ≡ Next (record { code = big_number 2 octets; octets = take (big_number 2 (drop 2 octets)) (drop 4 octets) }) (row_of (drop (big_number 2 (drop 2 octets)) (drop 4 octets)))
+    → row_of octets ≡ Next (record {
+      code = big_number 2 octets;
+      octets =
+          take (big_number 2 (drop 2 octets)) (drop 4 octets);
+    })
+    (row_of (drop (big_number 2 (drop 2 octets)) (drop 4 octets)))
 unfolding row_behind
 row_next [] some few = absurd (omega arith)
 row_next (x ∷ octets) some few =
-    rw (le-ltb (length octets) 3 (omega arith), le-ltb (length (drop 3 octets)) (big_number 2 (drop 1 octets)) few) (ap (λ (r : Row). Next (record { code = big_number 2 (x ∷ octets); octets = take (big_number 2 (drop 1 octets)) (drop 3 octets) }) r) (row_drop (3 + big_number 2 (drop 1 octets)) octets ∙ ap row_of (sym (drop-drop (big_number 2 (drop 1 octets)) 3 octets))))
+    rw (le-ltb (length octets) 3 (omega arith), le-ltb (length (drop 3 octets)) (big_number 2 (drop 1 octets)) few)
+    (ap (λ (r : Row). Next (record {
+      code = big_number 2 (x ∷ octets);
+      octets =
+          take (big_number 2 (drop 1 octets)) (drop 3 octets);
+    }) r)
+    (row_drop (3 + big_number 2 (drop 1 octets)) octets
+    ∙ ap row_of (sym (drop-drop (big_number 2 (drop 1 octets)) 3 octets))))

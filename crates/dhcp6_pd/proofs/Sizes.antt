@@ -1,5 +1,6 @@
 -- How many octets an answer has, and which sizes a datagram can have.
-use Rattle.std.proofs.Common.{◌≡◌, ℕ, ◌+◌, ◌≤◌, List, [], ◌∷◌, ◌++◌, length, Ok, Err, sym, ap, ◌∙◌, arith, length-append}
+use Rattle.std.proofs.Common.{◌≡◌, ℕ, ◌+◌, ◌≤◌, List, [], ◌∷◌, ◌++◌, length, Ok, Err, sym, ap, ◌∙◌, arith}
+use Rattle.std.proofs.Common.{length-append}
 use Rattle.std.specs.Prelude.{sum_by, nat_lt, Bool, true, false, if◌then◌else◌}
 use Rattle.std.proofs.lemmas.Bool.Decides.{nat_tests}
 use Rattle.std.proofs.lemmas.List.Sums.{sum_by-cons}
@@ -9,16 +10,19 @@ use Rattle.dhcp6_pd.specs.declared.error.PdError.TheVariants.{TooLong}
 use Rattle.dhcp6_pd.specs.declared.message.Relay.{Relay}
 use Rattle.dhcp6_pd.specs.declared.message.ServerMessage.{ServerMessage}
 use Rattle.std.specs.List.{flat_map}
-use Rattle.dhcp6_pd.specs.Layout.{relay_head, relayed, option_octets, ia_octets, head_octets, server_octets, message_octets}
+use Rattle.dhcp6_pd.specs.Layout.{relay_head, relayed, option_octets, ia_octets, head_octets, server_octets}
+use Rattle.dhcp6_pd.specs.Layout.{message_octets}
 use Rattle.dhcp6_pd.specs.Size.{fitting, relay_size}
 
 -- relays add their sizes to the message that they hold
-pub relayed_length : (relays : List Relay) (message : List ℕ) → length (relayed relays message) ≡ sum_by relay_size relays + length message
+pub relayed_length : (relays : List Relay) (message : List ℕ)
+    → length (relayed relays message) ≡ sum_by relay_size relays + length message
 unfolding relayed
 relayed_length [] message = omega arith
 relayed_length (r ∷ relays) message =
     let later = relayed_length relays message in
-    let first : length (relay_head r ++ option_octets RELAY_MESSAGE (relayed relays message)) ≡ relay_size r + length (relayed relays message) =
+    let first : length (relay_head r ++ option_octets RELAY_MESSAGE (relayed relays message))
+    ≡ relay_size r + length (relayed relays message) =
     length-append (relay_head r) (option_octets RELAY_MESSAGE (relayed relays message)) ∙ omega arith in
     first ∙ omega (arith, later, sum_by-cons relay_size r relays)
 
@@ -33,9 +37,12 @@ pub fitting_more : (n more : ℕ) (e : PdError) → n ≤ more → fitting n ≡
 fitting_more n more e le h = grind (arith, nat_tests)
 
 -- an answer's octets: its relays', its head's and its IA_PDs'
-pub message_length : (m : ServerMessage) → length (message_octets m) ≡ sum_by relay_size m.relays + (length (head_octets m) + length (flat_map ia_octets m.ias))
-message_length m = relayed_length m.relays (server_octets m) ∙ ap (λ (n : ℕ). sum_by relay_size m.relays + n) (length-append (head_octets m) (flat_map ia_octets m.ias))
+pub message_length : (m : ServerMessage) → length (message_octets m)
+    ≡ sum_by relay_size m.relays + (length (head_octets m) + length (flat_map ia_octets m.ias))
+message_length m = relayed_length m.relays (server_octets m)
+    ∙ ap (λ (n : ℕ). sum_by relay_size m.relays + n) (length-append (head_octets m) (flat_map ia_octets m.ias))
 
 -- the size that was found leaves room for the relays
-pub relays_fit : (m : ServerMessage) (size : ℕ) → fitting (length (message_octets m)) ≡ Ok size → sum_by relay_size m.relays + length (server_octets m) ≡ size
+pub relays_fit : (m : ServerMessage) (size : ℕ) → fitting (length (message_octets m)) ≡ Ok size
+    → sum_by relay_size m.relays + length (server_octets m) ≡ size
 relays_fit m size e = sym (relayed_length m.relays (server_octets m)) ∙ fitting_is (length (message_octets m)) size e

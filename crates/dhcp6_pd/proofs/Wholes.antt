@@ -1,5 +1,6 @@
 -- Octets that are options and nothing else.
-use Rattle.std.proofs.Common.{◌≡◌, ℕ, zero, suc, ◌+◌, ◌*◌, ◌/◌, ◌%◌, ◌<◌, ◌≤◌, Bool, true, false, List, [], ◌∷◌, ◌++◌, length, take, drop, Result, Ok, refl, sym, ap, subst, ◌∙◌, arith, le-ltb, length-append}
+use Rattle.std.proofs.Common.{◌≡◌, ℕ, zero, suc, ◌+◌, ◌*◌, ◌/◌, ◌%◌, ◌<◌, ◌≤◌, Bool, true, false, List, [], ◌∷◌, ◌++◌}
+use Rattle.std.proofs.Common.{length, take, drop, Result, Ok, refl, sym, ap, subst, ◌∙◌, arith, le-ltb, length-append}
 use Rattle.std.specs.Prelude.{nat_lt, if◌then◌else◌}
 use Rattle.std.specs.List.{flat_map, AllByRecursion}
 use Rattle.std.proofs.lemmas.Bool.{ltb-false}
@@ -22,7 +23,8 @@ whole [] = Done
 whole (o ∷ options) = Next o (whole options)
 
 -- what was folded to its end was whole
-pub folded_whole : {S : Type 0} (step : S → DhcpOption → Result S PdFault) (s t : S) (row : Row) → folded step s row ≡ Ok t → (options : List DhcpOption) × (row ≡ whole options)
+pub folded_whole : {S : Type 0} (step : S → DhcpOption → Result S PdFault) (s t : S) (row : Row)
+    → folded step s row ≡ Ok t → (options : List DhcpOption) × (row ≡ whole options)
 unfolding folded
 folded_whole step s t Done e = ([], refl)
 folded_whole step s t (Broken fault) e = absurd cc
@@ -55,7 +57,8 @@ two_number a b rest = refl
 
 -- the octets of an option and of what follows it
 spelled : (a b c d : ℕ) (rest : List ℕ) → AreOctets (a ∷ b ∷ c ∷ d ∷ rest) → big_number 2 (c ∷ d ∷ rest) ≤ length rest
-    → a ∷ b ∷ c ∷ d ∷ rest ≡ option_octets (big_number 2 (a ∷ b ∷ c ∷ d ∷ rest)) (take (big_number 2 (c ∷ d ∷ rest)) rest) ++ drop (big_number 2 (c ∷ d ∷ rest)) rest
+    → a ∷ b ∷ c ∷ d ∷ rest ≡ option_octets (big_number 2 (a ∷ b ∷ c ∷ d ∷ rest))
+    (take (big_number 2 (c ∷ d ∷ rest)) rest) ++ drop (big_number 2 (c ∷ d ∷ rest)) rest
 spelled a b c d rest h few =
     let n = big_number 2 (c ∷ d ∷ rest) in
     let first = two_octets a b h.0 h.1.0 in
@@ -65,7 +68,8 @@ spelled a b c d rest h few =
     ap (λ (xs : List ℕ). a ∷ b ∷ c ∷ d ∷ xs) tail
     ∙ (ap (λ (xs : List ℕ). a ∷ b ∷ (xs ++ (take n rest ++ drop n rest))) (sym second)
     ∙ (ap (λ (xs : List ℕ). xs ++ (big_bytes 2 n ++ (take n rest ++ drop n rest))) (sym first)
-    ∙ ap (λ (k : ℕ). big_bytes 2 (a * 256 + (b * 1 + 0)) ++ (big_bytes 2 k ++ (take n rest ++ drop n rest))) (sym size)))
+    ∙ ap (λ (k : ℕ). big_bytes 2 (a * 256 + (b * 1 + 0)) ++ (big_bytes 2 k ++ (take n rest ++ drop n rest)))
+    (sym size)))
 
 is_option : (a b c d : ℕ) (rest : List ℕ) → AreOctets (a ∷ b ∷ c ∷ d ∷ rest)
     → IsOption (record { code = big_number 2 (a ∷ b ∷ c ∷ d ∷ rest); octets = take (big_number 2 (c ∷ d ∷ rest)) rest })
@@ -75,7 +79,8 @@ is_option a b c d rest h = record {
   octets = octets_take (big_number 2 (c ∷ d ∷ rest)) rest h.1.1.1.1;
 }
 
-went_on : (t : Bool) (o p : DhcpOption) (row left : Row) → (if t then Broken OptionLength else Next p left) ≡ Next o row → (t ≡ false) × (p ≡ o) × (left ≡ row)
+went_on : (t : Bool) (o p : DhcpOption) (row left : Row) → (if t then Broken OptionLength else Next p left)
+    ≡ Next o row → (t ≡ false) × (p ≡ o) × (left ≡ row)
 went_on true o p row left e = absurd cc
 went_on false o p row left e = (refl, cc, cc)
 
@@ -87,7 +92,8 @@ pub record Begins (octets : List ℕ) (o : DhcpOption) (row : Row) : Type 0 wher
   pub fits : AreOctets rest
   pub row_is : row_of rest ≡ row
 
-pub row_begins : (octets : List ℕ) (o : DhcpOption) (row : Row) → AreOctets octets → row_of octets ≡ Next o row → Begins octets o row
+pub row_begins : (octets : List ℕ) (o : DhcpOption) (row : Row) → AreOctets octets → row_of octets ≡ Next o row
+    → Begins octets o row
 unfolding row_behind
 row_begins [] o row h e = absurd cc
 row_begins (a ∷ []) o row h e = absurd cc
@@ -108,7 +114,8 @@ row_begins (a ∷ b ∷ c ∷ d ∷ rest) o row h e =
       row_is = ap row_of (drop-drop n 3 (b ∷ c ∷ d ∷ rest)) ∙ (sym (row_drop (3 + n) (b ∷ c ∷ d ∷ rest)) ∙ w.2);
     }
 
-nothing : (t : Bool) (u : Bool) (o : DhcpOption) (row : Row) → (if t then Broken Short else if u then Broken OptionLength else Next o row) ≡ Done → ⊥
+nothing : (t : Bool) (u : Bool) (o : DhcpOption) (row : Row)
+    → (if t then Broken Short else if u then Broken OptionLength else Next o row) ≡ Done → ⊥
 nothing true u o row e = cc
 nothing false true o row e = cc
 nothing false false o row e = cc
@@ -118,12 +125,17 @@ unfolding row_behind
 row_empty [] e = refl
 row_empty (x ∷ octets) e = absurd (nothing _ _ _ _ e)
 
-pub are_options : (options : List DhcpOption) (octets : List ℕ) → AreOctets octets → row_of octets ≡ whole options → AreOptions octets options
+pub are_options : (options : List DhcpOption) (octets : List ℕ) → AreOctets octets → row_of octets ≡ whole options
+    → AreOptions octets options
 are_options [] octets h e = record { each = tt; spelled = row_empty octets e }
 are_options (o ∷ options) octets h e =
     let b = row_begins octets o (whole options) h e in
     let more = are_options options b.rest b.fits b.row_is in
-    record { each = (b.is, more.each); spelled = b.spelled ∙ ap (λ (xs : List ℕ). option_octets o.code o.octets ++ xs) more.spelled }
+    record {
+      each = (b.is, more.each);
+      spelled =
+          b.spelled ∙ ap (λ (xs : List ℕ). option_octets o.code o.octets ++ xs) more.spelled;
+    }
 
 -- ---- from options to octets
 
@@ -131,22 +143,27 @@ are_options (o ∷ options) octets h e =
 abbrev row_by : ℕ → ℕ → List ℕ → Row
 row_by code n octets = Next (record { code = code; octets = take n octets }) (row_of (drop n octets))
 
-pub row_of_option : (o : DhcpOption) (rest : List ℕ) → IsOption o → row_of (option_octets o.code o.octets ++ rest) ≡ Next o (row_of rest)
+pub row_of_option : (o : DhcpOption) (rest : List ℕ) → IsOption o
+    → row_of (option_octets o.code o.octets ++ rest) ≡ Next o (row_of rest)
 row_of_option o rest h =
     let octets = option_octets o.code o.octets ++ rest in
     let body = o.octets ++ rest in
-    let code : big_number 2 octets ≡ o.code = big_number-reads_back 2 o.code (big_bytes 2 (length o.octets) ++ body) h.code in
+    let code : big_number 2 octets ≡ o.code =
+    big_number-reads_back 2 o.code (big_bytes 2 (length o.octets) ++ body) h.code in
     let size : big_number 2 (drop 2 octets) ≡ length o.octets = big_number-reads_back 2 (length o.octets) body h.size in
     row_next octets (omega arith) (omega (arith, size, length-append o.octets rest))
     ∙ (ap (λ (k : ℕ). row_by k (big_number 2 (drop 2 octets)) body) code
     ∙ (ap (λ (n : ℕ). row_by o.code n body) size
-    ∙ (ap (λ (xs : List ℕ). Next (record { code = o.code; octets = xs }) (row_of (drop (length o.octets) body))) (take-append_seam o.octets rest)
+    ∙ (ap (λ (xs : List ℕ). Next (record { code = o.code; octets = xs }) (row_of (drop (length o.octets) body)))
+    (take-append_seam o.octets rest)
     ∙ ap (λ (xs : List ℕ). Next o (row_of xs)) (drop-append_seam o.octets rest))))
 
-pub row_again : (options : List DhcpOption) → AllByRecursion IsOption options → row_of (flat_map (λ o. option_octets o.code o.octets) options) ≡ whole options
+pub row_again : (options : List DhcpOption) → AllByRecursion IsOption options
+    → row_of (flat_map (λ o. option_octets o.code o.octets) options) ≡ whole options
 unfolding row_behind
 row_again [] h = refl
-row_again (o ∷ options) h = row_of_option o (flat_map (λ o. option_octets o.code o.octets) options) h.0 ∙ ap (λ (r : Row). Next o r) (row_again options h.1)
+row_again (o ∷ options) h = row_of_option o (flat_map (λ o. option_octets o.code o.octets) options) h.0
+    ∙ ap (λ (r : Row). Next o r) (row_again options h.1)
 
 pub row_is : (octets : List ℕ) (options : List DhcpOption) → AreOptions octets options → row_of octets ≡ whole options
 row_is octets options h = ap row_of h.spelled ∙ row_again options h.each

@@ -62,9 +62,9 @@ once None octets = duid_or (duid_in octets)
 once (Some duid) octets = Err DuplicateId
 
 -- an option that may stand once and whose data is not read
-unfoldable pub marked : Bool → Result Bool PdFault
-marked true = Err DuplicateId
-marked false = Ok true
+unfoldable pub seen_once : Bool → Result Bool PdFault
+seen_once true = Err DuplicateId
+seen_once false = Ok true
 
 -- one IA_PD more, of at most 16
 unfoldable pub with_ia : List IaPd → List ℕ → Result (List IaPd) PdFault
@@ -75,8 +75,8 @@ with_ia ias octets =
 abbrev pub client_code : OptionCode → ClientOptions → List ℕ → Result ClientOptions PdFault
 client_code codes.ClientId s octets = once s.client octets >>! λ client. Ok (record s { client = client })
 client_code codes.ServerId s octets = once s.server octets >>! λ server. Ok (record s { server = server })
-client_code codes.RelayMessage s octets = marked s.relayed >>! λ relayed. Ok (record s { relayed = relayed })
-client_code codes.InterfaceId s octets = marked s.interface >>! λ interface. Ok (record s { interface = interface })
+client_code codes.RelayMessage s octets = seen_once s.relayed >>! λ relayed. Ok (record s { relayed = relayed })
+client_code codes.InterfaceId s octets = seen_once s.interface >>! λ interface. Ok (record s { interface = interface })
 client_code codes.IaPd s octets = with_ia s.ias octets >>! λ ias. Ok (record s { ias = ias })
 client_code codes.IaPrefix s octets = Ok s
 client_code codes.Other s octets = Ok s
@@ -127,9 +127,9 @@ interface_once None octets = Ok (Some octets)
 interface_once (Some interface) octets = Err DuplicateId
 
 abbrev pub relay_code : OptionCode → RelayOptions → List ℕ → Result RelayOptions PdFault
-relay_code codes.ClientId l octets = marked l.client >>! λ client. Ok (record l { client = client })
-relay_code codes.ServerId l octets = marked l.server >>! λ server. Ok (record l { server = server })
-relay_code codes.RelayMessage l octets = marked l.relayed >>! λ relayed. Ok (record l { relayed = relayed })
+relay_code codes.ClientId l octets = seen_once l.client >>! λ client. Ok (record l { client = client })
+relay_code codes.ServerId l octets = seen_once l.server >>! λ server. Ok (record l { server = server })
+relay_code codes.RelayMessage l octets = seen_once l.relayed >>! λ relayed. Ok (record l { relayed = relayed })
 relay_code codes.InterfaceId l octets =
     interface_once l.interface octets >>! λ interface. Ok (record l { interface = interface })
 relay_code codes.IaPd l octets = Ok l

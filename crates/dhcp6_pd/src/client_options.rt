@@ -3,7 +3,7 @@
 ghost use Rattle.std.specs.Prelude.{◌≡◌, false, None};
 ghost use Rattle.text_fields.specs.Parsing.{FindsOr};
 ghost use Rattle.dhcp6_pd.specs.Answers.{Gives};
-ghost use Rattle.dhcp6_pd.specs.Faults.{once, marked, with_ia, client_option, client_options_in, no_client_options};
+ghost use Rattle.dhcp6_pd.specs.Faults.{once, seen_once, with_ia, client_option, client_options_in, no_client_options};
 
 use crate::error::{PdError, PdFault};
 use crate::ia::ia_in;
@@ -45,10 +45,10 @@ fn keep_once(slot: &mut Option<Duid>, octets: &[u8]) -> Result<(), PdFault>
     }
 }
 
-/// Marks an option that may stand once.
-#[tactic(auto, unfolding(crate::specs::Faults::marked))]
-pub fn mark(met: &mut bool) -> Result<(), PdFault>
-    ensures { FindsOr (λ _. met.new) result (marked met.old) }
+/// Notes that an option which may stand once was seen.
+#[tactic(auto, unfolding(crate::specs::Faults::seen_once))]
+pub fn see_once(met: &mut bool) -> Result<(), PdFault>
+    ensures { FindsOr (λ _. met.new) result (seen_once met.old) }
 {
     if *met {
         return Err(PdFault::DuplicateId);
@@ -104,8 +104,8 @@ impl Keeps for ClientOptions {
         match OptionCode::of(option.code) {
             OptionCode::ClientId => keep_once(&mut self.client, option.octets)?,
             OptionCode::ServerId => keep_once(&mut self.server, option.octets)?,
-            OptionCode::RelayMessage => mark(&mut self.relayed)?,
-            OptionCode::InterfaceId => mark(&mut self.interface)?,
+            OptionCode::RelayMessage => see_once(&mut self.relayed)?,
+            OptionCode::InterfaceId => see_once(&mut self.interface)?,
             OptionCode::IaPd => add_ia(alloc, &mut self.ias, option.octets)?,
             OptionCode::IaPrefix | OptionCode::Other => {}
         }

@@ -6,7 +6,7 @@ ghost use Rattle.dhcp6_pd.specs.Parsing.{found_in};
 ghost use Rattle.dhcp6_pd.specs.Answers.{Gives};
 ghost use Rattle.dhcp6_pd.specs.Faults.{interface_once, relay_option, no_relay_options, to_message, relay_of};
 
-use crate::client_options::mark;
+use crate::client_options::see_once;
 use crate::error::{PdError, PdFault};
 use crate::keeping::Keeps;
 use crate::message::Relay;
@@ -105,9 +105,9 @@ impl Keeps for RelayOptions {
     #[tactic(auto, unfolding(crate::specs::Faults::relay_option))]
     fn keep(&mut self, alloc: Global, option: &RawOption<'_>) -> Result<(), PdError> {
         match OptionCode::of(option.code) {
-            OptionCode::ClientId => mark(&mut self.client)?,
-            OptionCode::ServerId => mark(&mut self.server)?,
-            OptionCode::RelayMessage => mark(&mut self.relayed)?,
+            OptionCode::ClientId => see_once(&mut self.client)?,
+            OptionCode::ServerId => see_once(&mut self.server)?,
+            OptionCode::RelayMessage => see_once(&mut self.relayed)?,
             OptionCode::InterfaceId => keep_interface(alloc, &mut self.interface, option.octets)?,
             OptionCode::IaPd | OptionCode::IaPrefix | OptionCode::Other => {}
         }

@@ -1,5 +1,6 @@
 -- Which clients a plain certificate may be of.
-use Rattle.std.specs.Prelude.{◌≡◌, ℕ, ◌+◌, ◌<◌, ◌≤◌, List, [], ◌∷◌, Option, Some, None, MatchOption, IfSome, Contains as Has}
+use Rattle.std.specs.Prelude.{◌≡◌, ℕ, ◌+◌, ◌<◌, ◌≤◌, List, [], ◌∷◌, Option, Some, None, MatchOption, IfSome}
+use Rattle.std.specs.Prelude.{Contains as Has}
 use Rattle.std.proofs.Common.{arith, sym, ◌∙◌, ap, subst, refl}
 use Rattle.prefix_range.specs.Prefix.{IsPrefix}
 use Rattle.journal_lines.specs.declared.event.Lease.{Lease}
@@ -34,12 +35,15 @@ module _ (js : Journals) (q : HolderQuery) (r : Ref) where
 
   -- what a search of the line finds for its client, where the moment isn't in it
   pub not_carried : (g : Lease) → Some g ≡ lease_of js r → (found : Option Reach)
-      → MatchOption found ((m : ℕ) → q.at ≤ m → CarriesAt js (held_by q g.client) m r → ⊥) (λ x. (x.grant ≡ r) × IsReach js (held_by q g.client) x)
+      → MatchOption found ((m : ℕ) → q.at ≤ m → CarriesAt js (held_by q g.client) m r
+      → ⊥) (λ x. (x.grant ≡ r) × IsReach js (held_by q g.client) x)
       → (HasMoment found q.at → ⊥) → (h : List ℕ) → IsClientAt js q r h → ⊥
-  not_carried g e None none not h is = none q.at (omega arith) (subst (λ (k : List ℕ). IsClientAt js q r k) (one_client g e h is) is)
+  not_carried g e None none not h is = none q.at (omega arith)
+      (subst (λ (k : List ℕ). IsClientAt js q r k) (one_client g e h is) is)
   not_carried g e (Some x) reach not h is =
       let own = subst (λ (k : List ℕ). IsClientAt js q r k) (one_client g e h is) is in
-      let at = reached js (held_by q g.client) x q.at reach.1 (subst (λ (s : Ref). CarriesAt js (held_by q g.client) q.at s) (sym reach.0) own) in
+      let at = reached js (held_by q g.client) x q.at reach.1
+      (subst (λ (s : Ref). CarriesAt js (held_by q g.client) q.at s) (sym reach.0) own) in
       not (x, refl, at.0, at.1)
 
 -- ---- the walk over lines
@@ -56,13 +60,19 @@ pub record AreAsked (js : Journals) (q : HolderQuery) (left : List Ref) (last : 
   pub last_asked : IfSome last (λ h. HasNoPlainEvidence js (held_by q h))
 
 module _ (js : Journals) (q : HolderQuery) where
-  named_listed : (left : List Ref) → IsListing js q.prefix left → IsPrefix q.prefix → (r : Ref) → Names js q r → Has left r
+  named_listed : (left : List Ref) → IsListing js q.prefix left → IsPrefix q.prefix → (r : Ref) → Names js q r
+      → Has left r
   named_listed left listed prefix r n = carried_listed js (held_by q n.0) left listed prefix r (q.at, omega arith, n.1)
 
   pub none_asked : (left : List Ref) → IsListing js q.prefix left → IsPrefix q.prefix → AreAsked js q left None
-  none_asked left listed prefix = record { passed = passed_none (Names js q) (IsAsked js q) left (named_listed left listed prefix); last_asked = tt }
+  none_asked left listed prefix = record {
+    passed =
+        passed_none (Names js q) (IsAsked js q) left (named_listed left listed prefix);
+    last_asked = tt;
+  }
 
-  pub asked_on : (left more : List Ref) (r : Ref) (last next : Option (List ℕ)) → left ≡ r ∷ more → IsAsked js q r → IfSome next (λ h. HasNoPlainEvidence js (held_by q h))
+  pub asked_on : (left more : List Ref) (r : Ref) (last next : Option (List ℕ)) → left ≡ r ∷ more → IsAsked js q r
+      → IfSome next (λ h. HasNoPlainEvidence js (held_by q h))
       → AreAsked js q left last → AreAsked js q more next
   asked_on left more r last next e here asked h = record {
     passed = passed_on (Names js q) (IsAsked js q) (IsAsked js q) left more r e (λ j k. k) (λ n. here) h.passed;
@@ -72,14 +82,17 @@ module _ (js : Journals) (q : HolderQuery) where
   pub names_none : (r : Ref) → ((h : List ℕ) → IsClientAt js q r h → ⊥) → IsAsked js q r
   names_none r none h is = absurd (none h is)
 
-  pub asked_client : (r : Ref) (h : List ℕ) → ((k : List ℕ) → IsClientAt js q r k → k ≡ h) → HasNoPlainEvidence js (held_by q h) → IsAsked js q r
+  pub asked_client : (r : Ref) (h : List ℕ) → ((k : List ℕ) → IsClientAt js q r k → k ≡ h)
+      → HasNoPlainEvidence js (held_by q h) → IsAsked js q r
   asked_client r h same none k is = subst (λ (x : List ℕ). HasNoPlainEvidence js (held_by q x)) (sym (same k is)) none
 
-  pub all_asked : (left : List Ref) (last : Option (List ℕ)) → left ≡ [] → AreAsked js q left last → HasNoPlainHolder js q
+  pub all_asked : (left : List Ref) (last : Option (List ℕ)) → left ≡ [] → AreAsked js q left last
+      → HasNoPlainHolder js q
   all_asked left last none h = record {
     none = λ holder. record {
       none = λ c claims plain shown. (
-          let asked = λ (r : Ref) (at : IsClientAt js q r holder). passed_all (Names js q) (IsAsked js q) left none h.passed r (holder, at) holder at in
+          let asked = λ (r : Ref) (at : IsClientAt js q r holder). passed_all (Names js q)
+          (IsAsked js q) left none h.passed r (holder, at) holder at in
           (none_over_gap js (held_by q holder) (record {
             moment = q.at;
             from = omega arith;
@@ -91,7 +104,8 @@ module _ (js : Journals) (q : HolderQuery) where
 
 -- ---- past what a journal shows
 
-pub past_closing : (js : Journals) (q : HolderQuery) (reading : ℕ) → ClosesAt (journal_of js Primary) reading → reading ≤ q.at → HasNoPlainHolder js q
+pub past_closing : (js : Journals) (q : HolderQuery) (reading : ℕ) → ClosesAt (journal_of js Primary) reading
+    → reading ≤ q.at → HasNoPlainHolder js q
 past_closing js q reading closes le = record {
   none = λ holder. record {
     none = λ c claims plain shown. (

@@ -12,14 +12,17 @@ use Rattle.volume_heads.specs.NextHead.{AreLegal}
 use Rattle.plain_search.specs.declared.query.Query.{Query}
 use Rattle.plain_search.specs.declared.query.HolderQuery.{HolderQuery}
 use Rattle.plain_search.specs.declared.error.FindError.{FindError}
-use Rattle.evidence_search.specs.Claim.{asked, between, held_by, Claims, IsShown, HasNoPlainEvidence, IsRound, IsAcceptedOf, IsWidest}
+use Rattle.evidence_search.specs.Claim.{asked, between, held_by, Claims, IsShown, HasNoPlainEvidence, IsRound}
+use Rattle.evidence_search.specs.Claim.{IsAcceptedOf, IsWidest}
 use Rattle.evidence_search.specs.Search.{IsShownRound}
 
-pub past_reading : (lines : List Line) (reading limit : ℕ) → ClosesAt lines reading → reading < limit → ClosesFrom lines limit → ⊥
+pub past_reading : (lines : List Line) (reading limit : ℕ) → ClosesAt lines reading → reading < limit
+    → ClosesFrom lines limit → ⊥
 past_reading lines reading limit h lt x = let is = h.each x.0 x.1 x.2 in let le = x.3 in absurd (omega arith)
 
 module _ (js : Journals) (q : Query) where
-  pub shown_round : (c : Certificate) (from to : ℕ) → from ≤ q.from → q.to ≤ to → Claims (between q from to) c → IsShown js (between q from to) c → IsTrueInEveryRun AreLegal js q.skew q.transit c
+  pub shown_round : (c : Certificate) (from to : ℕ) → from ≤ q.from → q.to ≤ to → Claims (between q from to) c
+      → IsShown js (between q from to) c → IsTrueInEveryRun AreLegal js q.skew q.transit c
       → IsShownRound js q c
   shown_round c from to before behind claims shown true = record {
     holder = claims.holder;
@@ -44,7 +47,8 @@ module _ (js : Journals) (q : Query) where
     pub within : c.to ≤ high
     pub none : HasNoPlainEvidence js (between q from (high + 1))
 
-  pub none_past : (from to : ℕ) → (ClosesFrom (journal_of js Primary) (to + q.skew) → ⊥) → HasNoPlainEvidence js (between q from to)
+  pub none_past : (from to : ℕ) → (ClosesFrom (journal_of js Primary) (to + q.skew) → ⊥)
+      → HasNoPlainEvidence js (between q from to)
   none_past from to not = record {
     none = λ c claims plain shown. not (
         let ok = accepted_from js q.skew q.transit c shown.verdict in
@@ -65,15 +69,20 @@ module _ (js : Journals) (q : HolderQuery) (holder : List ℕ) where
   accepted_of (Err e) h = tt
   accepted_of (Ok c) h = record { verdict = h.shown.verdict }
 
-  pub true_of : (r : Result Certificate FindError) → IfOk r (IsShownRound js Held) → IfOk r (IsTrueInEveryRun AreLegal js q.skew q.transit)
+  pub true_of : (r : Result Certificate FindError) → IfOk r (IsShownRound js Held)
+      → IfOk r (IsTrueInEveryRun AreLegal js q.skew q.transit)
   true_of (Err e) h = tt
   true_of (Ok c) h = h.headline
 
-  none_before : (c : Certificate) (m : ℕ) → c.holder ≡ holder → HasNoPlainEvidence js (between Held m (q.at + 1)) → HasNoPlainEvidence js (between (held_by q c.holder) m (q.at + 1))
-  none_before c m of none = subst (λ (h : List ℕ). HasNoPlainEvidence js (asked h q.prefix m (q.at + 1) q.skew q.transit)) (sym of) none
+  none_before : (c : Certificate) (m : ℕ) → c.holder ≡ holder → HasNoPlainEvidence js (between Held m (q.at + 1))
+      → HasNoPlainEvidence js (between (held_by q c.holder) m (q.at + 1))
+  none_before c m of none =
+      subst (λ (h : List ℕ). HasNoPlainEvidence js (asked h q.prefix m (q.at + 1) q.skew q.transit)) (sym of) none
 
-  none_behind : (c : Certificate) → c.holder ≡ holder → HasNoPlainEvidence js (between Held c.from (c.to + 1)) → HasNoPlainEvidence js (between (held_by q c.holder) c.from (c.to + 1))
-  none_behind c of none = subst (λ (h : List ℕ). HasNoPlainEvidence js (asked h q.prefix c.from (c.to + 1) q.skew q.transit)) (sym of) none
+  none_behind : (c : Certificate) → c.holder ≡ holder → HasNoPlainEvidence js (between Held c.from (c.to + 1))
+      → HasNoPlainEvidence js (between (held_by q c.holder) c.from (c.to + 1))
+  none_behind c of none =
+      subst (λ (h : List ℕ). HasNoPlainEvidence js (asked h q.prefix c.from (c.to + 1) q.skew q.transit)) (sym of) none
 
   pub widest_of : (r : Result Certificate FindError) → IfOk r (IsShownRound js Held)
       → IfOk r (λ c. (m : ℕ) → m + 1 ≡ c.from → HasNoPlainEvidence js (between Held m (q.at + 1)))

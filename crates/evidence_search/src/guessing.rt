@@ -54,14 +54,14 @@ fn carried_round(reaches: &[Reach], moment: Reading) -> Guess {
 }
 
 /// When what was told of at this reading has surely ended.
-fn ended(query: &Query, lasting: Lasting, told: Reading) -> u64 {
+fn end_of(query: &Query, lasting: Lasting, granted: Reading) -> u64 {
     let late = query.skew.milliseconds() + query.transit.milliseconds();
     match lasting {
         Lasting::For(seconds) => {
             if seconds == Lease::INFINITE {
                 return u64::MAX;
             }
-            told.milliseconds() + late + 1000 * u64::from(seconds)
+            granted.milliseconds() + late + 1000 * u64::from(seconds)
         }
         Lasting::Until(end) => end.milliseconds() + late,
     }
@@ -80,14 +80,14 @@ fn beside<S: LineSource>(
     requires { IsRecent (S.journals source.now) recent.old }
     ensures { OnOk result (IsRecent (S.journals source.now) recent.new) }
 {
-    let Some(told) = reading_at(source, at) else {
+    let Some(granted) = reading_at(source, at) else {
         return Ok(guess);
     };
     let skew = query.skew.milliseconds();
-    if begins_late(query, delegation.lasting, told) {
-        return Ok(guess.not_behind(told.milliseconds().saturating_sub(skew)));
+    if begins_late(query, delegation.lasting, granted) {
+        return Ok(guess.not_behind(granted.milliseconds().saturating_sub(skew)));
     }
-    let over = ended(query, delegation.lasting, told);
+    let over = end_of(query, delegation.lasting, granted);
     let release = first_returning(alloc, source, recent, query.skew, at, delegation)?;
     let over = match release {
         Some(release) => over.min(release.reading.milliseconds() + skew),

@@ -17,7 +17,8 @@ IsTable {A} code_of values = (a : A) → find (λ value. eqb (code_of value) (co
 
 pub statuses : IsTable status_code STATUSES
 statuses =
-    by_status (λ s. find (λ value. eqb (status_code value) (status_code s)) STATUSES ≡ Some s) refl refl refl refl refl refl
+    by_status (λ s. find (λ value. eqb (status_code value) (status_code s)) STATUSES ≡ Some s) refl refl refl refl refl
+    refl
 
 pub acknowledgements : IsTable acknowledgement_code ACKNOWLEDGEMENTS
 acknowledgements Accept = refl
@@ -33,8 +34,10 @@ states Interrupted = refl
 states Down = refl
 
 -- what a search through the values finds is what parsing gives
-pub code_found : {A : Type 0} (code_of : A → ℕ) (values : List A) (octets rest : List ℕ) (code : ℕ) (found : Option A) → octet_at octets ≡ Some (code, rest)
-    → option_map (λ value. value) found ≡ find (λ value. eqb (code_of value) code) values → Moves (λ value. value) found rest (coded_at code_of values octets)
+pub code_found : {A : Type 0} (code_of : A → ℕ) (values : List A) (octets rest : List ℕ) (code : ℕ) (found : Option A)
+    → octet_at octets ≡ Some (code, rest)
+    → option_map (λ value. value) found ≡ find (λ value. eqb (code_of value) code) values
+    → Moves (λ value. value) found rest (coded_at code_of values octets)
 unfolding coded_at
 code_found code_of values octets rest code None here is = rw (here, ← is) refl
 code_found code_of values octets rest code (Some value) here is = rw (here, ← is) refl

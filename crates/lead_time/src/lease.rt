@@ -30,7 +30,7 @@ pub fn takeover(told: End, down: Reading, mclt: u32, skew: Skew, transit: Transi
 }
 
 /// Returns whether a grant has ended when the server's clock shows `now`: from its end on.
-pub fn ended(now: Reading, own_end: End) -> bool
+pub fn is_past(now: Reading, own_end: End) -> bool
     ensures { IsTrue result ↔ (own_end ≤ now) }
 {
     now.milliseconds() >= own_end.milliseconds()

@@ -24,7 +24,7 @@ mod transit;
 pub use bounds::{earliest, latest};
 pub use end::End;
 pub use error::LeadTimeError;
-pub use lease::{allowed_valid, ended, own_end, takeover, told_end};
+pub use lease::{allowed_valid, is_past, own_end, takeover, told_end};
 pub use reading::Reading;
 pub use skew::Skew;
 pub use transit::Transit;

@@ -9,7 +9,7 @@ use Rattle.journal_lines.specs.declared.line.Line.{Line}
 use Rattle.journal_lines.specs.declared.line.Journal.{Journal}
 use Rattle.journal_lines.specs.Head.{volume_number}
 use Rattle.book_rules.specs.declared.rule.Rule.TheVariants.{Sequence}
-use Rattle.book_state.specs.Book.{Book, blank}
+use Rattle.book_state.specs.Book.{BookState, blank}
 use Rattle.book_state.specs.Effects.{after}
 use Rattle.book_rules.specs.VolumeRules.{KeepsSequence}
 use Rattle.book_rules.specs.Volumes.{AreSteps, book_after}
@@ -17,13 +17,13 @@ use Rattle.order_book.specs.declared.reply.Reply.{Reply}
 use Rattle.order_book.specs.Answer.{reply_to}
 use Rattle.order_book.specs.Replayed.{IsLegal, state_of, with_line}
 use Rattle.locked_book.specs.declared.receipt.Receipt.{Receipt}
-use Rattle.locked_book.specs.Serving.{line_at, Stands}
-use Rattle.locked_book.specs.Telling.{AreTold, outcome_in, reply_behind}
+use Rattle.locked_book.specs.Serving.{line_at, ReceiptStands}
+use Rattle.locked_book.specs.Telling.{AreOutcomes, outcome_in, reply_behind}
 use Rattle.locked_book.proofs.Lists.{get_front, get_last, take_front, take_all}
 
 -- ---- lines are counted, and few
 
-counted_from : (ls : List Line) (b : Book) → AreSteps b ls → (book_after b ls).count ≡ b.count + length ls
+counted_from : (ls : List Line) (b : BookState) → AreSteps b ls → (book_after b ls).count ≡ b.count + length ls
 counted_from [] b steps = omega arith
 counted_from (l ∷ ls) b steps =
     let s : KeepsSequence b l = steps.0 Sequence in
@@ -34,7 +34,7 @@ counted_from (l ∷ ls) b steps =
 pub counted : (j : Journal) → IsLegal j → (state_of j).count ≡ length j.lines
 counted j legal = let h = counted_from j.lines (blank j.role (volume_number j.head)) legal in omega (arith, h)
 
-few_more : (ls : List Line) (b : Book) → AreSteps b ls → b.count ≤ 2 ^ 20 → b.count + length ls ≤ 2 ^ 20
+few_more : (ls : List Line) (b : BookState) → AreSteps b ls → b.count ≤ 2 ^ 20 → b.count + length ls ≤ 2 ^ 20
 few_more [] b steps few = omega arith
 few_more (l ∷ ls) b steps few =
     let s : KeepsSequence b l = steps.0 Sequence in
@@ -52,7 +52,7 @@ number_within : (ls : List Line) (n : ℕ) (l : Line) → line_at ls n ≡ Some 
 number_within ls zero l h = omega arith
 number_within ls (suc n) l h = let w = slice_get_within ls n l h in omega arith
 
-pub stands_below : (ls : List Line) (last : Option Receipt) (n : ℕ) → Stands ls last → n ≡ length ls + 1
+pub stands_below : (ls : List Line) (last : Option Receipt) (n : ℕ) → ReceiptStands ls last → n ≡ length ls + 1
     → IfSome last (λ r. r.number < n)
 stands_below ls None n h e = tt
 stands_below ls (Some r) n h e = let w = number_within ls r.number r.line h in omega (arith, e)
@@ -69,14 +69,16 @@ module _ (j : Journal) (l : Line) where
   at_end : (m : Line) → reply_behind (with_line j l) (length j.lines) m ≡ reply_to (state_of j) m.reading m.event
   at_end m = ap (λ ls. reply_by ls m) (take_front j.lines (l ∷ []) (length j.lines) (omega arith) ∙ take_all j.lines)
 
-  module _ (opened : ℕ) (told : List (Option Outcome)) (h : AreTold j opened told) where
+  module _ (opened : ℕ) (told : List (Option Outcome)) (h : AreOutcomes j opened told) where
     before_end : (o : Option Outcome) (i : ℕ) (m : Line) → i < length told
         → slice_get (with_line j l).lines (opened + i) ≡ Some m
         → slice_get (told ++ o ∷ []) i ≡ Some (outcome_in (reply_behind (with_line j l) (opened + i) m))
     before_end o i m lt at =
         let all = h.all in
-        let old : slice_get j.lines (opened + i) ≡ Some m = sym (get_front j.lines (l ∷ []) (opened + i) (omega arith)) ∙ at in
-        get_front told (o ∷ []) i lt ∙ (h.each i m old ∙ ap (λ r. Some (outcome_in r)) (sym (earlier m (opened + i) (omega arith))))
+        let old : slice_get j.lines (opened + i) ≡ Some m = sym (get_front j.lines (l ∷ []) (opened + i) (omega arith))
+        ∙ at in
+        get_front told (o ∷ []) i lt ∙ (h.each i m old
+        ∙ ap (λ r. Some (outcome_in r)) (sym (earlier m (opened + i) (omega arith))))
 
     at_last : (o : Option Outcome) (i : ℕ) (m : Line) → o ≡ outcome_in (reply_to (state_of j) l.reading l.event)
         → i ≡ length told → slice_get (with_line j l).lines (opened + i) ≡ Some m
@@ -84,9 +86,11 @@ module _ (j : Journal) (l : Line) where
     at_last o i m e is at =
         let all = h.all in
         let place : opened + i ≡ length j.lines = omega (arith, is) in
-        let last : slice_get (with_line j l).lines (opened + i) ≡ Some l = ap (λ n. slice_get (with_line j l).lines n) place ∙ get_last j.lines l in
+        let last : slice_get (with_line j l).lines (opened + i) ≡ Some l =
+        ap (λ n. slice_get (with_line j l).lines n) place ∙ get_last j.lines l in
         let same : l ≡ m = cc in
-        let read : slice_get (told ++ o ∷ []) i ≡ Some o = ap (λ n. slice_get (told ++ o ∷ []) n) is ∙ get_last told o in
+        let read : slice_get (told ++ o ∷ []) i ≡ Some o = ap (λ n. slice_get (told ++ o ∷ []) n) is
+        ∙ get_last told o in
         let behind : reply_behind (with_line j l) (opened + i) m ≡ reply_to (state_of j) m.reading m.event =
         ap (λ n. reply_behind (with_line j l) n m) place ∙ at_end m in
         let known : o ≡ outcome_in (reply_to (state_of j) m.reading m.event) =
@@ -94,9 +98,10 @@ module _ (j : Journal) (l : Line) where
         read ∙ ap Some (known ∙ ap outcome_in (sym behind))
 
     pub told_more : (o : Option Outcome) → o ≡ outcome_in (reply_to (state_of j) l.reading l.event)
-        → AreTold (with_line j l) opened (told ++ o ∷ [])
+        → AreOutcomes (with_line j l) opened (told ++ o ∷ [])
     told_more o e = record {
-      all = let all = h.all in let a = length-append j.lines (l ∷ []) in let b = length-append told (o ∷ []) in omega (arith, a, b);
+      all = let all = h.all in let a = length-append j.lines (l ∷ []) in let b = length-append told (o ∷ []) in
+          omega (arith, a, b);
       each = λ i m at. elim (cases_lt i (length told)) [
         | inl lt ↦ before_end o i m lt at
         | inr le ↦

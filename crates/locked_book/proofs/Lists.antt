@@ -1,5 +1,6 @@
 -- Lists with one element more.
-use Rattle.std.specs.Prelude.{◌≡◌, ℕ, zero, suc, ◌+◌, ◌-◌, ◌<◌, ◌≤◌, List, [], ◌∷◌, ◌++◌, length, take, slice_get, Some, All}
+use Rattle.std.specs.Prelude.{◌≡◌, ℕ, zero, suc, ◌+◌, ◌-◌, ◌<◌, ◌≤◌, List, [], ◌∷◌, ◌++◌, length, take, slice_get, Some}
+use Rattle.std.specs.Prelude.{All}
 use Rattle.std.proofs.Common.{refl, ap, sym, subst, ◌∙◌, get_or, length-append, arith}
 use Rattle.std.proofs.lemmas.List.{take_more}
 use Rattle.std.proofs.lemmas.List.Elements.{All-push}
@@ -36,11 +37,13 @@ take_end (x ∷ xs) zero h = absurd (omega arith)
 take_end (x ∷ xs) (suc i) h = ap (λ zs. x ∷ zs) (take_end xs i (omega arith))
 
 -- the last of a list with one element more
-pub latest_is : {X : Type 0} (xs zs : List X) (x y : X) → zs ≡ xs ++ x ∷ [] → slice_get zs (length zs - 1) ≡ Some y → y ≡ x
+pub latest_is : {X : Type 0} (xs zs : List X) (x y : X) → zs ≡ xs ++ x ∷ [] → slice_get zs (length zs - 1) ≡ Some y
+    → y ≡ x
 latest_is xs zs x y is at =
     let a = length-append xs (x ∷ []) in
     let place : length (xs ++ x ∷ []) - 1 ≡ length xs = omega (arith, a) in
     let there : slice_get (xs ++ x ∷ []) (length (xs ++ x ∷ []) - 1) ≡ Some x =
     ap (λ k. slice_get (xs ++ x ∷ []) k) place ∙ get_last xs x in
-    let here : slice_get zs (length zs - 1) ≡ Some x = subst (λ ws. slice_get ws (length ws - 1) ≡ Some x) (sym is) there in
+    let here : slice_get zs (length zs - 1) ≡ Some x =
+    subst (λ ws. slice_get ws (length ws - 1) ≡ Some x) (sym is) there in
     cc

@@ -45,7 +45,8 @@ in_order_or_same rs d i j h le within = elim (cases_lt i j) [
 pub rises : (rs : List Receipt) → AreAbove 0 rs → IsNonDecreasingBy (λ (r : Receipt). r.number) rs
 rises [] h = λ i j d le lt. absurd (omega arith)
 rises (r ∷ rs) h =
-    IsNonDecreasingBy-from_default (λ (x : Receipt). x.number) (r ∷ rs) r (λ i j le lt. in_order_or_same (r ∷ rs) r i j h le lt)
+    IsNonDecreasingBy-from_default (λ (x : Receipt). x.number) (r ∷ rs) r
+    (λ i j le lt. in_order_or_same (r ∷ rs) r i j h le lt)
 
 -- ---- how many have a number
 
@@ -127,7 +128,8 @@ module _ (rs : List Receipt) (n first : ℕ) (h : AreAbove 0 rs)
         | inr le ↦ absurd (past_end rs first i x past le there)
       ])
     where
-      past_end : (xs : List Receipt) (k i : ℕ) (x : Receipt) → slice_get xs k ≡ None → k ≤ i → slice_get xs i ≡ Some x → ⊥
+      past_end : (xs : List Receipt) (k i : ℕ) (x : Receipt) → slice_get xs k ≡ None → k ≤ i → slice_get xs i ≡ Some x
+          → ⊥
       past_end [] k i x none le at = absurd (cc)
       past_end (y ∷ xs) zero i x none le at = absurd (cc)
       past_end (y ∷ xs) (suc k) zero x none le at = absurd (omega arith)

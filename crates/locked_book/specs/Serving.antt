@@ -5,7 +5,7 @@ use Rattle.prefix_range.specs.Prefix.{Prefix}
 use Rattle.binding_rules.specs.declared.unit.Unit.{Unit as UnitValue}
 use Rattle.journal_lines.specs.declared.line.Line.{Line}
 use Rattle.journal_lines.specs.declared.line.Journal.{Journal}
-use Rattle.book_state.specs.Book.{Book as BookState, is_unit}
+use Rattle.book_state.specs.Book.{BookState as BookState, is_unit}
 use Rattle.order_book.specs.declared.order.Order.{Order}
 use Rattle.order_book.specs.declared.reply.Reply.TheVariants.{Granted}
 use Rattle.order_book.specs.Answer.{IsAnswer, IsFirstRefusal, IsRefusal}
@@ -38,8 +38,8 @@ abbrev pub last_receipt : List Receipt → Option Receipt
 last_receipt receipts = slice_get receipts (length receipts - 1)
 
 -- the line of this receipt, if there is one, stands at its number
-abbrev pub Stands : List Line → Option Receipt → Type 0
-Stands lines last = IfSome last (λ r. line_at lines r.number ≡ Some r.line)
+abbrev pub ReceiptStands : List Line → Option Receipt → Type 0
+ReceiptStands lines last = IfSome last (λ r. line_at lines r.number ≡ Some r.line)
 
 -- the line that was found isn't the receipt's
 abbrev pub IsStrange : List Line → Option Receipt → ℕ → Option Line → Type 0
@@ -48,7 +48,7 @@ IsStrange lines last number found =
 
 -- the only refusal is that the line that was found isn't the last receipt's
 abbrev pub IsShown : List Line → Option Receipt → Result (Unit {0}) ServeError → Type 0
-IsShown lines last (Ok done) = Stands lines last
+IsShown lines last (Ok done) = ReceiptStands lines last
 IsShown lines last (Err (Stranger number found)) = IsStrange lines last number found
 IsShown lines last (Err _) = ⊥
 
@@ -57,18 +57,18 @@ IsShown lines last (Err _) = ⊥
 -- an order's, which adds a line
 abbrev pub IsPassServed : Journal → Option Receipt → ℕ → Order → Result Receipt ServeError → Type 0
 IsPassServed j last now order (Ok r) =
-    Stands j.lines last × IsAnswer (state_of j) now order r.line r.reply × (r.number ≡ length j.lines + 1)
+    ReceiptStands j.lines last × IsAnswer (state_of j) now order r.line r.reply × (r.number ≡ length j.lines + 1)
 IsPassServed j last now order (Err (Stranger number found)) = IsStrange j.lines last number found
-IsPassServed j last now order (Err (Book e)) = Stands j.lines last × IsRefusal (state_of j) now order e
-IsPassServed j last now order (Err Memory) = Stands j.lines last
+IsPassServed j last now order (Err (Book e)) = ReceiptStands j.lines last × IsRefusal (state_of j) now order e
+IsPassServed j last now order (Err Memory) = ReceiptStands j.lines last
 
 -- an offer's: what a Request would be given
-abbrev pub IsOffered : Journal → Option Receipt → ℕ → Order → Result (Prefix × ℕ) ServeError → Type 0
-IsOffered j last now order (Ok g) =
-    Stands j.lines last × (l : Line) × IsAnswer (state_of j) now order l (Granted g.0 g.1)
-IsOffered j last now order (Err (Stranger number found)) = IsStrange j.lines last number found
-IsOffered j last now order (Err (Book e)) = Stands j.lines last × IsFirstRefusal (state_of j) now order e
-IsOffered j last now order (Err Memory) = ⊥
+abbrev pub IsPassOffered : Journal → Option Receipt → ℕ → Order → Result (Prefix × ℕ) ServeError → Type 0
+IsPassOffered j last now order (Ok g) =
+    ReceiptStands j.lines last × (l : Line) × IsAnswer (state_of j) now order l (Granted g.0 g.1)
+IsPassOffered j last now order (Err (Stranger number found)) = IsStrange j.lines last number found
+IsPassOffered j last now order (Err (Book e)) = ReceiptStands j.lines last × IsFirstRefusal (state_of j) now order e
+IsPassOffered j last now order (Err Memory) = ⊥
 
 -- the unit of a prefix, if it is one
 abbrev pub IsUnitFound : BookState → Prefix → Option UnitValue → Type 0
@@ -82,7 +82,7 @@ pub record IsLook (j : Journal) (p : Prefix) (look : Look) : Type 0 where
   pub down : look.down ≡ (state_of j).down
 
 abbrev pub IsLooked : Journal → Option Receipt → Prefix → Result Look ServeError → Type 0
-IsLooked j last p (Ok look) = Stands j.lines last × IsLook j p look
+IsLooked j last p (Ok look) = ReceiptStands j.lines last × IsLook j p look
 IsLooked j last p (Err (Stranger number found)) = IsStrange j.lines last number found
 IsLooked j last p (Err _) = ⊥
 
@@ -99,7 +99,7 @@ pub record IsWork (j : Journal) (now from : ℕ) (work : Work) : Type 0 where
   pub down : work.down ≡ (state_of j).down
 
 abbrev pub IsWorkFound : Journal → Option Receipt → ℕ → ℕ → Result Work ServeError → Type 0
-IsWorkFound j last now from (Ok work) = Stands j.lines last × IsWork j now from work
+IsWorkFound j last now from (Ok work) = ReceiptStands j.lines last × IsWork j now from work
 IsWorkFound j last now from (Err (Stranger number found)) = IsStrange j.lines last number found
 IsWorkFound j last now from (Err _) = ⊥
 

@@ -22,7 +22,7 @@ abbrev pub reply_behind : Journal → ℕ → Line → Reply
 reply_behind j count l = reply_to (state_of (first_lines j count)) l.reading l.event
 
 -- For bodies only: for each line behind the opening, what was made of the message that it takes.
-pub record AreTold (j : Journal) (opened : ℕ) (told : List (Option Outcome)) : Type 0 where
-  pub all : opened + length told ≡ length j.lines
+pub record AreOutcomes (j : Journal) (opened : ℕ) (outcomes : List (Option Outcome)) : Type 0 where
+  pub all : opened + length outcomes ≡ length j.lines
   pub each : (i : ℕ) (l : Line) → slice_get j.lines (opened + i) ≡ Some l
-      → slice_get told i ≡ Some (outcome_in (reply_behind j (opened + i) l))
+      → slice_get outcomes i ≡ Some (outcome_in (reply_behind j (opened + i) l))

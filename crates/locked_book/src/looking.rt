@@ -2,7 +2,7 @@
 
 ghost use Rattle.order_book.specs.Answer.{IsRequest};
 ghost use Rattle.order_book.specs.Replayed.{IsLegal};
-ghost use Rattle.locked_book.specs.Serving.{IsLooked, IsOffered, IsWorkFound};
+ghost use Rattle.locked_book.specs.Serving.{IsLooked, IsPassOffered, IsWorkFound};
 
 use crate::error::ServeError;
 use crate::receipt::{Look, Receipt, Work};
@@ -63,7 +63,7 @@ pub(crate) fn offer_of(
     order: &Order,
 ) -> Result<(Prefix, u32), ServeError>
     requires { IsRequest order.now }
-    ensures offered { IsOffered book.now last now order.now result }
+    ensures offered { IsPassOffered book.now last now order.now result }
     ensures legal { IsLegal book.now }
 {
     show(book.journal(), last)?;

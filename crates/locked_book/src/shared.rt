@@ -5,7 +5,7 @@ ghost use Rattle.std.specs.Prelude.{IfOk, IfErr, IfSome, OnErr, MatchResult};
 ghost use Rattle.journal_lines.specs.declared.line.Journal.{Journal};
 ghost use Rattle.order_book.specs.Answer.{IsRequest};
 ghost use Rattle.order_book.specs.Replayed.{IsLegal};
-ghost use Rattle.locked_book.specs.Serving.{last_receipt, IsPassServed, IsLooked, IsOffered, IsWorkFound};
+ghost use Rattle.locked_book.specs.Serving.{last_receipt, IsPassServed, IsLooked, IsPassOffered, IsWorkFound};
 ghost use Rattle.locked_book.specs.Closing.{receipt_count, IsWhole, new_pass};
 ghost use Rattle.locked_book.specs.declared.error.CloseFault.TheVariants.{MissingPass, ReceiptMismatch};
 ghost use Rattle.locked_book.specs.declared.error.LockFault.TheVariants.{Passes};
@@ -177,7 +177,7 @@ impl<N: BookName> SharedBook<N> {
     ) -> Result<(Prefix, u32), ServeError>
         requires { IsRequest order.now }
         ensures offered { (j : Journal) × IsLegal j
-            × IsOffered j (last_receipt pass.old.receipts) now order.now result }
+            × IsPassOffered j (last_receipt pass.old.receipts) now order.now result }
         ensures same { pass.new ≡ pass.old }
     {
         let last = pass.last();

@@ -1,7 +1,7 @@
 //! What is told of a line.
 
 ghost use Rattle.std.specs.Prelude.{◌≡◌};
-ghost use Rattle.book_state.specs.Book.{Book};
+ghost use Rattle.book_state.specs.Book.{BookState};
 ghost use Rattle.order_book.specs.Answer.{reply_to};
 ghost use Rattle.locked_book.specs.Telling.{outcome_in};
 
@@ -20,11 +20,11 @@ pub(crate) fn outcome_in(reply: &Reply) -> Option<Outcome>
 }
 
 /// The reply that a line had, where this was made of the message that it takes.
-pub(crate) fn reply_of(line: &Line, told: Option<Outcome>) -> Reply
-    ensures { (b : Book) → told ≡ outcome_in (reply_to b line.now.reading line.now.event)
+pub(crate) fn reply_of(line: &Line, outcome: Option<Outcome>) -> Reply
+    ensures { (b : BookState) → outcome ≡ outcome_in (reply_to b line.now.reading line.now.event)
         → result ≡ reply_to b line.now.reading line.now.event }
 {
-    match (&line.event, told) {
+    match (&line.event, outcome) {
         (Event::Grant(lease), _) => Reply::Granted {
             prefix: lease.prefix,
             valid: lease.valid,

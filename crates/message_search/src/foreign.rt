@@ -88,12 +88,14 @@ fn reason_of<S: LineSource>(
     requires { IsRecent (S.journals source.now) recent.old }
     ensures { OnOk result (IsRecent (S.journals source.now) recent.new) }
 {
-    let (Some(told), Some(since)) = (latest(source, messages, at), earliest(source, messages, at))
-    else {
+    let (Some(granted), Some(since)) = (
+        latest(source, messages, at),
+        earliest(source, messages, at),
+    ) else {
         return Err(FindError::NoneFound);
     };
-    if has_ended(query, delegation.lasting, told.reading) {
-        return Ok(Reason::Early(latest_chain(alloc, at, &told)?));
+    if has_ended(query, delegation.lasting, granted.reading) {
+        return Ok(Reason::Early(latest_chain(alloc, at, &granted)?));
     }
     if begins_late(query, delegation.lasting, since.reading) {
         return Ok(Reason::Late(earliest_chain(alloc, at, &since)?));

@@ -5,14 +5,15 @@ use Rattle.std.proofs.Common.{ap, sym, ◌∙◌, subst, append_assoc, append-ni
 use Rattle.std.proofs.Math.Seq.{take-suc}
 use Rattle.binding_rules.specs.declared.message.PartnerMessage.{PartnerMessage}
 use Rattle.dhcp6_pd.specs.declared.message.ClientKind.{ClientKind}
-use Rattle.dhcp6_pd.specs.declared.message.ClientKind.TheVariants.{Solicit, Request as RequestKind, Renew as RenewKind, Rebind}
+use Rattle.dhcp6_pd.specs.declared.message.ClientKind.TheVariants.{Solicit, Request as RequestKind, Renew as RenewKind}
+use Rattle.dhcp6_pd.specs.declared.message.ClientKind.TheVariants.{Rebind}
 use Rattle.dhcp6_pd.specs.declared.message.ClientKind.TheVariants.{Release as ReleaseKind}
 use Rattle.dhcp6_pd.specs.declared.message.ClientMessage.{ClientMessage}
 use Rattle.dhcp6_pd.specs.declared.message.IaPd.{IaPd}
 use Rattle.journal_lines.specs.declared.event.Event.{Event}
 use Rattle.journal_lines.specs.declared.event.Event.TheVariants.{Take as TakeLine}
 use Rattle.journal_lines.specs.declared.line.Journal.{Journal}
-use Rattle.book_state.specs.Book.{Book}
+use Rattle.book_state.specs.Book.{BookState}
 use Rattle.order_book.specs.declared.order.Order.{Order}
 use Rattle.order_book.specs.declared.order.Order.TheVariants.{Request, Renew, Release, Expire, Backup, Reclaim, Seize}
 use Rattle.order_book.specs.declared.order.Order.TheVariants.{SendUpdate, SendReply, SendContact, Take, State, Restart}
@@ -28,7 +29,8 @@ use Rattle.node_threads.specs.Receipts.{taken_by, taken_after, last_taken, IsNew
 
 -- ---- lists
 
-taken_after-append : (last : ℕ) (xs ys : List Receipt) → taken_after last (xs ++ ys) ≡ taken_after (taken_after last xs) ys
+taken_after-append : (last : ℕ) (xs ys : List Receipt) → taken_after last (xs ++ ys)
+    ≡ taken_after (taken_after last xs) ys
 taken_after-append last [] ys = refl
 taken_after-append last (x ∷ xs) ys = taken_after-append (taken_by last x.line.event) xs ys
 
@@ -52,7 +54,7 @@ goes_on a b c h k =
 
 -- ---- orders
 
-other_newer : (b : Book) (now : ℕ) (order : Order) (e : Event) (last : ℕ) → IsOther order → IsNamed b now order e
+other_newer : (b : BookState) (now : ℕ) (order : Order) (e : Event) (last : ℕ) → IsOther order → IsNamed b now order e
     → IsNewer last e
 other_newer b now (Request a) e last _ h = subst (λ x. IsNewer last x) (sym h.2) tt
 other_newer b now (Renew a) e last _ h = subst (λ x. IsNewer last x) (sym h.2) tt

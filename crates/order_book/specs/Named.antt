@@ -15,8 +15,8 @@ use Rattle.journal_lines.specs.declared.event.Event.TheVariants.{Backup as Backu
 use Rattle.journal_lines.specs.declared.event.Event.TheVariants.{Seize as SeizeLine, Send, Take as TakeLine}
 use Rattle.journal_lines.specs.declared.event.Event.TheVariants.{State as StateLine, Restart as RestartLine}
 use Rattle.journal_lines.specs.declared.event.Event.TheVariants.{Close as CloseLine}
-use Rattle.book_state.specs.Book.{Book}
-use Rattle.book_rules.specs.MessageRules.{IsTold, TellsNumbers}
+use Rattle.book_state.specs.Book.{BookState}
+use Rattle.book_rules.specs.MessageRules.{TellsUnit, TellsNumbers}
 use Rattle.order_book.specs.declared.order.Asked.{Asked}
 use Rattle.order_book.specs.declared.order.Order.{Order}
 use Rattle.order_book.specs.declared.order.Order.TheVariants.{Request, Renew, Release, Expire, Backup, Reclaim, Seize}
@@ -25,7 +25,7 @@ use Rattle.order_book.specs.declared.order.Order.TheVariants.{Close}
 use Rattle.order_book.specs.Bindings.{IsHinted, IsBound, IsOffered}
 
 -- the lifetime is what the maximum client lead time allows
-abbrev pub lease_of : Book → ℕ → Asked → Prefix → Lease
+abbrev pub lease_of : BookState → ℕ → Asked → Prefix → Lease
 lease_of b now a p =
     record {
       client = a.client;
@@ -35,19 +35,19 @@ lease_of b now a p =
     }
 
 -- the next message to the partner
-abbrev pub message_of : Book → Body → PartnerMessage
+abbrev pub message_of : BookState → Body → PartnerMessage
 message_of b body = record { term = b.term; serial = b.serial + 1; body = body }
 
 -- An update of the prefix that tells of its unit's change, or a made-up one where there is nothing to tell: that breaks
 -- a rule, and the order is refused by it.
 abbrev pub IsUpdateOf : UnitValue → Prefix → UpdateValue → Type 0
-IsUpdateOf u p m = (m.prefix ≡ p) × (IsTold u m ⊎ ((u.marked ≡ false) × (u.due ≡ None)))
+IsUpdateOf u p m = (m.prefix ≡ p) × (TellsUnit u m ⊎ ((u.marked ≡ false) × (u.due ≡ None)))
 
 -- a unit's pending reply, or a made-up one where there is none
 abbrev pub IsReplyOf : UnitValue → Prefix → BindReply → Type 0
 IsReplyOf u p r = (u.pending ≡ Some r) ⊎ ((u.pending ≡ None) × (r.prefix ≡ p))
 
-abbrev pub IsNamed : Book → ℕ → Order → Event → Type 0
+abbrev pub IsNamed : BookState → ℕ → Order → Event → Type 0
 IsNamed b now (Request a) e = (p : Prefix) × IsOffered b a p × (e ≡ Grant (lease_of b now a p))
 IsNamed b now (Renew a) e = (p : Prefix) × IsBound b a p × (e ≡ Grant (lease_of b now a p))
 IsNamed b now (Release a) e = (p : Prefix) × IsHinted b a p × (e ≡ ReleaseLine a.client a.iaid p)

@@ -29,7 +29,11 @@ module _ (a b : Journal) (legal : IsPairLegal a b) where
         let none : NoneIsFarBelow (journals_of a b) skew = subst Found is found in
         none take ((law (journals_of a b) skew take checked).0 early)
 
-    pub least_early : (o : Option Ref) (take : Ref) → o ≡ Some take → Found o → IsLeast (IsEarly (journals_of a b) skew) take
+    pub least_early : (o : Option Ref) (take : Ref) → o ≡ Some take → Found o
+        → IsLeast (IsEarly (journals_of a b) skew) take
     least_early o take is found =
-        let least : IsLeast (IsFarBelowSend (journals_of a b) skew) take = subst Found is found in
-        ((law (journals_of a b) skew take checked).1 least.0, λ other before early. least.1 other before ((law (journals_of a b) skew other checked).0 early))
+        let least : IsLeast (IsFarBelowSend (journals_of a b) skew) take = subst Found is found in (
+          (law (journals_of a b) skew take checked).1 least.0,
+          λ other before early.
+              least.1 other before ((law (journals_of a b) skew other checked).0 early),
+        )

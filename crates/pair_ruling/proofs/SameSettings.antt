@@ -3,7 +3,8 @@ use Rattle.std.specs.Prelude.{◌≡◌, IsTrue}
 use Rattle.std.specs.Bool.{Decides}
 use Rattle.std.proofs.Common.{rules}
 use Rattle.journal_lines.specs.declared.event.Event.{Event}
-use Rattle.journal_lines.specs.declared.event.Event.TheVariants.{Open, Pool, Transit, Base, Carry, Unit as UnitLine, Grant}
+use Rattle.journal_lines.specs.declared.event.Event.TheVariants.{Open, Pool, Transit, Base, Carry, Unit as UnitLine}
+use Rattle.journal_lines.specs.declared.event.Event.TheVariants.{Grant}
 use Rattle.journal_lines.specs.declared.event.Event.TheVariants.{Release, Expire, Backup, Reclaim, Seize, Send}
 use Rattle.journal_lines.specs.declared.event.Event.TheVariants.{Take as TakeLine, State, Restart, Close}
 use Rattle.journal_lines.specs.contracts.event.EventPartialEq.TheImpl.{eq-value}

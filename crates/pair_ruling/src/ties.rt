@@ -76,7 +76,7 @@ fn is_within(event: &Event, skew: Skew, transit: Transit) -> bool
 }
 
 /// Returns whether no line says a skew or a transit over these.
-#[tactic(auto, using(crate::proofs::Settings::one_more, crate::proofs::Settings::in_all, crate::proofs::Settings::all_seen))]
+#[tactic(auto, using(crate::proofs::Settings::one_more, crate::proofs::Settings::in_all, crate::proofs::Settings::all_seen,))]
 fn are_within(lines: &[Line], skew: Skew, transit: Transit) -> bool
     ensures { IsTrue result ↔ AreWithin lines.now skew transit }
 {

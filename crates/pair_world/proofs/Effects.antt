@@ -1,22 +1,28 @@
 -- What the effects of a take, of a reply and of an end come to, by cases.
-use Rattle.std.specs.Prelude.{◌≡◌, ℕ, ◌+◌, ◌<◌, ◌≤◌, ◌⊎◌, Bool, true, false, ◌&&◌, ◌==◌, nat_le, nat_lt, Option, Some, None, if◌then◌else◌}
+use Rattle.std.specs.Prelude.{◌≡◌, ℕ, ◌+◌, ◌<◌, ◌≤◌, ◌⊎◌, Bool, true, false, ◌&&◌, ◌==◌, nat_le, nat_lt, Option, Some}
+use Rattle.std.specs.Prelude.{None, if◌then◌else◌}
 use Rattle.std.proofs.Common.{arith, ◌∙◌, inl, inr, refl, sym, ap, subst, List, not, max}
 use Rattle.std.proofs.lemmas.Bool.{and_parts, eqb-true, leb-false, ltb-true}
 use Rattle.pair_world.specs.Phases.{Due, Phases}
 use Rattle.pair_world.specs.Said.{DueOf, binding_of, code, due_code, given}
 use Rattle.binding_rules.specs.declared.unit.UnitStatus.TheVariants.{Active, Expired, Free, FreeBackup, Released}
-use Rattle.binding_rules.specs.declared.update.Status.TheVariants.{Active as ActiveDue, Backup as BackupDue, Expired as ExpiredDue, Free as FreeDue, Released as ReleasedDue, Seized as SeizedDue}
+use Rattle.binding_rules.specs.declared.update.Status.TheVariants.{Active as ActiveDue, Backup as BackupDue}
+use Rattle.binding_rules.specs.declared.update.Status.TheVariants.{Expired as ExpiredDue, Free as FreeDue}
+use Rattle.binding_rules.specs.declared.update.Status.TheVariants.{Released as ReleasedDue, Seized as SeizedDue}
 use Rattle.binding_rules.specs.declared.update.BindReply.{BindReply}
 use Rattle.binding_rules.specs.declared.unit.Binding.{Binding}
 use Rattle.pair_world.specs.UnitWorld.{IsGrantable}
 use Rattle.binding_rules.specs.declared.role.Role.TheVariants.{Primary, Secondary}
-use Rattle.binding_rules.specs.declared.update.Acknowledgement.TheVariants.{Reject as RejectReply, Accept as AcceptReply}
+use Rattle.binding_rules.specs.declared.update.Acknowledgement.TheVariants.{Reject as RejectReply}
+use Rattle.binding_rules.specs.declared.update.Acknowledgement.TheVariants.{Accept as AcceptReply}
 use Rattle.binding_rules.specs.declared.role.Role.{Role}
 use Rattle.binding_rules.specs.declared.update.Status.{Status}
 use Rattle.binding_rules.specs.declared.unit.UnitStatus.{UnitStatus}
 use Rattle.binding_rules.specs.declared.unit.Unit.{Unit as UnitValue}
 use Rattle.binding_rules.specs.declared.update.Update.{Update}
-use Rattle.binding_rules.specs.Table.{accepted, accepts, after_update, answered, kept_due, taken_by, said, accepts_by, counted, is_accepted, at_secondary, of_client, of_nobody, accepts_said, said_by, becomes_said, partners_pool, becomes}
+use Rattle.binding_rules.specs.Table.{accepted, accepts, after_update, answered, kept_due, taken_by, said, accepts_by}
+use Rattle.binding_rules.specs.Table.{counted, is_accepted, at_secondary, of_client, of_nobody, accepts_said, said_by}
+use Rattle.binding_rules.specs.Table.{becomes_said, partners_pool, becomes}
 use Rattle.binding_rules.specs.Reply.{after_reply, is_accept, settled, unmarked, counts, after_reply_to}
 use Rattle.binding_rules.specs.Unit.{same_binding, status_of, freed}
 use Rattle.pair_world.proofs.Phases.{or_eq, or_le, own_fewer}
@@ -24,7 +30,8 @@ use Rattle.pair_world.proofs.Words.{code_low, code_high, same_is}
 use Rattle.book_state.specs.Effects.{or_as_was, changed, expired}
 use Rattle.binding_rules.specs.Giving.{is_own}
 
-pub by_test : {T : Type 0} (P : T → Type 0) (t : Bool) (x y : T) → (t ≡ true → P x) → (t ≡ false → P y) → P (if t then x else y)
+pub by_test : {T : Type 0} (P : T → Type 0) (t : Bool) (x y : T) → (t ≡ true → P x) → (t ≡ false → P y)
+    → P (if t then x else y)
 by_test P true x y f g = f refl
 by_test P false x y f g = g refl
 
@@ -47,7 +54,8 @@ taken_as FreeDue role u m = freed u
 taken_as SeizedDue role u m = record (freed u) { status = partners_pool role }
 
 abbrev pub accepted_as : Status → Role → UnitValue → Update → UnitValue
-accepted_as status role u m = answered (record (taken_as status role u m) { mine = u.mine + 1; seen = m.mine }) m AcceptReply
+accepted_as status role u m = answered (record (taken_as status role u m) { mine = u.mine + 1; seen = m.mine }) m
+    AcceptReply
 
 same_mine : (status : Status) (role : Role) (u : UnitValue) (m : Update) → (taken_as status role u m).mine ≡ u.mine
 same_mine ActiveDue role u m = refl
@@ -83,9 +91,12 @@ module _ (role : Role) (waiting : Bool) (u : UnitValue) (now : ℕ) (m : Update)
   unsaid is h = let z = subst (λ o. accepts_said role u now m o ≡ true) is h in absurd (cc)
 
   named : (client : Option (List ℕ)) (status : Status) → m.client ≡ client → m.status ≡ status → Named status
-  named (Some c) ActiveDue ec es h = as_said (Active (binding_of m)) (of_some c ActiveDue ec es ∙ ap (λ j. Some (Active j)) (bound_is c ec)) h
-  named (Some c) ExpiredDue ec es h = as_said (Expired (binding_of m)) (of_some c ExpiredDue ec es ∙ ap (λ j. Some (Expired j)) (bound_is c ec)) h
-  named (Some c) ReleasedDue ec es h = as_said (Released (binding_of m)) (of_some c ReleasedDue ec es ∙ ap (λ j. Some (Released j)) (bound_is c ec)) h
+  named (Some c) ActiveDue ec es h = as_said (Active (binding_of m)) (of_some c ActiveDue ec es
+      ∙ ap (λ j. Some (Active j)) (bound_is c ec)) h
+  named (Some c) ExpiredDue ec es h = as_said (Expired (binding_of m)) (of_some c ExpiredDue ec es
+      ∙ ap (λ j. Some (Expired j)) (bound_is c ec)) h
+  named (Some c) ReleasedDue ec es h = as_said (Released (binding_of m)) (of_some c ReleasedDue ec es
+      ∙ ap (λ j. Some (Released j)) (bound_is c ec)) h
   named (Some c) BackupDue ec es h = as_said FreeBackup (of_some c BackupDue ec es) h
   named (Some c) FreeDue ec es h = as_said Free (of_some c FreeDue ec es) h
   named (Some c) SeizedDue ec es h = (h, refl)
@@ -96,9 +107,11 @@ module _ (role : Role) (waiting : Bool) (u : UnitValue) (now : ℕ) (m : Update)
   named None FreeDue ec es h = as_said Free (of_none FreeDue ec es) h
   named None SeizedDue ec es h = (h, refl)
 
-  accepted_is : taken_by m.status role u m ≡ taken_as m.status role u m → accepted role u m ≡ accepted_as m.status role u m
+  accepted_is : taken_by m.status role u m ≡ taken_as m.status role u m
+      → accepted role u m ≡ accepted_as m.status role u m
   accepted_is e = ap (λ z. answered (counted z m) m AcceptReply) e
-      ∙ ap (λ n. answered (record (taken_as m.status role u m) { mine = n + 1; seen = m.mine }) m AcceptReply) (same_mine m.status role u m)
+      ∙ ap (λ n. answered (record (taken_as m.status role u m) { mine = n + 1; seen = m.mine }) m AcceptReply)
+      (same_mine m.status role u m)
 
 open_is : (t : Bool) → not t ≡ true → t ≡ false
 open_is false h = refl
@@ -106,15 +119,18 @@ open_is true h = absurd (cc)
 
 -- an update is dropped, accepted or rejected; of a marked unit none is accepted
 pub update_cases : (P : UnitValue → Type 0) (role : Role) (waiting : Bool) (u : UnitValue) (now : ℕ) (v : Update) → P u
-    → (u.seen < v.mine → u.marked ≡ false → accepts_as v.status role waiting u now v ≡ true → P (accepted_as v.status role u v)) → P (answered u v RejectReply)
+    → (u.seen < v.mine → u.marked ≡ false → accepts_as v.status role waiting u now v ≡ true
+    → P (accepted_as v.status role u v)) → P (answered u v RejectReply)
     → P (after_update role u now waiting v)
 update_cases P role waiting u now v drop accept reject =
-    by_test P (nat_le v.mine u.seen) u (if is_accepted role u now waiting v then accepted role u v else answered u v RejectReply) (λ _. drop)
+    by_test P (nat_le v.mine u.seen) u (if is_accepted role u now waiting v then accepted role u v else answered u v
+    RejectReply) (λ _. drop)
     (λ newer. by_test P (is_accepted role u now waiting v) (accepted role u v) (answered u v RejectReply)
     (λ yes'.
     let h = and_parts (not u.marked) (accepts_by v.status role u now waiting v) yes' in
     let n = named role waiting u now v v.client v.status refl refl h.1 in
-    subst P (sym (accepted_is role waiting u now v n.1)) (accept (leb-false v.mine u.seen newer) (open_is u.marked h.0) n.0))
+    subst P (sym (accepted_is role waiting u now v n.1))
+    (accept (leb-false v.mine u.seen newer) (open_is u.marked h.0) n.0))
     (λ _. reject))
 
 abbrev pub replied : Status → UnitValue → BindReply → UnitValue
@@ -122,8 +138,10 @@ replied due u r = record (settled u due) { seen = r.mine }
 
 -- a reply does nothing, settles what is due, or removes the mark
 pub reply_cases : (P : UnitValue → Type 0) (u : UnitValue) (r : BindReply) → P u
-    → ((d : Status) → u.marked ≡ false → u.due ≡ Some d → is_accept r.acknowledgement ≡ true → r.of ≡ u.mine → u.seen < r.mine → P (replied d u r))
-    → (u.marked ≡ true → is_accept r.acknowledgement ≡ true → r.of ≡ u.mine → u.seen < r.mine → P (unmarked u r)) → P (or_as_was u (after_reply u r))
+    → ((d : Status) → u.marked ≡ false → u.due ≡ Some d → is_accept r.acknowledgement ≡ true → r.of ≡ u.mine
+    → u.seen < r.mine → P (replied d u r))
+    → (u.marked ≡ true → is_accept r.acknowledgement ≡ true → r.of ≡ u.mine → u.seen < r.mine → P (unmarked u r))
+    → P (or_as_was u (after_reply u r))
 reply_cases P u r same f g =
     by_test Q u.marked (if counts u r then Some (unmarked u r) else None) (after_reply_to u r u.due)
     (λ marked. by_test Q (counts u r) (Some (unmarked u r)) None (λ yes'. counted_as yes' (g marked)) (λ _. same))
@@ -131,7 +149,8 @@ reply_cases P u r same f g =
       Q : Option UnitValue → Type 0
       Q o = P (or_as_was u o)
 
-      counted_as : {G : Type 0} → counts u r ≡ true → (is_accept r.acknowledgement ≡ true → r.of ≡ u.mine → u.seen < r.mine → G) → G
+      counted_as : {G : Type 0} → counts u r ≡ true
+          → (is_accept r.acknowledgement ≡ true → r.of ≡ u.mine → u.seen < r.mine → G) → G
       counted_as yes' h =
           let p = and_parts (is_accept r.acknowledgement) ((r.of == u.mine) && nat_lt u.seen r.mine) yes' in
           let q = and_parts (r.of == u.mine) (nat_lt u.seen r.mine) p.1 in
@@ -139,7 +158,8 @@ reply_cases P u r same f g =
 
       by_due : u.marked ≡ false → (due : Option Status) → u.due ≡ due → Q (after_reply_to u r due)
       by_due open' None e = same
-      by_due open' (Some d) e = by_test Q (counts u r) (Some (replied d u r)) None (λ yes'. counted_as yes' (f d open' e)) (λ _. same)
+      by_due open' (Some d) e = by_test Q (counts u r) (Some (replied d u r)) None
+          (λ yes'. counted_as yes' (f d open' e)) (λ _. same)
 
 pub any_active_is : (status : UnitStatus) → status_of status ≡ ActiveDue → (j : Binding) × (status ≡ Active j)
 any_active_is (Active j) h = (j, refl)
@@ -152,10 +172,12 @@ any_active_is (Released j) h = absurd (cc)
 abbrev pub ended_at : (Binding → UnitStatus) → Status → UnitValue → Binding → UnitValue
 ended_at status due u j = changed (status j) due u
 
-pub expired_is : (u : UnitValue) (j : Binding) → u.status ≡ Active j → changed (expired u.status) ExpiredDue u ≡ ended_at Expired ExpiredDue u j
+pub expired_is : (u : UnitValue) (j : Binding) → u.status ≡ Active j
+    → changed (expired u.status) ExpiredDue u ≡ ended_at Expired ExpiredDue u j
 expired_is u j e = ap (λ z. changed (expired z) ExpiredDue u) e
 
-pub active_codes : (k : Binding) (status : UnitStatus) (j : Binding) → status ≡ Active j → (2 ≤ code k status) × (code k status ≤ 3)
+pub active_codes : (k : Binding) (status : UnitStatus) (j : Binding) → status ≡ Active j
+    → (2 ≤ code k status) × (code k status ≤ 3)
 active_codes k status j e = rw e (code_low (same_binding j k), code_high (same_binding j k))
 
 pub code_same : (k j b : Binding) → same_binding j b ≡ true → code k (Active j) ≡ code k (Active b)
@@ -176,17 +198,20 @@ own_b k (Active j) h = absurd (cc)
 own_b k (Expired j) h = absurd (cc)
 own_b k (Released j) h = absurd (cc)
 
-pub grantable_a : (k : Binding) (u : UnitValue) (b : Binding) → IsGrantable Primary u b → (code k u.status ≡ 0) ⊎ (code k u.status ≡ code k (Active b))
+pub grantable_a : (k : Binding) (u : UnitValue) (b : Binding) → IsGrantable Primary u b
+    → (code k u.status ≡ 0) ⊎ (code k u.status ≡ code k (Active b))
 grantable_a k u b (inl own) = inl (own_a k u.status own)
 grantable_a k u b (inr e) = inr (ap (code k) e)
 
-pub grantable_b : (k : Binding) (u : UnitValue) (b : Binding) → IsGrantable Secondary u b → (code k u.status ≡ 1) ⊎ (code k u.status ≡ code k (Active b))
+pub grantable_b : (k : Binding) (u : UnitValue) (b : Binding) → IsGrantable Secondary u b
+    → (code k u.status ≡ 1) ⊎ (code k u.status ≡ code k (Active b))
 grantable_b k u b (inl own) = inl (own_b k u.status own)
 grantable_b k u b (inr e) = inr (ap (code k) e)
 
 -- what is accepted
 module _ (u : UnitValue) (now : ℕ) (m : Update) where
-  pub accept_active_a : (k : Binding) (status : UnitStatus) (b : Binding) → accepts Primary u now m (Active b) status ≡ true
+  pub accept_active_a : (k : Binding) (status : UnitStatus) (b : Binding)
+      → accepts Primary u now m (Active b) status ≡ true
       → (code k status ≡ 1) ⊎ (code k status ≡ code k (Active b))
   accept_active_a k Free b h = absurd (cc)
   accept_active_a k FreeBackup b h = inl refl
@@ -194,7 +219,8 @@ module _ (u : UnitValue) (now : ℕ) (m : Update) where
   accept_active_a k (Expired j) b h = absurd (cc)
   accept_active_a k (Released j) b h = absurd (cc)
 
-  pub accept_active_b : (k : Binding) (status : UnitStatus) (b : Binding) → accepts Secondary u now m (Active b) status ≡ true
+  pub accept_active_b : (k : Binding) (status : UnitStatus) (b : Binding)
+      → accepts Secondary u now m (Active b) status ≡ true
       → (code k status ≡ 0) ⊎ (code k status ≡ code k (Active b))
   accept_active_b k Free b h = inl refl
   accept_active_b k FreeBackup b h = absurd (cc)
@@ -217,8 +243,10 @@ module _ (u : UnitValue) (now : ℕ) (m : Update) where
   no_free_a (Released j) h = absurd (cc)
 
   -- a move to the secondary's pool is accepted of a free unit, as the receiver's last change left it
-  pub backup_of : (role : Role) (k : Binding) (status : UnitStatus) → accepts role u now m FreeBackup status ≡ true → (code k status ≡ 0) × (m.seen ≡ u.mine)
-  backup_of role k Free h = let p = and_parts (at_secondary role) (m.seen == u.mine) h in (refl, eqb-true m.seen u.mine p.1)
+  pub backup_of : (role : Role) (k : Binding) (status : UnitStatus) → accepts role u now m FreeBackup status ≡ true
+      → (code k status ≡ 0) × (m.seen ≡ u.mine)
+  backup_of role k Free h = let p = and_parts (at_secondary role) (m.seen == u.mine) h in
+      (refl, eqb-true m.seen u.mine p.1)
   backup_of role k FreeBackup h = absurd (cc)
   backup_of role k (Active j) h = absurd (cc)
   backup_of role k (Expired j) h = absurd (cc)
@@ -269,8 +297,10 @@ pub free_shape : (s d : ℕ) → Due s d → (d ≡ 0) ⊎ ((4 ≤ d) × (d ≤ 
 free_shape s d due is = or_le 4 s (λ lt. (omega arith, omega arith))
 
 -- fewer words keep the phases too
-pub fewer : (sa ma na da sb mb nb db : ℕ) (UA UB UA' UB' : ℕ → ℕ → ℕ → Type 0) (RA RB RA' RB' : ℕ → ℕ → Type 0) → Phases sa ma na da sb mb nb db UA UB RA RB
-    → ((c m n : ℕ) → UA' c m n → UA c m n) → ((c m n : ℕ) → UB' c m n → UB c m n) → ((p o : ℕ) → RA' p o → RA p o) → ((p o : ℕ) → RB' p o → RB p o)
+pub fewer : (sa ma na da sb mb nb db : ℕ) (UA UB UA' UB' : ℕ → ℕ → ℕ → Type 0) (RA RB RA' RB' : ℕ → ℕ → Type 0)
+    → Phases sa ma na da sb mb nb db UA UB RA RB
+    → ((c m n : ℕ) → UA' c m n → UA c m n) → ((c m n : ℕ) → UB' c m n → UB c m n) → ((p o : ℕ) → RA' p o → RA p o)
+    → ((p o : ℕ) → RB' p o → RB p o)
     → Phases sa ma na da sb mb nb db UA' UB' RA' RB'
 fewer sa ma na da sb mb nb db UA UB UA' UB' RA RB RA' RB' inv ua ub ra rb = record {
   a = own_fewer _ _ _ _ _ _ _ inv.a _ _ ua ra;

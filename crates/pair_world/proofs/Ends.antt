@@ -15,11 +15,14 @@ past_on (Gives x holder moment valid ∷ es) now n h = let a = h.0 in (omega ari
 past_on (GivesBack holder moment ∷ es) now n h = let a = h.0 in (omega arith, past_on es now n h.1)
 
 -- what holds now or later runs now
-pub held_runs : (transit now m : ℕ) (log : List Entry) (k : Binding) → IsPast now log → now ≤ m → HasUnit transit log k m
+pub held_runs : (transit now m : ℕ) (log : List Entry) (k : Binding) → IsPast now log → now ≤ m
+    → HasUnit transit log k m
     → (side : Role) × (end : ℕ) × Runs transit log side k end × (m < end)
 held_runs transit now m [] k past le h = absurd h
-held_runs transit now m (Gives x holder moment valid ∷ es) k past le (inl h) = (x, moment + 1000 * valid + transit, inl (refl, h.0, refl), h.2)
-held_runs transit now m (Gives x holder moment valid ∷ es) k past le (inr h) = let r = held_runs transit now m es k past.1 le h in (r.0, r.1, inr r.2, r.3)
+held_runs transit now m (Gives x holder moment valid ∷ es) k past le (inl h) =
+    (x, moment + 1000 * valid + transit, inl (refl, h.0, refl), h.2)
+held_runs transit now m (Gives x holder moment valid ∷ es) k past le (inr h) = let r =
+    held_runs transit now m es k past.1 le h in (r.0, r.1, inr r.2, r.3)
 held_runs transit now m (GivesBack holder moment ∷ es) k past le h =
     let r = held_runs transit now m es k past.1 le h.1 in
     let before = past.0 in

@@ -1,5 +1,6 @@
 -- Who has what at a world's moment: step by step, and as the definitions say it.
-use Rattle.std.specs.Prelude.{◌≡◌, ◌⊎◌, ℕ, ◌+◌, ◌*◌, ◌<◌, ◌≤◌, Bool, true, false, ◌==◌, List, length, Some, None, Option, cond, [], ◌∷◌, get_or, slice_get, if◌then◌else◌, Contains as Has}
+use Rattle.std.specs.Prelude.{◌≡◌, ◌⊎◌, ℕ, ◌+◌, ◌*◌, ◌<◌, ◌≤◌, Bool, true, false, ◌==◌, List, length, Some, None}
+use Rattle.std.specs.Prelude.{Option, cond, [], ◌∷◌, get_or, slice_get, if◌then◌else◌, Contains as Has}
 use Rattle.std.proofs.Common.{zero, suc, arith, refl, sym, ◌∙◌, ap, subst}
 use Rattle.std.proofs.lemmas.Bool.{cases_lt, eq-eqb, eqb-true}
 use Rattle.prefix_range.specs.Prefix.{Prefix}
@@ -7,7 +8,8 @@ use Rattle.journal_lines.specs.declared.event.Event.TheVariants.{Grant}
 use Rattle.journal_lines.specs.declared.event.Lease.{Lease}
 use Rattle.attribution.specs.Run.{Step, At, StartInTime, IsValidAt, infinity}
 use Rattle.pair_world.specs.PairWorld.{PairWorld}
-use Rattle.pair_world.specs.Holders.{client_cmp, client_total, HasSome, MayHold, HasByStep, GivesBackBy, IsNoted, AreHolders}
+use Rattle.pair_world.specs.Holders.{client_cmp, client_total, HasSome, MayHold, HasByStep, GivesBackBy, IsNoted}
+use Rattle.pair_world.specs.Holders.{AreHolders}
 use Rattle.std.specs.declared.cmp.Ordering.{Ordering}
 use Rattle.std.specs.declared.cmp.Ordering.TheVariants.{Less, Equal, Greater}
 use Rattle.std.specs.Ordering.{is_eq}
@@ -24,17 +26,21 @@ pub record NoneBetween (run : List Step) (index place : ℕ) (g : Lease) (now : 
   pub none : (j : ℕ) (s : Step) → index < j → j < place → At run j s → GivesBackBy s g now → ⊥
 
 -- step i gives a lease, or none
-pub has_by : (w : PairWorld) (p : Prefix) (i : ℕ) (s : Step) (g : Lease) → At w.run i s → s.line.event ≡ Grant g → MayHold w p i s.moment g → HasByStep w p i g.client
+pub has_by : (w : PairWorld) (p : Prefix) (i : ℕ) (s : Step) (g : Lease) → At w.run i s → s.line.event ≡ Grant g
+    → MayHold w p i s.moment g → HasByStep w p i g.client
 has_by w p i s g here grants may = record { step = s; lease = g; here = here; grants = grants; of = refl; may = may }
 
-pub not_by : (w : PairWorld) (p : Prefix) (i : ℕ) (s : Step) (g : Lease) → At w.run i s → s.line.event ≡ Grant g → (MayHold w p i s.moment g → ⊥) → (c : List ℕ) → HasByStep w p i c → ⊥
+pub not_by : (w : PairWorld) (p : Prefix) (i : ℕ) (s : Step) (g : Lease) → At w.run i s → s.line.event ≡ Grant g
+    → (MayHold w p i s.moment g → ⊥) → (c : List ℕ) → HasByStep w p i c → ⊥
 not_by w p i s g here grants never c h =
     let same_step : s ≡ h.step = let e = sym here ∙ h.here in cc in
     let grant : s.line.event ≡ Grant h.lease = ap (λ (x : Step). x.line.event) same_step ∙ h.grants in
     let same : g ≡ h.lease = let e : Grant g ≡ Grant h.lease = sym grants ∙ grant in cc in
-    never (subst (λ x. MayHold w p i s.moment x) (sym same) (subst (λ (x : Step). MayHold w p i x.moment h.lease) (sym same_step) h.may))
+    never (subst (λ x. MayHold w p i s.moment x) (sym same)
+    (subst (λ (x : Step). MayHold w p i x.moment h.lease) (sym same_step) h.may))
 
-pub none_by : (w : PairWorld) (p : Prefix) (i : ℕ) (s : Step) → At w.run i s → ((g : Lease) → s.line.event ≡ Grant g → ⊥) → (c : List ℕ) → HasByStep w p i c → ⊥
+pub none_by : (w : PairWorld) (p : Prefix) (i : ℕ) (s : Step) → At w.run i s
+    → ((g : Lease) → s.line.event ≡ Grant g → ⊥) → (c : List ℕ) → HasByStep w p i c → ⊥
 none_by w p i s here never c h =
     let same_step : s ≡ h.step = let e = sym here ∙ h.here in cc in
     never h.lease (ap (λ (x : Step). x.line.event) same_step ∙ h.grants)
@@ -61,16 +67,24 @@ chosen_starts w i start j = if j == i then start else moment_of (slice_get w.run
 
 -- what a step gives is had by some choice of starts
 has_some : (w : PairWorld) (p : Prefix) (i : ℕ) (c : List ℕ) → HasByStep w p i c → HasSome w p c
-has_some w p i c h = (chosen_starts w i h.may.1.0, in_time, (h.may.0.0, h.may.0.2, (i, h.lease, valid, h.of, h.may.0.1))) where
+has_some w p i c h = (
+  chosen_starts w i h.may.1.0,
+  in_time,
+  (h.may.0.0, h.may.0.2, (i, h.lease, valid, h.of, h.may.0.1)),
+) where
   chosen : chosen_starts w i h.may.1.0 i ≡ h.may.1.0
   chosen = rw (eq-eqb i i refl) refl
 
   in_time : StartInTime w.transit w.run (chosen_starts w i h.may.1.0)
-  in_time j s g here grants = by_test (λ z. (s.moment ≤ z) × (z ≤ s.moment + w.transit)) (j == i) h.may.1.0 (moment_of (slice_get w.run j))
+  in_time j s g here grants = by_test (λ z. (s.moment ≤ z) × (z ≤ s.moment + w.transit)) (j == i) h.may.1.0
+      (moment_of (slice_get w.run j))
       (λ t.
       let same : j ≡ i = eqb-true j i t in
       let same_step : s ≡ h.step = let e = sym (subst (λ z. At w.run z s) same here) ∙ h.here in cc in
-      subst (λ (x : Step). (x.moment ≤ h.may.1.0) × (h.may.1.0 ≤ x.moment + w.transit)) (sym same_step) (h.may.1.1, h.may.1.2))
+      subst (λ (x : Step). (x.moment ≤ h.may.1.0) × (h.may.1.0 ≤ x.moment + w.transit)) (sym same_step) (
+        h.may.1.1,
+        h.may.1.2,
+      ))
       (λ f. let own : moment_of (slice_get w.run j) ≡ s.moment = ap moment_of here in (omega arith, omega arith))
 
   valid : IsValidAt w.run (chosen_starts w i h.may.1.0) i h.lease w.moment
@@ -100,16 +114,19 @@ by_step w p c (starts, in_time, (address, has_p, (i, g, v, of, has_g))) =
     )
 
 -- what the steps so far note
-pub noted_none : (w : PairWorld) (p : Prefix) (noted : List ℕ → Bool) → ((c : List ℕ) → noted c ≡ false) → IsNoted w p 0 noted
+pub noted_none : (w : PairWorld) (p : Prefix) (noted : List ℕ → Bool) → ((c : List ℕ) → noted c ≡ false)
+    → IsNoted w p 0 noted
 noted_none w p noted none = record {
   each = λ c h. let z = none c in absurd (cc);
   all = λ c i lt h. absurd (omega arith);
 }
 
-pub noted_on : (w : PairWorld) (p : Prefix) (i : ℕ) (noted : List ℕ → Bool) → ((c : List ℕ) → HasByStep w p i c → ⊥) → IsNoted w p i noted → IsNoted w p (i + 1) noted
+pub noted_on : (w : PairWorld) (p : Prefix) (i : ℕ) (noted : List ℕ → Bool) → ((c : List ℕ) → HasByStep w p i c → ⊥)
+    → IsNoted w p i noted → IsNoted w p (i + 1) noted
 noted_on w p i noted none h = record {
   each = λ c is. let x = h.each c is in (x.0, omega arith, x.2);
-  all = λ c j lt has. by_word (cases_lt j i) (λ before. h.all c j before has) (λ at_least. let same : j ≡ i = omega arith in absurd (none c (subst (λ z. HasByStep w p z c) same has)));
+  all = λ c j lt has. by_word (cases_lt j i) (λ before. h.all c j before has) (λ at_least. let same : j ≡ i =
+      omega arith in absurd (none c (subst (λ z. HasByStep w p z c) same has)));
 }
 
 is_same : (x y : List ℕ) → is_eq (client_cmp x y) ≡ true → x ≡ y
@@ -119,10 +136,12 @@ is_same x y e = exact_bytes x y (equal_is (client_cmp x y) e) where
   equal_is Equal h = refl
   equal_is Greater h = absurd (cc)
 
-pub noted_add : (w : PairWorld) (p : Prefix) (i : ℕ) (old new : BTreeSet (List ℕ)) (c : List ℕ) → HasByStep w p i c → Updates client_cmp old new c true → IsNoted w p i (contains client_cmp old)
+pub noted_add : (w : PairWorld) (p : Prefix) (i : ℕ) (old new : BTreeSet (List ℕ)) (c : List ℕ) → HasByStep w p i c
+    → Updates client_cmp old new c true → IsNoted w p i (contains client_cmp old)
     → IsNoted w p (i + 1) (contains client_cmp new)
 noted_add w p i old new c has updates h = record { each = each_new; all = all_new } where
-  one : (q : List ℕ) (t : Bool) → is_eq (client_cmp c q) ≡ t → cond t true (contains client_cmp old q) ≡ true → (j : ℕ) × (j < i + 1) × HasByStep w p j q
+  one : (q : List ℕ) (t : Bool) → is_eq (client_cmp c q) ≡ t → cond t true (contains client_cmp old q) ≡ true
+      → (j : ℕ) × (j < i + 1) × HasByStep w p j q
   one q true e is = (i, omega arith, subst (HasByStep w p i) (is_same c q e) has)
   one q false e is = let x = h.each q is in (x.0, omega arith, x.2)
 
@@ -142,7 +161,8 @@ noted_add w p i old new c has updates h = record { each = each_new; all = all_ne
       subst (λ z. contains client_cmp new z ≡ true) mine updates.1)
 
 -- the clients noted by all steps are the holders
-pub are_holders : (w : PairWorld) (p : Prefix) (s : BTreeSet (List ℕ)) (clients : List (List ℕ)) → IsNoted w p (length w.run) (contains client_cmp s) → IsStrictlySortedBy client_cmp s.keys → clients ≡ s.keys
+pub are_holders : (w : PairWorld) (p : Prefix) (s : BTreeSet (List ℕ)) (clients : List (List ℕ))
+    → IsNoted w p (length w.run) (contains client_cmp s) → IsStrictlySortedBy client_cmp s.keys → clients ≡ s.keys
     → AreHolders w p clients
 are_holders w p s clients noted sorted same = record {
   order = subst (IsStrictlySortedBy client_cmp) (sym same) sorted;
@@ -151,7 +171,8 @@ are_holders w p s clients noted sorted same = record {
       has_some w p x.0 c x.2;
   all = λ c is.
       let x = by_step w p c is in
-      subst (λ z. Has z c) (sym same) ((btree_set_contains_iff client_total exact_bytes s c).0 (noted.all c x.0 x.1 x.2));
+      subst (λ z. Has z c) (sym same) ((btree_set_contains_iff client_total exact_bytes s c).0
+      (noted.all c x.0 x.1 x.2));
 }
 
 pub at_index : (xs : List Step) (i : ℕ) (s : Step) → i < length xs → s ≡ get_or xs i s → At xs i s

@@ -24,28 +24,42 @@ use Rattle.pair_world.proofs.Results.{shared, one_binding}
 use Rattle.binding_rules.specs.declared.role.Role.TheVariants.{Primary}
 
 -- one step more
-reaches_on : (u w v : PairWorld) (es : List Event) (e : Event) (answer : Result Reply WorldError) → Reaches u es w → IsWorldStep w e answer v → Reaches u (es ++ e ∷ []) v
+reaches_on : (u w v : PairWorld) (es : List Event) (e : Event) (answer : Result Reply WorldError) → Reaches u es w
+    → IsWorldStep w e answer v → Reaches u (es ++ e ∷ []) v
 reaches_on u w v [] e answer r step = (answer, v, subst (λ z. IsWorldStep z e answer v) r step, refl)
 reaches_on u w v (x ∷ xs) e answer r step = (r.0, r.1, r.2, reaches_on r.1 w v xs e answer r.3 step)
 
 pub step_stays : StepStays
-step_stays s t w v e answer c step = record { moment = c.moment; opens = c.opens; events = c.events ++ e ∷ []; reaches = reaches_on _ w v c.events e answer c.reaches step }
+step_stays s t w v e answer c step = record {
+  moment = c.moment;
+  opens = c.opens;
+  events = c.events ++ e ∷ [];
+  reaches = reaches_on _ w v c.events e answer c.reaches step;
+}
 
 pub run_stays : RunStays
 run_stays s t w v [] c done = subst (Comes s t) (sym done) c
 run_stays s t w v (e ∷ es) c done = run_stays s t done.1 v es (step_stays s t w done.1 e (Ok done.0) c done.2) done.3
 
-in_transit : (s : ServerSettings) (w : PairWorld) → Good s w → (starts : ℕ → ℕ) → StartInTime w.transit w.run starts → StartInTime s.transit w.run starts
+in_transit : (s : ServerSettings) (w : PairWorld) → Good s w → (starts : ℕ → ℕ) → StartInTime w.transit w.run starts
+    → StartInTime s.transit w.run starts
 in_transit s w is starts h = subst (λ z. StartInTime z w.run starts) is.transit_is h
 
-same_now : (s t : ServerSettings) (w : PairWorld) → Comes s t w → (p : Prefix) → IsPrefix p → is_unit s.pools p ≡ true → (j k : List ℕ) → HasSome w p j → HasSome w p k → j ≡ k
-same_now s t w c p pre unit j k (starts, are, (a, has_p, (i, g, v, of_j, has))) (others, are', (a', has_p', (i', h, v', of_k, has'))) =
+same_now : (s t : ServerSettings) (w : PairWorld) → Comes s t w → (p : Prefix) → IsPrefix p → is_unit s.pools p ≡ true
+    → (j k : List ℕ) → HasSome w p j → HasSome w p k → j ≡ k
+same_now s t w c p pre unit j k (starts, are, (a, has_p, (i, g, v, of_j, has))) (
+  others,
+  are',
+  (a', has_p', (i', h, v', of_k, has')),
+) =
     let is = good s t w c in
     let x = is.run.gifts i v.step g v.here v.grants in
     let y = is.run.gifts i' v'.step h v'.here v'.grants in
     let one = shared c.moment s t c.opens g.prefix p a x.2 unit x.1 pre has has_p in
     let two = shared c.moment s t c.opens h.prefix p a' y.2 unit y.1 pre has' has_p' in
-    (sym of_j ∙ ap (λ (b : Binding). b.client) (one_binding s w is starts others (in_transit s w is starts are) (in_transit s w is others are') i i' g h w.moment v v' (two ∙ sym one))) ∙ of_k
+    (sym of_j ∙ ap (λ (b : Binding). b.client)
+    (one_binding s w is starts others (in_transit s w is starts are)
+    (in_transit s w is others are') i i' g h w.moment v v' (two ∙ sym one))) ∙ of_k
 
 below_self : (y : List ℕ) → client_cmp y y ≡ Less → ⊥
 below_self y e =
@@ -53,7 +67,8 @@ below_self y e =
     let less : is_eq (client_cmp y y) ≡ false = ap is_eq e in
     absurd (cc)
 
-at_most_one : (s t : ServerSettings) (w : PairWorld) → Comes s t w → (p : Prefix) → IsPrefix p → is_unit s.pools p ≡ true → (clients : List (List ℕ)) → AreHolders w p clients → length clients ≤ 1
+at_most_one : (s t : ServerSettings) (w : PairWorld) → Comes s t w → (p : Prefix) → IsPrefix p
+    → is_unit s.pools p ≡ true → (clients : List (List ℕ)) → AreHolders w p clients → length clients ≤ 1
 at_most_one s t w c p pre unit [] h = omega arith
 at_most_one s t w c p pre unit (x ∷ []) h = omega arith
 at_most_one s t w c p pre unit (x ∷ y ∷ ys) h =
@@ -62,4 +77,5 @@ at_most_one s t w c p pre unit (x ∷ y ∷ ys) h =
     absurd (below_self y (subst (λ z. client_cmp z y ≡ Less) same less))
 
 pub one_holder_now : OneHolderNow
-one_holder_now s t w c p pre unit clients h = at_most_one s t w c p pre (unit_at s w (good s t w c) Primary p unit) clients h
+one_holder_now s t w c p pre unit clients h =
+    at_most_one s t w c p pre (unit_at s w (good s t w c) Primary p unit) clients h

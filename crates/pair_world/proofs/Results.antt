@@ -25,7 +25,8 @@ world_is_run s t w c =
     record { run = r.0; skew = r.1; lines = λ side. (journal_in side s w g).lines }
 
 -- a valid delegation is held in the log of its prefix
-holds : (s : ServerSettings) (w : PairWorld) → Good s w → (starts : ℕ → ℕ) → StartInTime s.transit w.run starts → (i : ℕ) (g : Lease) (m : ℕ) → IsValidAt w.run starts i g m
+holds : (s : ServerSettings) (w : PairWorld) → Good s w → (starts : ℕ → ℕ) → StartInTime s.transit w.run starts
+    → (i : ℕ) (g : Lease) (m : ℕ) → IsValidAt w.run starts i g m
     → HasUnit s.transit (log_of g.prefix w.run []) (holder_of g.client g.iaid) m
 holds s w is starts are i g m v =
     let begins = are i v.step g v.here v.grants in
@@ -36,15 +37,21 @@ holds s w is starts are i g m v =
     (λ j t lt at r. by_word (cases_lt m t.moment) (λ later. later) (λ le. absurd (v.kept (j, t, lt, at, r, le))))
 
 -- two units that share an address are one
-pub shared : (moment : ℕ) (s t : ServerSettings) → MayOpen moment s t → (p o : Prefix) (address : ℕ) → is_unit s.pools p ≡ true → is_unit s.pools o ≡ true → IsPrefix p → IsPrefix o → HasAddress p address → HasAddress o address → p ≡ o
-shared moment s t opens p o address = one_unit s.pools p o address opens.first_fits.within.each opens.first_fits.disjoint
+pub shared : (moment : ℕ) (s t : ServerSettings) → MayOpen moment s t → (p o : Prefix) (address : ℕ)
+    → is_unit s.pools p ≡ true → is_unit s.pools o ≡ true → IsPrefix p → IsPrefix o → HasAddress p address
+    → HasAddress o address → p ≡ o
+shared moment s t opens p o address = one_unit s.pools p o address opens.first_fits.within.each
+    opens.first_fits.disjoint
 
 -- two delegations of one unit at one moment are one binding's, whenever they started
-pub one_binding : (s : ServerSettings) (w : PairWorld) → Good s w → (starts others : ℕ → ℕ) → StartInTime s.transit w.run starts → StartInTime s.transit w.run others → (i j : ℕ) (g h : Lease) (m : ℕ)
-    → IsValidAt w.run starts i g m → IsValidAt w.run others j h m → h.prefix ≡ g.prefix → holder_of g.client g.iaid ≡ holder_of h.client h.iaid
+pub one_binding : (s : ServerSettings) (w : PairWorld) → Good s w → (starts others : ℕ → ℕ)
+    → StartInTime s.transit w.run starts → StartInTime s.transit w.run others → (i j : ℕ) (g h : Lease) (m : ℕ)
+    → IsValidAt w.run starts i g m → IsValidAt w.run others j h m → h.prefix ≡ g.prefix
+    → holder_of g.client g.iaid ≡ holder_of h.client h.iaid
 one_binding s w is starts others are are' i j g h m v v' same =
     let x = holds s w is starts are i g m v in
-    let y = subst (λ z. HasUnit s.transit (log_of z w.run []) (holder_of h.client h.iaid) m) same (holds s w is others are' j h m v') in
+    let y = subst (λ z. HasUnit s.transit (log_of z w.run []) (holder_of h.client h.iaid) m) same
+    (holds s w is others are' j h m v') in
     let unit = (is.run.gifts i v.step g v.here v.grants).2 in
     (is.run.known g.prefix unit).alone m (holder_of g.client g.iaid) (holder_of h.client h.iaid) x y
 
@@ -53,7 +60,8 @@ lease_safe s t w c starts others are are' i j g h address m v v' has has' =
     let is = good s t w c in
     let x = is.run.gifts i v.step g v.here v.grants in
     let y = is.run.gifts j v'.step h v'.here v'.grants in
-    let one = one_binding s w is starts others are are' i j g h m v v' (shared c.moment s t c.opens h.prefix g.prefix address y.2 x.2 y.1 x.1 has' has) in
+    let one = one_binding s w is starts others are are' i j g h m v v'
+    (shared c.moment s t c.opens h.prefix g.prefix address y.2 x.2 y.1 x.1 has' has) in
     (ap (λ (b : Binding). b.client) one, ap (λ (b : Binding). b.iaid) one)
 
 pub address_safe : AddressSafe

@@ -15,17 +15,40 @@ turned x y h = record { there = h.back; back = h.there; one = λ p q. h.one q p 
 
 module _ (x y : Server) (h : Servers x y) where
   -- a change of the unit that sets no mark
-  pub off_less : (u : UnitValue) (us : List Update) (rs : List BindReply) → (IsAlone (record x { unit = u }) → IsAlone x) → Servers (record x { unit = u; updates = us; replies = rs }) y
+  pub off_less : (u : UnitValue) (us : List Update) (rs : List BindReply)
+      → (IsAlone (record x { unit = u }) → IsAlone x) → Servers (record x { unit = u; updates = us; replies = rs }) y
   off_less u us rs less = record {
-    there = record { law = λ off. h.there.law (less off); asked_low = h.there.asked_low; said_low = h.there.said_low; numbered = h.there.numbered };
-    back = record { law = h.back.law; asked_low = h.back.asked_low; said_low = h.back.said_low; numbered = h.back.numbered };
+    there = record {
+      law = λ off. h.there.law (less off);
+      asked_low = h.there.asked_low;
+      said_low = h.there.said_low;
+      numbered = h.there.numbered;
+    };
+    back = record {
+      law = h.back.law;
+      asked_low = h.back.asked_low;
+      said_low = h.back.said_low;
+      numbered =
+          h.back.numbered;
+    };
     one = λ p q. h.one (less p) q;
   }
 
   pub goes_up : Servers (record x { down = None }) y
   goes_up = record {
-    there = record { law = λ off. h.there.law (less off); asked_low = h.there.asked_low; said_low = h.there.said_low; numbered = h.there.numbered };
-    back = record { law = h.back.law; asked_low = h.back.asked_low; said_low = h.back.said_low; numbered = h.back.numbered };
+    there = record {
+      law = λ off. h.there.law (less off);
+      asked_low = h.there.asked_low;
+      said_low = h.there.said_low;
+      numbered = h.there.numbered;
+    };
+    back = record {
+      law = h.back.law;
+      asked_low = h.back.asked_low;
+      said_low = h.back.said_low;
+      numbered =
+          h.back.numbered;
+    };
     one = λ p q. h.one (less p) q;
   } where
     less : IsAlone (record x { down = None }) → IsAlone x
@@ -36,17 +59,42 @@ module _ (x y : Server) (h : Servers x y) where
   pub other_on : x.waiting ≡ false → x.stopped ≡ false → IsAlone y → ⊥
   other_on w st off = by_word (h.back.law off) (λ e. absurd (cc)) (λ e. let z = e.0 in absurd (cc))
 
-  pub goes_down : (reading : ℕ) → x.waiting ≡ false → x.stopped ≡ false → y.stopped ≡ true → Servers (record x { down = Some reading }) y
+  pub goes_down : (reading : ℕ) → x.waiting ≡ false → x.stopped ≡ false → y.stopped ≡ true
+      → Servers (record x { down = Some reading }) y
   goes_down reading w st stopped = record {
-    there = record { law = λ off. inl stopped; asked_low = h.there.asked_low; said_low = h.there.said_low; numbered = h.there.numbered };
-    back = record { law = h.back.law; asked_low = h.back.asked_low; said_low = h.back.said_low; numbered = h.back.numbered };
+    there = record {
+      law = λ off. inl stopped;
+      asked_low = h.there.asked_low;
+      said_low = h.there.said_low;
+      numbered =
+          h.there.numbered;
+    };
+    back = record {
+      law = h.back.law;
+      asked_low = h.back.asked_low;
+      said_low = h.back.said_low;
+      numbered =
+          h.back.numbered;
+    };
     one = λ p q. other_on w st q;
   }
 
   pub stops : Servers (record x { stopped = true }) y
   stops = record {
-    there = record { law = h.there.law; asked_low = h.there.asked_low; said_low = h.there.said_low; numbered = h.there.numbered };
-    back = record { law = λ off. inl refl; asked_low = h.back.asked_low; said_low = h.back.said_low; numbered = h.back.numbered };
+    there = record {
+      law = h.there.law;
+      asked_low = h.there.asked_low;
+      said_low = h.there.said_low;
+      numbered =
+          h.there.numbered;
+    };
+    back = record {
+      law = λ off. inl refl;
+      asked_low = h.back.asked_low;
+      said_low = h.back.said_low;
+      numbered =
+          h.back.numbered;
+    };
     one = h.one;
   }
 
@@ -72,21 +120,41 @@ module _ (x y : Server) (h : Servers x y) where
 
   pub takes_higher : (c : Contact) → IsIn y.contacts c → Servers (record x { asked = asked_by c x.asked }) y
   takes_higher c sent = record {
-    there = record { law = h.there.law; asked_low = asked_at_most c (h.back.said_low c sent).1; said_low = h.there.said_low; numbered = h.there.numbered };
-    back = record { law = h.back.law; asked_low = h.back.asked_low; said_low = h.back.said_low; numbered = h.back.numbered };
+    there = record {
+      law = h.there.law;
+      asked_low = asked_at_most c (h.back.said_low c sent).1;
+      said_low =
+          h.there.said_low;
+      numbered = h.there.numbered;
+    };
+    back = record {
+      law = h.back.law;
+      asked_low = h.back.asked_low;
+      said_low = h.back.said_low;
+      numbered =
+          h.back.numbered;
+    };
     one = h.one;
   }
 
   still_waits : (c : Contact) → x.waiting ≡ true → c.answer ≢ x.restart → (contacted c x).waiting ≡ true
   still_waits c w ne = by_test (λ z. z ≡ true) (nat_le 1 c.answer && (c.answer == x.restart)) false x.waiting
-      (λ t. absurd (ne (eqb-true c.answer x.restart (and_parts (nat_le 1 c.answer) (c.answer == x.restart) t).1))) (λ _. w)
+      (λ t. absurd (ne (eqb-true c.answer x.restart (and_parts (nat_le 1 c.answer) (c.answer == x.restart) t).1)))
+      (λ _. w)
 
   waited : (c : Contact) → (contacted c x).waiting ≡ true → x.waiting ≡ true
-  waited c = by_test (λ z. z ≡ true → x.waiting ≡ true) (nat_le 1 c.answer && (c.answer == x.restart)) false x.waiting (λ _ e. absurd (cc)) (λ _ e. e)
+  waited c = by_test (λ z. z ≡ true → x.waiting ≡ true) (nat_le 1 c.answer && (c.answer == x.restart)) false x.waiting
+      (λ _ e. absurd (cc)) (λ _ e. e)
 
   pub takes_contact : (c : Contact) → IsIn y.contacts c → Servers (contacted c x) y
   takes_contact c sent = record {
-    there = record { law = h.there.law; asked_low = asked_at_most c (h.back.said_low c sent).1; said_low = h.there.said_low; numbered = h.there.numbered };
+    there = record {
+      law = h.there.law;
+      asked_low = asked_at_most c (h.back.said_low c sent).1;
+      said_low =
+          h.there.said_low;
+      numbered = h.there.numbered;
+    };
     back = record {
       law = λ off. by_word (h.back.law off) (λ st. inl st) (λ w. inr (still_waits c w.0 (w.1 c sent), w.1));
       asked_low = h.back.asked_low;
@@ -98,14 +166,27 @@ module _ (x y : Server) (h : Servers x y) where
 
   pub says : (c : Contact) → MaySay x c → Servers (record x { contacts = c ∷ x.contacts }) y
   says c may = record {
-    there = record { law = λ off. by_word (h.there.law off) (λ st. inl st) (λ w. inr (w.0, unanswered off w.0 w.1)); asked_low = h.there.asked_low; said_low = low; numbered = h.there.numbered };
-    back = record { law = h.back.law; asked_low = h.back.asked_low; said_low = h.back.said_low; numbered = h.back.numbered };
+    there = record {
+      law = λ off. by_word (h.there.law off) (λ st. inl st) (λ w. inr (w.0, unanswered off w.0 w.1));
+      asked_low = h.there.asked_low;
+      said_low = low;
+      numbered = h.there.numbered;
+    };
+    back = record {
+      law = h.back.law;
+      asked_low = h.back.asked_low;
+      said_low = h.back.said_low;
+      numbered =
+          h.back.numbered;
+    };
     one = h.one;
   } where
-    unanswered : IsAlone x → y.waiting ≡ true → ((d : Contact) → IsIn x.contacts d → d.answer ≢ y.restart) → (d : Contact) → IsIn (c ∷ x.contacts) d → d.answer ≢ y.restart
+    unanswered : IsAlone x → y.waiting ≡ true → ((d : Contact) → IsIn x.contacts d → d.answer ≢ y.restart)
+        → (d : Contact) → IsIn (c ∷ x.contacts) d → d.answer ≢ y.restart
     unanswered off w none d (inr sent) = none d sent
     unanswered off w none d (inl same) = λ is. let one' = h.there.numbered w in
-        by_word may.1 (λ zero'. let e : c.answer ≡ d.answer = ap (λ (z : Contact). z.answer) same in absurd (omega arith)) (λ on. on.0 off)
+        by_word may.1 (λ zero'. let e : c.answer ≡ d.answer = ap (λ (z : Contact). z.answer) same in
+        absurd (omega arith)) (λ on. on.0 off)
 
     low : (d : Contact) → IsIn (c ∷ x.contacts) d → (d.answer ≤ y.restart) × (d.ask ≤ x.restart)
     low d (inr sent) = h.there.said_low d sent

@@ -2,18 +2,27 @@
 use Rattle.std.specs.Prelude.{◌≡◌, ◌+◌, Bool, List, false, true, ℕ}
 use Rattle.std.proofs.Common.{ap, inl, inr, refl, subst, sym}
 use Rattle.prefix_range.specs.Prefix.{IsPrefix, Prefix}
-use Rattle.binding_rules.specs.declared.message.Body.TheVariants.{Contact as ContactBody, Reply as ReplyBody, Update as UpdateBody}
+use Rattle.binding_rules.specs.declared.message.Body.TheVariants.{Contact as ContactBody, Reply as ReplyBody}
+use Rattle.binding_rules.specs.declared.message.Body.TheVariants.{Update as UpdateBody}
 use Rattle.binding_rules.specs.declared.message.ServerState.TheVariants.{Down, Interrupted, Normal}
 use Rattle.binding_rules.specs.declared.message.PartnerMessage.{PartnerMessage}
 use Rattle.binding_rules.specs.declared.message.ServerState.{ServerState}
-use Rattle.journal_lines.specs.declared.event.Event.TheVariants.{Backup, Base, Carry, Close, Expire, Grant, Open, Pool as PoolLine, Reclaim, Release, Restart, Seize, Send, State, Take, Transit as TransitLine, Unit as UnitLine}
+use Rattle.journal_lines.specs.declared.event.Event.TheVariants.{Backup, Base, Carry, Close, Expire, Grant, Open}
+use Rattle.journal_lines.specs.declared.event.Event.TheVariants.{Pool as PoolLine, Reclaim, Release, Restart, Seize}
+use Rattle.journal_lines.specs.declared.event.Event.TheVariants.{Send, State, Take, Transit as TransitLine}
+use Rattle.journal_lines.specs.declared.event.Event.TheVariants.{Unit as UnitLine}
 use Rattle.journal_lines.specs.declared.event.Event.{Event}
 use Rattle.journal_lines.specs.declared.event.Lease.{Lease}
 use Rattle.journal_lines.specs.declared.line.Line.{Line}
-use Rattle.book_state.specs.Book.{Book}
+use Rattle.book_state.specs.Book.{BookState}
 use Rattle.volume_heads.specs.NextHead.{is_head}
 use Rattle.order_book.specs.declared.order.Asked.{Asked}
-use Rattle.order_book.specs.declared.order.Order.TheVariants.{Backup as BackupOrder, Close as CloseOrder, Expire as ExpireOrder, Reclaim as ReclaimOrder, Release as ReleaseOrder, Renew, Request, Restart as RestartOrder, Seize as SeizeOrder, SendContact, SendReply, SendUpdate, State as StateOrder, Take as TakeOrder}
+use Rattle.order_book.specs.declared.order.Order.TheVariants.{Backup as BackupOrder, Close as CloseOrder}
+use Rattle.order_book.specs.declared.order.Order.TheVariants.{Expire as ExpireOrder, Reclaim as ReclaimOrder}
+use Rattle.order_book.specs.declared.order.Order.TheVariants.{Release as ReleaseOrder, Renew, Request}
+use Rattle.order_book.specs.declared.order.Order.TheVariants.{Restart as RestartOrder, Seize as SeizeOrder, SendContact}
+use Rattle.order_book.specs.declared.order.Order.TheVariants.{SendReply, SendUpdate, State as StateOrder}
+use Rattle.order_book.specs.declared.order.Order.TheVariants.{Take as TakeOrder}
 use Rattle.order_book.specs.Bindings.{IsBound, IsOffered}
 use Rattle.order_book.specs.Named.{IsNamed, lease_of, message_of}
 use Rattle.order_book.specs.declared.order.Order.{Order}
@@ -34,7 +43,8 @@ is_plain (Take m) = false
 is_plain (State w) = false
 is_plain _ = true
 
-plain : (ls : List Line) (stopped : Bool) (e : Event) → is_plain e ≡ true → is_head e ≡ false → IsDownFor stopped e → Shape ls stopped e
+plain : (ls : List Line) (stopped : Bool) (e : Event) → is_plain e ≡ true → is_head e ≡ false → IsDownFor stopped e
+    → Shape ls stopped e
 plain ls stopped e h body down = record {
   body = body;
   fed = λ m is. let z : is_plain e ≡ false = ap is_plain is in absurd (cc);
@@ -42,7 +52,8 @@ plain ls stopped e h body down = record {
   aligned = λ g is. let z : is_plain e ≡ false = ap is_plain is in absurd (cc);
 }
 
-leased : (ls : List Line) (stopped : Bool) (b : Book) (reading : ℕ) (a : Asked) (p : Prefix) → IsPrefix p → Shape ls stopped (Grant (lease_of b reading a p))
+leased : (ls : List Line) (stopped : Bool) (b : BookState) (reading : ℕ) (a : Asked) (p : Prefix) → IsPrefix p
+    → Shape ls stopped (Grant (lease_of b reading a p))
 leased ls stopped b reading a p is = record {
   body = refl;
   fed = λ m e. absurd (cc);
@@ -53,11 +64,11 @@ leased ls stopped b reading a p is = record {
   prefix_of (Grant g) = g.prefix
   prefix_of _ = p
 
-bound_prefix : (b : Book) (a : Asked) (p : Prefix) → IsBound b a p → IsPrefix p
+bound_prefix : (b : BookState) (a : Asked) (p : Prefix) → IsBound b a p → IsPrefix p
 bound_prefix b a p (inl h) = h.1.0.whole
 bound_prefix b a p (inr h) = h.1.0.0.whole
 
-offered_prefix : (b : Book) (a : Asked) (p : Prefix) → IsOffered b a p → IsPrefix p
+offered_prefix : (b : BookState) (a : Asked) (p : Prefix) → IsOffered b a p → IsPrefix p
 offered_prefix b a p (inl h) = bound_prefix b a p h
 offered_prefix b a p (inr h) = h.1.0.0.whole
 
@@ -77,21 +88,26 @@ down_of stopped Down h = h
 down_of stopped Normal h = tt
 down_of stopped Interrupted h = tt
 
-module _ (ls : List Line) (stopped : Bool) (b : Book) (reading : ℕ) where
+module _ (ls : List Line) (stopped : Bool) (b : BookState) (reading : ℕ) where
   abbrev Has : Event → Type 0
   Has e = Shape ls stopped e
 
-  pub shape : (order : Order) (e : Event) → IsNamed b reading order e → IsFedBy ls order → IsDownAllowed stopped order → Shape ls stopped e
+  pub shape : (order : Order) (e : Event) → IsNamed b reading order e → IsFedBy ls order → IsDownAllowed stopped order
+      → Shape ls stopped e
   shape (Request a) e x fed down = subst Has (sym x.2) (leased ls stopped b reading a x.0 (offered_prefix b a x.0 x.1))
   shape (Renew a) e x fed down = subst Has (sym x.2) (leased ls stopped b reading a x.0 (bound_prefix b a x.0 x.1))
-  shape (ReleaseOrder a) e x fed down = subst Has (sym x.2) (plain ls stopped (Release a.client a.iaid x.0) refl refl tt)
+  shape (ReleaseOrder a) e x fed down = subst Has (sym x.2)
+      (plain ls stopped (Release a.client a.iaid x.0) refl refl tt)
   shape (ExpireOrder p) e x fed down = subst Has (sym x) (plain ls stopped (Expire p) refl refl tt)
   shape (BackupOrder p) e x fed down = subst Has (sym x) (plain ls stopped (Backup p) refl refl tt)
   shape (ReclaimOrder p) e x fed down = subst Has (sym x) (plain ls stopped (Reclaim p) refl refl tt)
   shape (SeizeOrder p) e x fed down = subst Has (sym x) (plain ls stopped (Seize p) refl refl tt)
-  shape (SendUpdate p) e x fed down = subst Has (sym x.2) (plain ls stopped (Send (message_of b (UpdateBody x.0))) refl refl tt)
-  shape (SendReply p) e x fed down = subst Has (sym x.2) (plain ls stopped (Send (message_of b (ReplyBody x.0))) refl refl tt)
-  shape SendContact e x fed down = subst Has (sym x.3) (plain ls stopped (Send (message_of b (ContactBody x.0 x.1))) refl refl tt)
+  shape (SendUpdate p) e x fed down = subst Has (sym x.2)
+      (plain ls stopped (Send (message_of b (UpdateBody x.0))) refl refl tt)
+  shape (SendReply p) e x fed down = subst Has (sym x.2)
+      (plain ls stopped (Send (message_of b (ReplyBody x.0))) refl refl tt)
+  shape SendContact e x fed down = subst Has (sym x.3)
+      (plain ls stopped (Send (message_of b (ContactBody x.0 x.1))) refl refl tt)
   shape (TakeOrder m) e x fed down = subst Has (sym x) (taking ls stopped m fed)
   shape (StateOrder w) e x fed down = subst Has (sym x) (stating ls stopped w (down_of stopped w down))
   shape RestartOrder e x fed down = subst Has (sym x) (plain ls stopped (Restart (b.restart + 1)) refl refl tt)

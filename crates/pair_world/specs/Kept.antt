@@ -8,7 +8,7 @@ use Rattle.binding_rules.specs.declared.role.Role.{Role}
 use Rattle.binding_rules.specs.declared.unit.UnitStatus.{UnitStatus}
 use Rattle.binding_rules.specs.declared.unit.Unit.{Unit as UnitValue}
 use Rattle.binding_rules.specs.declared.update.Update.{Update}
-use Rattle.pair_world.specs.UnitWorld.{Contact, Entry, Gives, GivesBack, IsAlone, IsIn, Server, Setting}
+use Rattle.pair_world.specs.UnitWorld.{Contact, Entry, Gives, GivesBack, IsAlone, IsIn, Server, UnitSetting}
 use Rattle.pair_world.specs.Said.{InCalm, InMark, Says, binding_of}
 use Rattle.pair_world.specs.UnitSafe.{PartnerWaits, Runs}
 
@@ -40,12 +40,12 @@ IsPast now (Gives x holder moment valid ∷ es) = (moment ≤ now) × IsPast now
 IsPast now (GivesBack holder moment ∷ es) = (moment ≤ now) × IsPast now es
 
 -- the maximum client lead time and the transit, in milliseconds
-abbrev pub lead_of : Setting → ℕ
+abbrev pub lead_of : UnitSetting → ℕ
 lead_of s = 1000 * s.mclt + s.transit
 
 -- Of a side's running grants: its unit, what the other says, since when the other takes it for down, and whether the
 -- other has the unit marked.
-pub record Ends (s : Setting) (now : ℕ) (log : List Entry) (side : Role) (u : UnitValue) (Told : Update → Type 0)
+pub record Ends (s : UnitSetting) (now : ℕ) (log : List Entry) (side : Role) (u : UnitValue) (Told : Update → Type 0)
     (down : Option ℕ) (mark : Bool) : Type 0 where
   -- a running grant is the unit's binding's, and is over by the unit's own end, whatever the clock shows
   pub own_end : (k : Binding) (end : ℕ) → Runs s.transit log side k end → now < end
@@ -63,7 +63,7 @@ pub record Ends (s : Setting) (now : ℕ) (log : List Entry) (side : Role) (u : 
   pub none_marked : mark ≡ true → (k : Binding) (end : ℕ) → Runs s.transit log side k end → end ≤ now
 
 -- At each moment, with what was granted and given back so far.
-pub record PairKept (s : Setting) (now : ℕ) (log : List Entry) (a b : Server) : Type 0 where
+pub record PairKept (s : UnitSetting) (now : ℕ) (log : List Entry) (a b : Server) : Type 0 where
   pub calm : a.unit.marked ≡ false → b.unit.marked ≡ false → (k : Binding) → InCalm k a b
   pub marked_a : a.unit.marked ≡ true → (k : Binding) → InMark Primary k a b
   pub marked_b : b.unit.marked ≡ true → (k : Binding) → InMark Secondary k b a

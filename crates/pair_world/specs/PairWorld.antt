@@ -10,7 +10,7 @@ use Rattle.journal_lines.specs.declared.event.Event.{Event as LineEvent}
 use Rattle.journal_lines.specs.declared.event.Event.TheVariants.{Send}
 use Rattle.journal_lines.specs.declared.line.Line.{Line}
 use Rattle.journal_lines.specs.declared.line.Journal.{Journal}
-use Rattle.book_state.specs.Book.{Book}
+use Rattle.book_state.specs.Book.{BookState}
 use Rattle.order_book.specs.declared.order.Order.{Order}
 use Rattle.order_book.specs.declared.order.Order.TheVariants.{Take, State, Restart as RestartOrder}
 use Rattle.order_book.specs.declared.reply.Reply.{Reply}
@@ -40,7 +40,7 @@ journal Primary w = w.a
 journal Secondary w = w.b
 
 -- the book that a server's journal leads to
-abbrev pub book : Role → PairWorld → Book
+abbrev pub book : Role → PairWorld → BookState
 book side w = state_of (journal side w)
 
 abbrev pub is_stopped : Role → PairWorld → Bool
@@ -135,7 +135,7 @@ Fails w (Restart side clock) (OfBook e) = IsFirstRefusal (book side w) clock Res
 Fails w _ _ = ⊥
 
 -- what the server's book makes of an order that it doesn't do
-abbrev pub IsBookRefusal : Book → ℕ → Order → WorldError → Type 0
+abbrev pub IsBookRefusal : BookState → ℕ → Order → WorldError → Type 0
 IsBookRefusal b clock order (OfBook e) = IsFirstRefusal b clock order e
 IsBookRefusal b clock order Memory = ⊤
 IsBookRefusal b clock order _ = ⊥

@@ -12,11 +12,11 @@ use Rattle.binding_rules.specs.declared.update.Update.{Update}
 use Rattle.binding_rules.specs.Role.{is_side}
 use Rattle.journal_lines.specs.declared.event.Event.{Event}
 use Rattle.journal_lines.specs.declared.event.Event.TheVariants.{Grant, Release, Send}
-use Rattle.book_state.specs.Book.{Book}
+use Rattle.book_state.specs.Book.{BookState}
 use Rattle.book_state.specs.Effects.{same_prefix}
 use Rattle.server_settings.specs.Settings.{ServerSettings}
 use Rattle.attribution.specs.Run.{Step}
-use Rattle.pair_world.specs.UnitWorld.{Contact, Entry, Gives, GivesBack, Server, Setting}
+use Rattle.pair_world.specs.UnitWorld.{Contact, Entry, Gives, GivesBack, Server, UnitSetting}
 
 -- the binding of a lease
 abbrev pub holder_of : List ℕ → ℕ → Binding
@@ -62,7 +62,7 @@ contacts_of [] = []
 contacts_of (m ∷ ms) = contacts_with m.body (contacts_of ms)
 
 -- a server, as a unit sees it
-abbrev pub server_of : Prefix → Book → List PartnerMessage → Bool → Server
+abbrev pub server_of : Prefix → BookState → List PartnerMessage → Bool → Server
 server_of p b sent stopped =
     record {
       unit = b.units p;
@@ -86,5 +86,5 @@ abbrev pub messages : Role → List Step → List PartnerMessage → List Partne
 messages side [] ms = ms
 messages side (s ∷ ss) ms = messages side ss (if is_side side s.side then sent_with s.line.event ms else ms)
 
-abbrev pub setting_of : ServerSettings → Setting
+abbrev pub setting_of : ServerSettings → UnitSetting
 setting_of s = record { skew = s.skew; transit = s.transit; mclt = s.mclt }

@@ -6,7 +6,7 @@ use Rattle.binding_rules.specs.declared.unit.Binding.{Binding}
 use Rattle.binding_rules.specs.declared.update.Status.TheVariants.{Active as ActiveDue}
 use Rattle.binding_rules.specs.Unit.{status_of}
 use Rattle.binding_rules.specs.Giving.{is_own}
-use Rattle.pair_world.specs.UnitWorld.{Setting, Entry, Gives, GivesBack, Contact, Server, UnitWorld, UnitEvent}
+use Rattle.pair_world.specs.UnitWorld.{UnitSetting, Entry, Gives, GivesBack, Contact, Server, UnitWorld, UnitEvent}
 use Rattle.pair_world.specs.UnitWorld.{start, server}
 use Rattle.pair_world.specs.UnitWorld.{IsIn, IsAlone, MayHappen, world_after}
 
@@ -27,7 +27,7 @@ Runs transit (GivesBack holder moment ∷ es) side k end = (holder ≡ k → ⊥
 -- at each moment, past or to come, no two bindings have the unit
 abbrev pub OneHolder : Type 0
 OneHolder =
-    (s : Setting) (es : List UnitEvent) → MayHappen s start es
+    (s : UnitSetting) (es : List UnitEvent) → MayHappen s start es
     → (m : ℕ) (j k : Binding) → HasUnit s.transit (world_after s start es).log j m
     → HasUnit s.transit (world_after s start es).log k m → j ≡ k
 
@@ -44,7 +44,7 @@ IsAckTold side x y =
     → y.unit.acked ≤ x.unit.told
 
 -- So while x takes y for down, y's grants of the unit end in time.
-abbrev pub EndsInTime : Setting → (side : Role) → UnitWorld → Type 0
+abbrev pub EndsInTime : UnitSetting → (side : Role) → UnitWorld → Type 0
 EndsInTime s side w =
     (d : ℕ) → (server side w).down ≡ Some d → (server side w).unit.marked ≡ false
     → is_own side (server side w).unit.status ≡ false
@@ -53,7 +53,7 @@ EndsInTime s side w =
 
 abbrev pub PartnerDownLaws : Type 0
 PartnerDownLaws =
-    (s : Setting) (es : List UnitEvent) → MayHappen s start es → (side : Role)
+    (s : UnitSetting) (es : List UnitEvent) → MayHappen s start es → (side : Role)
     → PartnerWaits (server side (world_after s start es)) (server (partner_of side) (world_after s start es))
     × IsAckTold side (server side (world_after s start es)) (server (partner_of side) (world_after s start es))
     × EndsInTime s side (world_after s start es)

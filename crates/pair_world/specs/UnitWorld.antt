@@ -18,11 +18,11 @@ use Rattle.binding_rules.specs.Giving.{is_own}
 use Rattle.binding_rules.specs.Table.{after_update}
 use Rattle.binding_rules.specs.Reply.{after_reply}
 use Rattle.book_rules.specs.UnitRules.{IsActiveFor, takeover}
-use Rattle.book_rules.specs.MessageRules.{IsTold}
+use Rattle.book_rules.specs.MessageRules.{TellsUnit}
 use Rattle.book_state.specs.Effects.{changed, expired, or_as_was, seized}
 
 -- what doesn't change in a run
-pub record Setting : Type 0 where
+pub record UnitSetting : Type 0 where
   pub skew : ℕ  -- milliseconds
   pub transit : ℕ  -- milliseconds: a grant may start this much later at its client
   pub mclt : ℕ  -- the maximum client lead time, in seconds
@@ -111,11 +111,11 @@ pub data UnitEvent : Type 0 where
 -- ---- what may happen
 
 -- the reading is within the skew of the moment
-abbrev pub IsNear : Setting → UnitWorld → ℕ → Type 0
+abbrev pub IsNear : UnitSetting → UnitWorld → ℕ → Type 0
 IsNear s w reading = (reading ≤ w.now + s.skew) × (w.now ≤ reading + s.skew)
 
 -- the lifetime reaches no further than the maximum client lead time past the end that the partner acknowledged
-abbrev pub IsWithinLead : Setting → (acked reading valid : ℕ) → Type 0
+abbrev pub IsWithinLead : UnitSetting → (acked reading valid : ℕ) → Type 0
 IsWithinLead s acked reading valid = reading + 1000 * valid ≤ max acked reading + 1000 * s.mclt
 
 -- the unit is the server's to give, or is this client's already
@@ -131,14 +131,14 @@ abbrev pub MaySay : Server → Contact → Type 0
 MaySay x c = (c.ask ≤ x.restart) × ((c.answer ≡ 0) ⊎ ((IsAlone x → ⊥) × (c.answer ≡ x.asked)))
 
 -- while the partner is down, a unit outside the server's own pool is seized once no lease of it can last
-abbrev pub MaySeize : Setting → Role → Server → (reading d : ℕ) → Type 0
+abbrev pub MaySeize : UnitSetting → Role → Server → (reading d : ℕ) → Type 0
 MaySeize s side x reading d =
     (x.down ≡ Some d) × (is_own side x.unit.status ≡ false) × (x.unit.own_end ≤ reading)
     × (takeover x.unit.told d s.mclt s.skew s.transit ≤ reading)
 
 -- What may happen is what the rules of a journal allow, and more: the end that the partner is told is any number, and
 -- a message comes late, twice, in any order, in any term, or never.
-abbrev pub IsAllowed : Setting → UnitWorld → UnitEvent → Type 0
+abbrev pub IsAllowed : UnitSetting → UnitWorld → UnitEvent → Type 0
 IsAllowed s w (Grants side reading valid out_end holder) =
     IsNear s w reading × IsGrantable side (server side w).unit holder
     × IsWithinLead s (server side w).unit.acked reading valid
@@ -148,7 +148,7 @@ IsAllowed s w (Expires side reading) =
     IsNear s w reading × (status_of (server side w).unit.status ≡ ActiveDue) × ((server side w).unit.own_end ≤ reading)
 IsAllowed s w MovesToBackup = w.a.unit.status ≡ Free
 IsAllowed s w Reclaims = w.a.unit.status ≡ FreeBackup
-IsAllowed s w (SendsUpdate side u) = IsTold (server side w).unit u
+IsAllowed s w (SendsUpdate side u) = TellsUnit (server side w).unit u
 IsAllowed s w (SendsReply side r) = (server side w).unit.pending ≡ Some r
 IsAllowed s w (SendsContact side c) = MaySay (server side w) c
 IsAllowed s w (TakesUpdate side reading u) = IsNear s w reading × IsIn (server (partner_of side) w).updates u
@@ -166,7 +166,7 @@ IsAllowed s w (Passes n) = ⊤
 
 -- ---- what it does
 
-abbrev pub granted : Setting → (reading valid out_end : ℕ) → Binding → UnitValue → UnitValue
+abbrev pub granted : UnitSetting → (reading valid out_end : ℕ) → Binding → UnitValue → UnitValue
 granted s reading valid out_end holder u =
     record u {
       status = Active holder;
@@ -188,7 +188,7 @@ contacted c x =
       waiting = if nat_le 1 c.answer && (c.answer == x.restart) then false else x.waiting;
     }
 
-abbrev pub next : Setting → UnitWorld → UnitEvent → UnitWorld
+abbrev pub next : UnitSetting → UnitWorld → UnitEvent → UnitWorld
 next s w (Grants side reading valid out_end holder) =
     record (with_unit side w (granted s reading valid out_end holder (server side w).unit)) {
       log = Gives side holder w.now valid ∷ w.log;
@@ -230,10 +230,10 @@ next s w (Restarts side) =
 next s w (Passes n) = record w { now = w.now + n }
 
 -- each event may happen in the world that those before it left
-abbrev pub MayHappen : Setting → UnitWorld → List UnitEvent → Type 0
+abbrev pub MayHappen : UnitSetting → UnitWorld → List UnitEvent → Type 0
 MayHappen s w [] = ⊤
 MayHappen s w (e ∷ es) = IsAllowed s w e × MayHappen s (next s w e) es
 
-abbrev pub world_after : Setting → UnitWorld → List UnitEvent → UnitWorld
+abbrev pub world_after : UnitSetting → UnitWorld → List UnitEvent → UnitWorld
 world_after s w [] = w
 world_after s w (e ∷ es) = world_after s (next s w e) es

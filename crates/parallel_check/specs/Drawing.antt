@@ -67,8 +67,8 @@ pub record IsDealt (limit : ℕ) (words : List ℕ) (views : List View) : Type 0
   pub within : slice_index words 0 ≤ limit + ended_of views
   pub each : (j : ℕ) (v : View) → get_elem? views j ≡ some v → Fits limit v
 
-abbrev pub Holds : {S : Type 0} → ℕ → State S View → Type 0
-Holds limit s = IsDealt limit s.words s.views
+abbrev pub IsSoundDrawing : {S : Type 0} → ℕ → State S View → Type 0
+IsSoundDrawing limit s = IsDealt limit s.words s.views
 
 -- what a draw tells: the number is one more of the seat's own
 abbrev pub Drew : {S : Type 0} → Step S → Me S View → ℕ → Me S View → Type 0

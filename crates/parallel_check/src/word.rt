@@ -22,9 +22,9 @@ pub struct View {
 pub struct Dealt;
 
 impl TableRule<u64, View, u64> for Dealt {
-    ghost use Rattle.parallel_check.specs.Drawing.{Holds, whole};
+    ghost use Rattle.parallel_check.specs.Drawing.{IsSoundDrawing, whole};
 
-    ghost holds = { λ limit s. Holds limit s };
+    ghost holds = { λ limit s. IsSoundDrawing limit s };
 
     ghost first = { whole };
 }

@@ -14,9 +14,11 @@ use Rattle.auditor.specs.Walks.{AreReleases as AreWalked}
 use Rattle.plain_search.specs.declared.collected.Dated.{Dated}
 use Rattle.plain_search.specs.declared.collected.Releases.{Releases}
 use Rattle.plain_search.specs.declared.recent.Recent.{Recent}
-use Rattle.plain_search.specs.Collected.{IsRelease, HasRelease, AreReleasesOn, IsFollowedBy, AreRising, AreReleases, AreGivenBackAlike, IsRecent, IsPlaceOf}
+use Rattle.plain_search.specs.Collected.{IsRelease, HasRelease, AreReleasesOn, IsFollowedBy, AreRising, AreReleases}
+use Rattle.plain_search.specs.Collected.{AreGivenBackAlike, IsRecent, IsPlaceOf}
 use Rattle.plain_search.proofs.Orders.{line_read}
-use Rattle.plain_search.proofs.Walked.{Passed, AreOnly, passed_none, passed_on, passed_all, only_all, only_next, only_on}
+use Rattle.plain_search.proofs.Walked.{Passed, AreOnly, passed_none, passed_on, passed_all, only_all, only_next}
+use Rattle.plain_search.proofs.Walked.{only_on}
 use Rattle.plain_search.proofs.Carrying.{all_more, has_more, has_last}
 
 -- ---- a server's
@@ -39,23 +41,37 @@ module _ (js : Journals) (d : Delegation) (side : Role) where
   })
 
   -- a release of the other side, or one that isn't there
-  pub not_found : (left more : List Ref) (r : Ref) (xs : List Dated) → left ≡ r ∷ more → (GivesBack js r d → r.side ≡ side → ⊥) → AreFound js d side left xs → AreFound js d side more xs
+  pub not_found : (left more : List Ref) (r : Ref) (xs : List Dated) → left ≡ r ∷ more
+      → (GivesBack js r d → r.side ≡ side → ⊥) → AreFound js d side left xs → AreFound js d side more xs
   not_found left more r xs e other h = record {
     each = h.each;
-    passed = passed_on (λ r. GivesBack js r d) (IsFoundOn side xs) (IsFoundOn side xs) left more r e (λ j f. f) (λ back on. absurd (other back on)) h.passed;
+    passed = passed_on (λ r. GivesBack js r d) (IsFoundOn side xs) (IsFoundOn side xs) left more r e (λ j f. f)
+        (λ back on. absurd (other back on)) h.passed;
     only = only_on (λ r. GivesBack js r d) left more r e h.only;
   }
 
-  pub one_found : (left more : List Ref) (xs ys : List Dated) (x : Dated) → left ≡ x.at ∷ more → Some x.reading ≡ reading_of js x.at → ys ≡ xs ++ x ∷ [] → AreFound js d side left xs → AreFound js d side more ys
+  pub one_found : (left more : List Ref) (xs ys : List Dated) (x : Dated) → left ≡ x.at ∷ more
+      → Some x.reading ≡ reading_of js x.at → ys ≡ xs ++ x ∷ [] → AreFound js d side left xs
+      → AreFound js d side more ys
   one_found left more xs ys x e read same h = subst (AreFound js d side more) (sym same) (record {
-    each = all_more (IsRelease js d) xs x h.each (record { back = only_next (λ r. GivesBack js r d) left more x.at e h.only; read = sym read });
+    each = all_more (IsRelease js d) xs x h.each (record {
+      back =
+          only_next (λ r. GivesBack js r d) left more x.at e h.only;
+      read = sym read;
+    });
     passed = passed_on (λ r. GivesBack js r d) (IsFoundOn side xs) (IsFoundOn side (xs ++ x ∷ [])) left more x.at e
-        (λ j f on. (let has = f on in (has.0, has_more xs x has.0 has.1, has.2))) (λ back on. (x, has_last xs x, refl)) h.passed;
+        (λ j f on. (let has = f on in (has.0, has_more xs x has.0 has.1, has.2)))
+        (λ back on. (x, has_last xs x, refl)) h.passed;
     only = only_on (λ r. GivesBack js r d) left more x.at e h.only;
   })
 
-  pub all_found : (left : List Ref) (xs : List Dated) → left ≡ [] → AreFound js d side left xs → AreReleasesOn js d side xs
-  all_found left xs none h = record { each = h.each; all = passed_all (λ r. GivesBack js r d) (IsFoundOn side xs) left none h.passed }
+  pub all_found : (left : List Ref) (xs : List Dated) → left ≡ [] → AreFound js d side left xs
+      → AreReleasesOn js d side xs
+  all_found left xs none h = record {
+    each = h.each;
+    all =
+        passed_all (λ r. GivesBack js r d) (IsFoundOn side xs) left none h.passed;
+  }
 
   pub unread : (r : Ref) → None ≡ reading_of js r → GivesBack js r d → ⊥
   unread r e back = let x : None ≡ Some back.0.reading = e ∙ line_read js r back.0 back.1 in cc
@@ -79,22 +95,28 @@ module _ (xs : List Dated) where
   pub one_rises : RiseTo xs 1
   one_rises = record { rise = λ i k d le lt. same_place i k d (omega arith) }
 
-  next_by : (n i : ℕ) (d : Dated) → 0 < n → n < length xs → RiseTo xs n → IsFollowedBy (get_or xs (n - 1) d) (get_or xs n d) → i ≤ n → IsFollowedBy (get_or xs i d) (get_or xs n d)
+  next_by : (n i : ℕ) (d : Dated) → 0 < n → n < length xs → RiseTo xs n
+      → IsFollowedBy (get_or xs (n - 1) d) (get_or xs n d) → i ≤ n → IsFollowedBy (get_or xs i d) (get_or xs n d)
   next_by n i d some lt h next le = elim (cases_lt i n) [
-    | inl less ↦ far (get_or xs i d) (get_or xs (n - 1) d) (get_or xs n d) (h.rise i (n - 1) d (omega arith) (omega arith)) next
+    | inl less ↦ far (get_or xs i d) (get_or xs (n - 1) d) (get_or xs n d)
+        (h.rise i (n - 1) d (omega arith) (omega arith)) next
     | inr ge ↦ same_place i n d (omega arith)
   ]
 
-  pub more_rise : (n : ℕ) (x y : Dated) → 0 < n → n < length xs → x ≡ get_or xs (n - 1) x → y ≡ get_or xs n y → IsFollowedBy x y → RiseTo xs n → RiseTo xs (n + 1)
+  pub more_rise : (n : ℕ) (x y : Dated) → 0 < n → n < length xs → x ≡ get_or xs (n - 1) x → y ≡ get_or xs n y
+      → IsFollowedBy x y → RiseTo xs n → RiseTo xs (n + 1)
   more_rise n x y some lt at on next h = record {
     rise = λ i k d le less. elim (cases_lt k n) [
       | inl below ↦ h.rise i k d le below
       | inr ge ↦ (
-          let a : get_or xs (n - 1) d ≡ x = get_or_from_slice_get xs (n - 1) x d (slice_get_read xs (length xs) (n - 1) x refl (omega arith) at) in
+          let a : get_or xs (n - 1) d ≡ x = get_or_from_slice_get xs (n - 1) x d
+          (slice_get_read xs (length xs) (n - 1) x refl (omega arith) at) in
           let b : get_or xs n d ≡ y = get_or_from_slice_get xs n y d (slice_get_read xs (length xs) n y refl lt on) in
-          let step : IsFollowedBy (get_or xs (n - 1) d) (get_or xs n d) = subst (λ (u : Dated). IsFollowedBy u (get_or xs n d)) (sym a) (subst (IsFollowedBy x) (sym b) next) in
+          let step : IsFollowedBy (get_or xs (n - 1) d) (get_or xs n d) =
+          subst (λ (u : Dated). IsFollowedBy u (get_or xs n d)) (sym a) (subst (IsFollowedBy x) (sym b) next) in
           let here : k ≡ n = omega arith in
-          subst (λ (m : ℕ). IsFollowedBy (get_or xs i d) (get_or xs m d)) (sym here) (next_by n i d some lt h step (omega arith)))
+          subst (λ (m : ℕ). IsFollowedBy (get_or xs i d) (get_or xs m d)) (sym here)
+          (next_by n i d some lt h step (omega arith)))
     ];
   }
 
@@ -107,27 +129,39 @@ module _ (js : Journals) where
   pub none_recent : (r : Recent) → r.collected.items ≡ [] → IsRecent js r
   none_recent r e = subst (All (AreReleases js)) (sym e) (λ k c lt. absurd (omega arith))
 
-  pub more_recent : (xs ys : List Releases) (c : Releases) → ys ≡ xs ++ c ∷ [] → All (AreReleases js) xs → AreReleases js c → All (AreReleases js) ys
+  pub more_recent : (xs ys : List Releases) (c : Releases) → ys ≡ xs ++ c ∷ [] → All (AreReleases js) xs
+      → AreReleases js c → All (AreReleases js) ys
   more_recent xs ys c same h is = subst (All (AreReleases js)) (sym same) (all_more (AreReleases js) xs c h is)
 
-  pub recent_at : (xs : List Releases) (i : ℕ) (c : Releases) → slice_get xs i ≡ Some c → All (AreReleases js) xs → AreReleases js c
-  recent_at xs i c e h = subst (AreReleases js) (get_or_from_slice_get xs i c c e) (All-get_or (AreReleases js) xs i c (slice_get_within xs i c e) h)
+  pub recent_at : (xs : List Releases) (i : ℕ) (c : Releases) → slice_get xs i ≡ Some c → All (AreReleases js) xs
+      → AreReleases js c
+  recent_at xs i c e h = subst (AreReleases js) (get_or_from_slice_get xs i c c e)
+      (All-get_or (AreReleases js) xs i c (slice_get_within xs i c e) h)
 
 last_got : {X : Type 0} (xs : List X) (x : X) → slice_get (xs ++ x ∷ []) (length xs) ≡ Some x
 last_got [] x = refl
 last_got (y ∷ xs) x = last_got xs x
 
-pub last_place : (r : Recent) (d : Delegation) (xs : List Releases) (c : Releases) (i : ℕ) → r.collected.items ≡ xs ++ c ∷ [] → i ≡ length xs → c.delegation ≡ d → IsPlaceOf r d i
+pub last_place : (r : Recent) (d : Delegation) (xs : List Releases) (c : Releases) (i : ℕ)
+    → r.collected.items ≡ xs ++ c ∷ [] → i ≡ length xs → c.delegation ≡ d → IsPlaceOf r d i
 last_place r d xs c i same at e = (
   c,
   ap (slice_get r.collected.items) at ∙ (ap (λ (ys : List Releases). slice_get ys (length xs)) same ∙ last_got xs c),
-  record { client = ap (λ (x : Delegation). x.client) e; iaid = ap (λ (x : Delegation). x.iaid) e; prefix = ap (λ (x : Delegation). x.prefix) e },
+  record {
+    client = ap (λ (x : Delegation). x.client) e;
+    iaid = ap (λ (x : Delegation). x.iaid) e;
+    prefix =
+        ap (λ (x : Delegation). x.prefix) e;
+  },
 )
 
-pub place_at : (r : Recent) (d : Delegation) (i : ℕ) (c : Releases) → i < length r.collected.items → c ≡ get_or r.collected.items i c → AreGivenBackAlike c.delegation d → IsPlaceOf r d i
+pub place_at : (r : Recent) (d : Delegation) (i : ℕ) (c : Releases) → i < length r.collected.items
+    → c ≡ get_or r.collected.items i c → AreGivenBackAlike c.delegation d → IsPlaceOf r d i
 place_at r d i c lt is alike = (c, slice_get_read r.collected.items (length r.collected.items) i c refl lt is, alike)
 
-pub placed : (js : Journals) (r : Recent) (d : Delegation) (i : ℕ) (c : Releases) → IsRecent js r → IsPlaceOf r d i → c ≡ get_or r.collected.items i c → AreReleases js c × AreGivenBackAlike c.delegation d
+pub placed : (js : Journals) (r : Recent) (d : Delegation) (i : ℕ) (c : Releases) → IsRecent js r → IsPlaceOf r d i
+    → c ≡ get_or r.collected.items i c → AreReleases js c × AreGivenBackAlike c.delegation d
 placed js r d i c h at is =
     let same : at.0 ≡ c = sym (get_or_from_slice_get r.collected.items i at.0 c at.1) ∙ sym is in
-    subst (λ (x : Releases). AreReleases js x × AreGivenBackAlike x.delegation d) same (recent_at js r.collected.items i at.0 at.1 h, at.2)
+    subst (λ (x : Releases). AreReleases js x × AreGivenBackAlike x.delegation d) same
+    (recent_at js r.collected.items i at.0 at.1 h, at.2)

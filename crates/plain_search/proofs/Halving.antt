@@ -1,5 +1,6 @@
 -- The first of releases that rise, and what it shows of the others.
-use Rattle.std.specs.Prelude.{◌≡◌, ℕ, ◌+◌, ◌*◌, ◌<◌, ◌≤◌, ◌⊎◌, ◌↔◌, min, not, Bool, true, false, List, length, nat_lt, Option, Some, None, MatchOption, All, Contains as Has}
+use Rattle.std.specs.Prelude.{◌≡◌, ℕ, ◌+◌, ◌*◌, ◌<◌, ◌≤◌, ◌⊎◌, ◌↔◌, min, not, Bool, true, false, List, length, nat_lt}
+use Rattle.std.specs.Prelude.{Option, Some, None, MatchOption, All, Contains as Has}
 use Rattle.std.specs.List.Sorted.{IsPartitionedBy, IsPartitionPoint}
 use Rattle.std.specs.Bool.{Decides}
 use Rattle.std.proofs.Common.{arith, sym, ◌∙◌, subst, refl, inl, inr, get_or}
@@ -21,7 +22,8 @@ use Rattle.plain_search.specs.declared.reach.Candidate.{Candidate}
 use Rattle.plain_search.specs.declared.collected.Dated.{Dated}
 use Rattle.plain_search.specs.declared.collected.Releases.{Releases}
 use Rattle.plain_search.specs.Search.{IsReadAt, IsPlainlyBefore, IsKeptTo, AreKeptTo, IsReturnedBy}
-use Rattle.plain_search.specs.Collected.{IsRelease, AreReleasesOn, IsFollowedBy, AreRising, AreReleases, AreGivenBackAlike, shows_before, IsFirstFailing, NoneFails, IsKeptBy, IsReturn}
+use Rattle.plain_search.specs.Collected.{IsRelease, AreReleasesOn, IsFollowedBy, AreRising, AreReleases}
+use Rattle.plain_search.specs.Collected.{AreGivenBackAlike, shows_before, IsFirstFailing, NoneFails, IsKeptBy, IsReturn}
 use Rattle.plain_search.proofs.Orders.{one_reading, not_both, before_by_tests, tests_before}
 
 -- ---- what the test of two lines decides
@@ -30,7 +32,8 @@ abbrev pub IsShownBefore : ℕ → Dated → Dated → Type 0
 IsShownBefore skew x z = IsLater x.at z.at ⊎ (x.reading + 2 * skew < z.reading)
 
 pub decides_before : (skew : ℕ) (x z : Dated) → Decides (shows_before skew x z) (IsShownBefore skew x z)
-decides_before skew x z = Decides-or (is_later x.at z.at) (nat_lt (x.reading + 2 * skew) z.reading) (decides_later x.at z.at) (Decides-ltb (x.reading + 2 * skew) z.reading)
+decides_before skew x z = Decides-or (is_later x.at z.at) (nat_lt (x.reading + 2 * skew) z.reading)
+    (decides_later x.at z.at) (Decides-ltb (x.reading + 2 * skew) z.reading)
 
 -- ---- it parts lines that rise
 
@@ -59,29 +62,40 @@ false_or_true false = inr refl
 
 module _ (skew : ℕ) (xs : List Dated) (rising : AreRising xs) where
   pub parted_before : (z : Dated) → IsPartitionedBy (λ (x : Dated). shows_before skew x z) xs
-  parted_before z i j d le lt t = (decides_before skew (get_or xs i d) z).1 (before_lower skew (get_or xs i d) (get_or xs j d) z (rising i j d le lt) ((decides_before skew (get_or xs j d) z).0 t))
+  parted_before z i j d le lt t = (decides_before skew (get_or xs i d) z).1
+      (before_lower skew (get_or xs i d) (get_or xs j d) z (rising i j d le lt)
+      ((decides_before skew (get_or xs j d) z).0 t))
 
-  after_by : (z x y : Dated) → IsFollowedBy x y → shows_before skew z y ≡ false → (b : Bool) → shows_before skew z x ≡ b → b ≡ false
-  after_by z x y f e true is = absurd (not_both ((decides_before skew z y).1 (after_higher skew x y z f ((decides_before skew z x).0 is))) e)
+  after_by : (z x y : Dated) → IsFollowedBy x y → shows_before skew z y ≡ false → (b : Bool)
+      → shows_before skew z x ≡ b → b ≡ false
+  after_by z x y f e true is =
+      absurd (not_both ((decides_before skew z y).1 (after_higher skew x y z f ((decides_before skew z x).0 is))) e)
   after_by z x y f e false is = refl
 
   pub parted_after : (z : Dated) → IsPartitionedBy (λ (x : Dated). not (shows_before skew z x)) xs
   parted_after z i j d le lt t =
-      not_true (shows_before skew z (get_or xs i d)) (after_by z (get_or xs i d) (get_or xs j d) (rising i j d le lt) (not_is_true (shows_before skew z (get_or xs j d)) t) (shows_before skew z (get_or xs i d)) refl)
+      not_true (shows_before skew z (get_or xs i d))
+      (after_by z (get_or xs i d) (get_or xs j d) (rising i j d le lt)
+      (not_is_true (shows_before skew z (get_or xs j d)) t) (shows_before skew z (get_or xs i d)) refl)
 
 -- ---- the first that fails
 
-module _ (test : Dated → Bool) (xs : List Dated) (i : ℕ) (point : IsPartitionPoint (λ (x : Dated). test x ≡ true) (λ (x : Dated). test x ≡ false) xs i) where
+module _ (test : Dated → Bool) (xs : List Dated) (i : ℕ) (point :
+    IsPartitionPoint (λ (x : Dated). test x ≡ true) (λ (x : Dated). test x ≡ false) xs i) where
   pub none_fails : length xs ≤ i → NoneFails test xs
-  none_fails le z has = subst (λ (x : Dated). test x ≡ true) has.2 (point.0 has.0 z (omega arith) (let lt = has.1 in omega arith))
+  none_fails le z has = subst (λ (x : Dated). test x ≡ true) has.2
+      (point.0 has.0 z (omega arith) (let lt = has.1 in omega arith))
 
-  least_by : AreRising xs → i < length xs → (z : Dated) → Has xs z → test z ≡ false → (get_or xs i z).reading ≤ z.reading
+  least_by : AreRising xs → i < length xs → (z : Dated) → Has xs z → test z ≡ false
+      → (get_or xs i z).reading ≤ z.reading
   least_by rising lt z has fails = elim (cases_lt has.0 i) [
-    | inl less ↦ absurd (not_both (subst (λ (x : Dated). test x ≡ true) has.2 (point.0 has.0 z (omega arith) less)) fails)
+    | inl less ↦ absurd (not_both (subst (λ (x : Dated). test x ≡ true) has.2 (point.0 has.0 z (omega arith) less))
+        fails)
     | inr ge ↦ subst (λ (x : Dated). (get_or xs i z).reading ≤ x.reading) has.2 ((rising i has.0 z ge has.1).2)
   ]
 
-  pub first_fails : AreRising xs → (x : Dated) → i < length xs → ((d : Dated) → get_or xs i d ≡ x) → IsFirstFailing test xs x
+  pub first_fails : AreRising xs → (x : Dated) → i < length xs → ((d : Dated) → get_or xs i d ≡ x)
+      → IsFirstFailing test xs x
   first_fails rising x lt at = record {
     has = (i, lt, at x);
     fails = subst (λ (y : Dated). test y ≡ false) (at x) (point.1 i x (omega arith) lt);
@@ -91,10 +105,12 @@ module _ (test : Dated → Bool) (xs : List Dated) (i : ℕ) (point : IsPartitio
 -- ---- what a server's releases leave
 
 module _ (skew : ℕ) (grant : Dated) (xs : List Dated) (limit : ℕ) where
-  pub kept_all_by : NoneFails (λ (x : Dated). shows_before skew x grant) xs → (least : ℕ) → (least ≤ limit) ↔ ((least ≤ limit) × IsKeptBy skew grant xs least)
+  pub kept_all_by : NoneFails (λ (x : Dated). shows_before skew x grant) xs → (least : ℕ) → (least ≤ limit)
+      ↔ ((least ≤ limit) × IsKeptBy skew grant xs least)
   kept_all_by none least = (λ le. (le, λ z has fails. absurd (not_both (none z has) fails)), λ h. h.0)
 
-  pub kept_first_by : (x : Dated) → IsFirstFailing (λ (y : Dated). shows_before skew y grant) xs x → (least : ℕ) → (least ≤ min limit x.reading) ↔ ((least ≤ limit) × IsKeptBy skew grant xs least)
+  pub kept_first_by : (x : Dated) → IsFirstFailing (λ (y : Dated). shows_before skew y grant) xs x → (least : ℕ)
+      → (least ≤ min limit x.reading) ↔ ((least ≤ limit) × IsKeptBy skew grant xs least)
   kept_first_by x h least = (
     λ le. (omega arith, λ z has fails. (let a = h.least z has fails in omega arith)),
     λ two. (let a = two.0 in let b = two.1 x h.has h.fails in omega arith),
@@ -103,15 +119,26 @@ module _ (skew : ℕ) (grant : Dated) (xs : List Dated) (limit : ℕ) where
 -- ---- what both servers' do
 
 back_alike : (js : Journals) (d e : Delegation) (j : Ref) → AreGivenBackAlike d e → GivesBack js j d → GivesBack js j e
-back_alike js d e j h back = (back.0, back.1, (let a = h.client in let b = h.iaid in let c = h.prefix in let f = back.2 in cc))
+back_alike js d e j h back = (
+  back.0,
+  back.1,
+  (let a = h.client in let b = h.iaid in let c = h.prefix in
+      let f = back.2 in cc),
+)
 
 alike_back : (js : Journals) (d e : Delegation) (j : Ref) → AreGivenBackAlike d e → GivesBack js j e → GivesBack js j d
-alike_back js d e j h back = (back.0, back.1, (let a = h.client in let b = h.iaid in let c = h.prefix in let f = back.2 in cc))
+alike_back js d e j h back = (
+  back.0,
+  back.1,
+  (let a = h.client in let b = h.iaid in let c = h.prefix in
+      let f = back.2 in cc),
+)
 
 of_all : {X : Type 0} (P : X → Type 0) (xs : List X) (x : X) → All P xs → Has xs x → P x
 of_all P xs x h has = subst P has.2 (h has.0 x has.1)
 
-module _ (js : Journals) (d : Delegation) (c : Releases) (all : AreReleases js c) (alike : AreGivenBackAlike c.delegation d) where
+module _ (js : Journals) (d : Delegation) (c : Releases) (all : AreReleases js c)
+    (alike : AreGivenBackAlike c.delegation d) where
   primary_is : (x : Dated) → Has c.primary.items x → IsRelease js c.delegation x
   primary_is x has = of_all (IsRelease js c.delegation) c.primary.items x all.primary.each has
 
@@ -120,70 +147,94 @@ module _ (js : Journals) (d : Delegation) (c : Releases) (all : AreReleases js c
 
   -- ---- a grant
 
-  module _ (skew least : ℕ) (grant : Dated) (g : Candidate) (at : grant.at ≡ g.grant) (of : d ≡ of_lease g.lease) (read : Some grant.reading ≡ reading_of js grant.at) where
-    shown_plainly : (x : Dated) → IsReadAt js x.at x.reading → IsShownBefore skew x grant → IsPlainlyBefore js skew x.at g.grant
+  module _ (skew least : ℕ) (grant : Dated) (g : Candidate) (at : grant.at ≡ g.grant) (of : d ≡ of_lease g.lease)
+      (read : Some grant.reading ≡ reading_of js grant.at) where
+    shown_plainly : (x : Dated) → IsReadAt js x.at x.reading → IsShownBefore skew x grant
+        → IsPlainlyBefore js skew x.at g.grant
     shown_plainly x is shown = subst (λ (r : Ref). IsPlainlyBefore js skew x.at r) at
-        (before_by_tests js skew x.at grant.at x.reading grant.reading (sym is) read (elim shown [ inl later ↦ inl later | inr apart ↦ inr (omega arith) ]))
+        (before_by_tests js skew x.at grant.at x.reading grant.reading (sym is) read
+        (elim shown [ inl later ↦ inl later | inr apart ↦ inr (omega arith) ]))
 
-    plainly_shown : (x : Dated) → IsReadAt js x.at x.reading → IsPlainlyBefore js skew x.at g.grant → IsShownBefore skew x grant
+    plainly_shown : (x : Dated) → IsReadAt js x.at x.reading → IsPlainlyBefore js skew x.at g.grant
+        → IsShownBefore skew x grant
     plainly_shown x is before =
-        elim (tests_before js skew x.at grant.at x.reading grant.reading (sym is) read (subst (λ (r : Ref). IsPlainlyBefore js skew x.at r) (sym at) before)) [ inl later ↦ inl later | inr apart ↦ inr (omega arith) ]
+        elim (tests_before js skew x.at grant.at x.reading grant.reading (sym is) read
+        (subst (λ (r : Ref). IsPlainlyBefore js skew x.at r) (sym at) before)) [
+          | inl later ↦ inl later
+          | inr apart ↦ inr (omega arith)
+        ]
 
-    kept_at : (x : Dated) → IsReadAt js x.at x.reading → (shows_before skew x grant ≡ false → least ≤ x.reading) → IsKeptTo js skew g least x.at
+    kept_at : (x : Dated) → IsReadAt js x.at x.reading → (shows_before skew x grant ≡ false → least ≤ x.reading)
+        → IsKeptTo js skew g least x.at
     kept_at x is h = elim (false_or_true (shows_before skew x grant)) [
       | inl shown ↦ inl (shown_plainly x is ((decides_before skew x grant).0 shown))
       | inr fails ↦ inr (x.reading, is, h fails)
     ]
 
-    least_at : (x : Dated) → IsReadAt js x.at x.reading → shows_before skew x grant ≡ false → IsKeptTo js skew g least x.at → least ≤ x.reading
-    least_at x is fails (inl before) = absurd (not_both ((decides_before skew x grant).1 (plainly_shown x is before)) fails)
-    least_at x is fails (inr from) = let same = one_reading js x.at from.0 x.reading from.1 is in let y = from.2 in omega arith
+    least_at : (x : Dated) → IsReadAt js x.at x.reading → shows_before skew x grant ≡ false
+        → IsKeptTo js skew g least x.at → least ≤ x.reading
+    least_at x is fails (inl before) = absurd
+        (not_both ((decides_before skew x grant).1 (plainly_shown x is before)) fails)
+    least_at x is fails (inr from) = let same = one_reading js x.at from.0 x.reading from.1 is in let y = from.2 in
+        omega arith
 
-    kept_on : (side : Role) (xs : List Dated) → AreReleasesOn js c.delegation side xs → IsKeptBy skew grant xs least → (j : Ref) → GivesBack js j c.delegation → j.side ≡ side → IsKeptTo js skew g least j
+    kept_on : (side : Role) (xs : List Dated) → AreReleasesOn js c.delegation side xs → IsKeptBy skew grant xs least
+        → (j : Ref) → GivesBack js j c.delegation → j.side ≡ side → IsKeptTo js skew g least j
     kept_on side xs on h j back is =
         let has = on.all j back is in
         let x = has.0 in
-        subst (IsKeptTo js skew g least) has.2 (kept_at x (of_all (IsRelease js c.delegation) xs x on.each has.1).read (λ fails. h x has.1 fails))
+        subst (IsKeptTo js skew g least) has.2 (kept_at x (of_all (IsRelease js c.delegation) xs x on.each has.1).read
+        (λ fails. h x has.1 fails))
 
-    kept_side : (side : Role) (j : Ref) → j.side ≡ side → IsKeptBy skew grant c.primary.items least → IsKeptBy skew grant c.secondary.items least → GivesBack js j c.delegation → IsKeptTo js skew g least j
+    kept_side : (side : Role) (j : Ref) → j.side ≡ side → IsKeptBy skew grant c.primary.items least
+        → IsKeptBy skew grant c.secondary.items least → GivesBack js j c.delegation → IsKeptTo js skew g least j
     kept_side Primary j is one other back = kept_on Primary c.primary.items all.primary one j back is
     kept_side Secondary j is one other back = kept_on Secondary c.secondary.items all.secondary other j back is
 
     lease_back : (j : Ref) → GivesBack js j (of_lease g.lease) → GivesBack js j c.delegation
-    lease_back j back = alike_back js c.delegation d j alike (subst (λ (e : Delegation). GivesBack js j e) (sym of) back)
+    lease_back j back = alike_back js c.delegation d j alike
+        (subst (λ (e : Delegation). GivesBack js j e) (sym of) back)
 
     back_lease : (j : Ref) → GivesBack js j c.delegation → GivesBack js j (of_lease g.lease)
     back_lease j back = subst (λ (e : Delegation). GivesBack js j e) of (back_alike js c.delegation d j alike back)
 
-    kept_of_all : (side : Role) (xs : List Dated) → AreReleasesOn js c.delegation side xs → AreKeptTo js skew g least → IsKeptBy skew grant xs least
+    kept_of_all : (side : Role) (xs : List Dated) → AreReleasesOn js c.delegation side xs → AreKeptTo js skew g least
+        → IsKeptBy skew grant xs least
     kept_of_all side xs on h z has fails =
         let is = of_all (IsRelease js c.delegation) xs z on.each has in
         least_at z is.read fails (h z.at (back_lease z.at is.back))
 
     pub both_keep : (xs ys : List Dated) → xs ≡ c.primary.items → ys ≡ c.secondary.items → (limit kept more : ℕ)
-        → (least ≤ kept) ↔ ((least ≤ limit) × IsKeptBy skew grant xs least) → (least ≤ more) ↔ ((least ≤ kept) × IsKeptBy skew grant ys least)
+        → (least ≤ kept) ↔ ((least ≤ limit) × IsKeptBy skew grant xs least) → (least ≤ more)
+        ↔ ((least ≤ kept) × IsKeptBy skew grant ys least)
         → (least ≤ more) ↔ ((least ≤ limit) × AreKeptTo js skew g least)
     both_keep xs ys e f limit kept more one two = (
       λ le. (
           let b = two.0 le in
           let a = one.0 b.0 in
-          let p : IsKeptBy skew grant c.primary.items least = subst (λ (zs : List Dated). IsKeptBy skew grant zs least) e a.1 in
-          let s : IsKeptBy skew grant c.secondary.items least = subst (λ (zs : List Dated). IsKeptBy skew grant zs least) f b.1 in
+          let p : IsKeptBy skew grant c.primary.items least =
+          subst (λ (zs : List Dated). IsKeptBy skew grant zs least) e a.1 in
+          let s : IsKeptBy skew grant c.secondary.items least =
+          subst (λ (zs : List Dated). IsKeptBy skew grant zs least) f b.1 in
           (a.0, λ j back. kept_side j.side j refl p s (lease_back j back))),
       λ h. (
-          let p : IsKeptBy skew grant xs least = subst (λ (zs : List Dated). IsKeptBy skew grant zs least) (sym e) (kept_of_all Primary c.primary.items all.primary h.1) in
-          let s : IsKeptBy skew grant ys least = subst (λ (zs : List Dated). IsKeptBy skew grant zs least) (sym f) (kept_of_all Secondary c.secondary.items all.secondary h.1) in
+          let p : IsKeptBy skew grant xs least = subst (λ (zs : List Dated). IsKeptBy skew grant zs least) (sym e)
+          (kept_of_all Primary c.primary.items all.primary h.1) in
+          let s : IsKeptBy skew grant ys least = subst (λ (zs : List Dated). IsKeptBy skew grant zs least) (sym f)
+          (kept_of_all Secondary c.secondary.items all.secondary h.1) in
           two.1 (one.1 (h.0, p), s)),
     )
 
   -- ---- a line of another client's
 
   module _ (q : Query) (line : Dated) (read : Some line.reading ≡ reading_of js line.at) where
-    is_return : (x : Dated) → IsRelease js c.delegation x → IsReturn q line x → GivesBack js x.at d × IsReturnedBy js q line.at x.at
+    is_return : (x : Dated) → IsRelease js c.delegation x → IsReturn q line x
+        → GivesBack js x.at d × IsReturnedBy js q line.at x.at
     is_return x is h = (
       back_alike js c.delegation d x.at alike is.back,
       (
-        before_by_tests js q.skew line.at x.at line.reading x.reading read (sym is.read) (elim ((decides_before q.skew line x).0 h.0) [ inl later ↦ inl later | inr apart ↦ inr (omega arith) ]),
+        before_by_tests js q.skew line.at x.at line.reading x.reading read (sym is.read)
+            (elim ((decides_before q.skew line x).0 h.0) [ inl later ↦ inl later | inr apart ↦ inr (omega arith) ]),
         (x.reading, is.read, h.1),
       ),
     )
@@ -191,50 +242,79 @@ module _ (js : Journals) (d : Delegation) (c : Releases) (all : AreReleases js c
     returned_is : (x : Dated) → IsReadAt js x.at x.reading → IsReturnedBy js q line.at x.at → IsReturn q line x
     returned_is x is h =
         let same = one_reading js x.at h.1.0 x.reading h.1.1 is in
-        let le = h.1.2 in
-        ((decides_before q.skew line x).1 (elim (tests_before js q.skew line.at x.at line.reading x.reading read (sym is) h.0) [ inl later ↦ inl later | inr apart ↦ inr (omega arith) ]), omega arith)
+        let le = h.1.2 in (
+          (decides_before q.skew line x).1 (elim
+              (tests_before js q.skew line.at x.at line.reading x.reading read (sym is) h.0) [
+                | inl later ↦ inl later
+                | inr apart ↦ inr (omega arith)
+              ]),
+          omega arith,
+        )
 
-    none_on : (side : Role) (xs : List Dated) → AreReleasesOn js c.delegation side xs → ((x : Dated) → Has xs x → IsReturn q line x → ⊥) → (j : Ref) → GivesBack js j c.delegation → j.side ≡ side → IsReturnedBy js q line.at j → ⊥
+    none_on : (side : Role) (xs : List Dated) → AreReleasesOn js c.delegation side xs
+        → ((x : Dated) → Has xs x → IsReturn q line x → ⊥) → (j : Ref) → GivesBack js j c.delegation → j.side ≡ side
+        → IsReturnedBy js q line.at j → ⊥
     none_on side xs on none j back is returned =
         let has = on.all j back is in
         let x = has.0 in
-        none x has.1 (returned_is x (of_all (IsRelease js c.delegation) xs x on.each has.1).read (subst (IsReturnedBy js q line.at) (sym has.2) returned))
+        none x has.1 (returned_is x (of_all (IsRelease js c.delegation) xs x on.each has.1).read
+        (subst (IsReturnedBy js q line.at) (sym has.2) returned))
 
-    none_side : (side : Role) (j : Ref) → j.side ≡ side → ((x : Dated) → Has c.primary.items x → IsReturn q line x → ⊥) → ((x : Dated) → Has c.secondary.items x → IsReturn q line x → ⊥) → GivesBack js j c.delegation → IsReturnedBy js q line.at j → ⊥
+    none_side : (side : Role) (j : Ref) → j.side ≡ side → ((x : Dated) → Has c.primary.items x → IsReturn q line x → ⊥)
+        → ((x : Dated) → Has c.secondary.items x → IsReturn q line x → ⊥) → GivesBack js j c.delegation
+        → IsReturnedBy js q line.at j → ⊥
     none_side Primary j is one other back returned = none_on Primary c.primary.items all.primary one j back is returned
-    none_side Secondary j is one other back returned = none_on Secondary c.secondary.items all.secondary other j back is returned
+    none_side Secondary j is one other back returned =
+        none_on Secondary c.secondary.items all.secondary other j back is returned
 
-    none_returns : ((x : Dated) → Has c.primary.items x → IsReturn q line x → ⊥) → ((x : Dated) → Has c.secondary.items x → IsReturn q line x → ⊥) → (j : Ref) → GivesBack js j d → IsReturnedBy js q line.at j → ⊥
-    none_returns one other j back returned = none_side j.side j refl one other (alike_back js c.delegation d j alike back) returned
+    none_returns : ((x : Dated) → Has c.primary.items x → IsReturn q line x → ⊥)
+        → ((x : Dated) → Has c.secondary.items x → IsReturn q line x → ⊥) → (j : Ref) → GivesBack js j d
+        → IsReturnedBy js q line.at j → ⊥
+    none_returns one other j back returned =
+        none_side j.side j refl one other (alike_back js c.delegation d j alike back) returned
 
     module _ (xs ys : List Dated) (e : xs ≡ c.primary.items) (f : ys ≡ c.secondary.items) (one other : Option Dated)
         (p : MatchOption one ((x : Dated) → Has xs x → IsReturn q line x → ⊥) (λ x. Has xs x × IsReturn q line x))
-        (s : MatchOption other ((x : Dated) → Has ys x → IsReturn q line x → ⊥) (λ x. Has ys x × IsReturn q line x)) where
-      pub some_returns : (x : Dated) → (one ≡ Some x) ⊎ (other ≡ Some x) → GivesBack js x.at d × IsReturnedBy js q line.at x.at
-      some_returns x (inl is) =
-          let h : Has xs x × IsReturn q line x = subst (λ (o : Option Dated). MatchOption o ((z : Dated) → Has xs z → IsReturn q line z → ⊥) (λ z. Has xs z × IsReturn q line z)) is p in
-          is_return x (primary_is x (subst (λ (zs : List Dated). Has zs x) e h.0)) h.1
-      some_returns x (inr is) =
-          let h : Has ys x × IsReturn q line x = subst (λ (o : Option Dated). MatchOption o ((z : Dated) → Has ys z → IsReturn q line z → ⊥) (λ z. Has ys z × IsReturn q line z)) is s in
-          is_return x (secondary_is x (subst (λ (zs : List Dated). Has zs x) f h.0)) h.1
+        (s : MatchOption other ((x : Dated) → Has ys x → IsReturn q line x → ⊥) (λ x. Has ys x × IsReturn q line x))
+      where
+        pub some_returns : (x : Dated) → (one ≡ Some x) ⊎ (other ≡ Some x)
+            → GivesBack js x.at d × IsReturnedBy js q line.at x.at
+        some_returns x (inl is) =
+            let h : Has xs x × IsReturn q line x = subst (λ (o : Option Dated). MatchOption o ((z : Dated) → Has xs z
+            → IsReturn q line z → ⊥) (λ z. Has xs z × IsReturn q line z)) is p in
+            is_return x (primary_is x (subst (λ (zs : List Dated). Has zs x) e h.0)) h.1
+        some_returns x (inr is) =
+            let h : Has ys x × IsReturn q line x = subst (λ (o : Option Dated). MatchOption o ((z : Dated) → Has ys z
+            → IsReturn q line z → ⊥) (λ z. Has ys z × IsReturn q line z)) is s in
+            is_return x (secondary_is x (subst (λ (zs : List Dated). Has zs x) f h.0)) h.1
 
-      pub neither_returns : (one ≡ None) × (other ≡ None) → (j : Ref) → GivesBack js j d → IsReturnedBy js q line.at j → ⊥
-      neither_returns is =
-          let a : ((x : Dated) → Has xs x → IsReturn q line x → ⊥) = subst (λ (o : Option Dated). MatchOption o ((z : Dated) → Has xs z → IsReturn q line z → ⊥) (λ z. Has xs z × IsReturn q line z)) is.0 p in
-          let b : ((x : Dated) → Has ys x → IsReturn q line x → ⊥) = subst (λ (o : Option Dated). MatchOption o ((z : Dated) → Has ys z → IsReturn q line z → ⊥) (λ z. Has ys z × IsReturn q line z)) is.1 s in
-          none_returns (λ x has. a x (subst (λ (zs : List Dated). Has zs x) (sym e) has)) (λ x has. b x (subst (λ (zs : List Dated). Has zs x) (sym f) has))
+        pub neither_returns : (one ≡ None) × (other ≡ None) → (j : Ref) → GivesBack js j d → IsReturnedBy js q line.at j
+            → ⊥
+        neither_returns is =
+            let a : ((x : Dated) → Has xs x → IsReturn q line x → ⊥) =
+            subst (λ (o : Option Dated). MatchOption o ((z : Dated) → Has xs z → IsReturn q line z
+            → ⊥) (λ z. Has xs z × IsReturn q line z)) is.0 p in
+            let b : ((x : Dated) → Has ys x → IsReturn q line x → ⊥) =
+            subst (λ (o : Option Dated). MatchOption o ((z : Dated) → Has ys z → IsReturn q line z
+            → ⊥) (λ z. Has ys z × IsReturn q line z)) is.1 s in
+            none_returns (λ x has. a x (subst (λ (zs : List Dated). Has zs x) (sym e) has))
+            (λ x has. b x (subst (λ (zs : List Dated). Has zs x) (sym f) has))
 
 -- ---- the first release after a line
 
 module _ (q : Query) (line : Dated) (xs : List Dated) where
-  pub none_return : NoneFails (λ (x : Dated). not (shows_before q.skew line x)) xs → (x : Dated) → Has xs x → IsReturn q line x → ⊥
+  pub none_return : NoneFails (λ (x : Dated). not (shows_before q.skew line x)) xs → (x : Dated) → Has xs x
+      → IsReturn q line x → ⊥
   none_return none x has h = not_both h.0 (not_is_true (shows_before q.skew line x) (none x has))
 
   not_false : (b : Bool) → b ≡ true → not b ≡ false
   not_false b e = cc
 
-  pub late_return : (x : Dated) → IsFirstFailing (λ (y : Dated). not (shows_before q.skew line y)) xs x → q.from < x.reading + q.skew → (z : Dated) → Has xs z → IsReturn q line z → ⊥
-  late_return x h late z has is = let a = h.least z has (not_false (shows_before q.skew line z) is.0) in let b = is.1 in absurd (omega arith)
+  pub late_return : (x : Dated) → IsFirstFailing (λ (y : Dated). not (shows_before q.skew line y)) xs x
+      → q.from < x.reading + q.skew → (z : Dated) → Has xs z → IsReturn q line z → ⊥
+  late_return x h late z has is = let a = h.least z has (not_false (shows_before q.skew line z) is.0) in
+      let b = is.1 in absurd (omega arith)
 
-  pub one_return : (x : Dated) → IsFirstFailing (λ (y : Dated). not (shows_before q.skew line y)) xs x → x.reading + q.skew ≤ q.from → Has xs x × IsReturn q line x
+  pub one_return : (x : Dated) → IsFirstFailing (λ (y : Dated). not (shows_before q.skew line y)) xs x
+      → x.reading + q.skew ≤ q.from → Has xs x × IsReturn q line x
   one_return x h le = (h.has, (not_is_false (shows_before q.skew line x) h.fails, le))

@@ -1,5 +1,6 @@
 -- What single lines show of orders and readings.
-use Rattle.std.specs.Prelude.{◌≡◌, ℕ, ◌+◌, ◌<◌, ◌⊎◌, ◌↔◌, IsTrue, Bool, true, false, List, [], ◌∷◌, Option, Some, None, option_map, length, if◌then◌else◌}
+use Rattle.std.specs.Prelude.{◌≡◌, ℕ, ◌+◌, ◌<◌, ◌⊎◌, ◌↔◌, IsTrue, Bool, true, false, List, [], ◌∷◌, Option, Some, None}
+use Rattle.std.specs.Prelude.{option_map, length, if◌then◌else◌}
 use Rattle.std.proofs.Common.{arith, sym, ◌∙◌, ap, subst, inl, inr, refl}
 use Rattle.binding_rules.specs.declared.role.Role.{Role}
 use Rattle.binding_rules.specs.declared.role.Role.TheVariants.{Primary, Secondary}
@@ -28,7 +29,8 @@ partner_differs Secondary h = cc
 -- ---- readings
 
 module _ (js : Journals) where
-  read_in : (o : Option Line) (x : ℕ) → option_map (λ (l : Line). l.reading) o ≡ Some x → (l : Line) × (o ≡ Some l) × (l.reading ≡ x)
+  read_in : (o : Option Line) (x : ℕ) → option_map (λ (l : Line). l.reading) o ≡ Some x
+      → (l : Line) × (o ≡ Some l) × (l.reading ≡ x)
   read_in None x h = absurd (cc)
   read_in (Some l) x h = (l, refl, cc)
 
@@ -46,12 +48,24 @@ module _ (js : Journals) where
   pub by_alone : (r : Ref) (x : ℕ) → IsReadAt js r x → WrittenBy js (r ∷ []) r x
   by_alone r x h =
       let l = read_line r x h in
-      record { end = r; line = l.0; leads = record { rest = []; begins = refl; ends = refl; links = (l.0, l.1) }; names = l.1; read = l.2 }
+      record {
+        end = r;
+        line = l.0;
+        leads = record { rest = []; begins = refl; ends = refl; links = (l.0, l.1) };
+        names = l.1;
+        read = l.2;
+      }
 
   pub from_alone : (r : Ref) (x : ℕ) → IsReadAt js r x → WrittenFrom js (r ∷ []) r x
   from_alone r x h =
       let l = read_line r x h in
-      record { begin = r; line = l.0; leads = record { rest = []; begins = refl; ends = refl; links = (l.0, l.1) }; names = l.1; read = l.2 }
+      record {
+        begin = r;
+        line = l.0;
+        leads = record { rest = []; begins = refl; ends = refl; links = (l.0, l.1) };
+        names = l.1;
+        read = l.2;
+      }
 
   one_leads : (chain : List Ref) (r s : Ref) → Leads js chain r s → IsOneLine chain → r ≡ s
   one_leads chain r s h one =
@@ -73,20 +87,35 @@ module _ (js : Journals) where
   -- ---- orders of two lines
 
   module _ (skew : ℕ) where
-    order_by : (r s : Ref) (l k : Line) → Names js r l → Names js s k → IsLater r s ⊎ (l.reading + skew + skew < k.reading) → (b : Bool) → is_later r s ≡ b
+    order_by : (r s : Ref) (l k : Line) → Names js r l → Names js s k
+        → IsLater r s ⊎ (l.reading + skew + skew < k.reading) → (b : Bool) → is_later r s ≡ b
         → IsSurelyBefore js skew (if b then Chain (r ∷ s ∷ []) else Clock (r ∷ []) (s ∷ [])) r s
-    order_by r s l k n m h true e = (record { rest = s ∷ []; begins = refl; ends = refl; links = ((l, n), inl ((decides_later r s).0 e), (k, m)) }, omega arith)
+    order_by r s l k n m h true e = (
+      record {
+        rest = s ∷ [];
+        begins = refl;
+        ends = refl;
+        links =
+            ((l, n), inl ((decides_later r s).0 e), (k, m));
+      },
+      omega arith,
+    )
     order_by r s l k n m (inl later) false e = absurd (not_both ((decides_later r s).1 later) e)
-    order_by r s l k n m (inr apart) false e = (l.reading, k.reading, by_alone r l.reading (line_read r l n), from_alone s k.reading (line_read s k m), apart)
+    order_by r s l k n m (inr apart) false e =
+        (l.reading, k.reading, by_alone r l.reading (line_read r l n), from_alone s k.reading (line_read s k m), apart)
 
     -- what two lines show, their plain order shows
     pub before_shown : (r s : Ref) → IsPlainlyBefore js skew r s → IsSurelyBefore js skew (plain_order r s) r s
     before_shown r s h =
         let l = read_line r h.0 h.2 in
         let k = read_line s h.1 h.3 in
-        order_by r s l.0 k.0 l.1 k.1 (elim h.4 [ inl later ↦ inl later | inr apart ↦ inr (let x = l.2 in let y = k.2 in omega arith) ]) (is_later r s) refl
+        order_by r s l.0 k.0 l.1 k.1 (elim h.4 [
+          | inl later ↦ inl later
+          | inr apart ↦ inr (let x = l.2 in let y = k.2 in omega arith)
+        ]) (is_later r s) refl
 
-    two_later : (chain : List Ref) (r s : Ref) → Leads js chain r s → IsTwoLines chain → (l : Line) × (k : Line) × Names js r l × Names js s k × IsLater r s
+    two_later : (chain : List Ref) (r s : Ref) → Leads js chain r s → IsTwoLines chain
+        → (l : Line) × (k : Line) × Names js r l × Names js s k × IsLater r s
     two_later chain r s h two =
         let a = two.0 in
         let b = two.1 in
@@ -103,19 +132,24 @@ module _ (js : Journals) where
         )
 
     -- what a plain order shows, the two lines alone show
-    pub shown_before : (order : Precedes) (r s : Ref) → IsPlainOrder order → IsSurelyBefore js skew order r s → IsPlainlyBefore js skew r s
-    shown_before (Chain chain) r s (inl one) h = let l : length chain ≡ 1 = ap length one.1 in let two = h.1 in absurd (omega arith)
+    pub shown_before : (order : Precedes) (r s : Ref) → IsPlainOrder order → IsSurelyBefore js skew order r s
+        → IsPlainlyBefore js skew r s
+    shown_before (Chain chain) r s (inl one) h = let l : length chain ≡ 1 = ap length one.1 in let two = h.1 in
+        absurd (omega arith)
     shown_before (Chain chain) r s (inr two) h =
         let t = two_later chain r s h.0 two in
         (t.0.reading, t.1.reading, line_read r t.0 t.2, line_read s t.1 t.3, inl t.4)
-    shown_before (Clock first second) r s one h = (h.0, h.1, by_one first r h.0 h.2 one.0, from_one second s h.1 h.3 one.1, inr h.4)
+    shown_before (Clock first second) r s one h =
+        (h.0, h.1, by_one first r h.0 h.2 one.0, from_one second s h.1 h.3 one.1, inr h.4)
 
     -- ---- tests of two lines
 
-    pub before_by_tests : (r s : Ref) (x y : ℕ) → Some x ≡ reading_of js r → Some y ≡ reading_of js s → IsLater r s ⊎ (x + skew + skew < y) → IsPlainlyBefore js skew r s
+    pub before_by_tests : (r s : Ref) (x y : ℕ) → Some x ≡ reading_of js r → Some y ≡ reading_of js s
+        → IsLater r s ⊎ (x + skew + skew < y) → IsPlainlyBefore js skew r s
     before_by_tests r s x y a b h = (x, y, sym a, sym b, h)
 
-    pub tests_before : (r s : Ref) (x y : ℕ) → Some x ≡ reading_of js r → Some y ≡ reading_of js s → IsPlainlyBefore js skew r s → IsLater r s ⊎ (x + skew + skew < y)
+    pub tests_before : (r s : Ref) (x y : ℕ) → Some x ≡ reading_of js r → Some y ≡ reading_of js s
+        → IsPlainlyBefore js skew r s → IsLater r s ⊎ (x + skew + skew < y)
     tests_before r s x y a b h =
         let p = one_reading r h.0 x h.2 (sym a) in
         let q = one_reading s h.1 y h.3 (sym b) in

@@ -14,7 +14,8 @@ use Rattle.attribution.proofs.Deciding.{told_tells}
 use Rattle.attribution.proofs.Listing.{concerned}
 use Rattle.auditor.proofs.Leases.{one_told}
 use Rattle.plain_search.specs.declared.query.Query.{Query}
-use Rattle.plain_search.specs.Search.{plain_order, IsAnothers, IsOthersAt, IsReturnedBy, IsAside, HasNoReason, IsReasoned, IsNamedIn, AreForeign, IsInTheWay}
+use Rattle.plain_search.specs.Search.{plain_order, IsAnothers, IsOthersAt, IsReturnedBy, IsAside, HasNoReason}
+use Rattle.plain_search.specs.Search.{IsReasoned, IsNamedIn, AreForeign, IsInTheWay}
 use Rattle.plain_search.proofs.Orders.{one_reading, by_alone, from_alone, by_one, from_one, before_shown, shown_before}
 use Rattle.plain_search.proofs.Walked.{Passed, passed_none, passed_on, passed_all}
 use Rattle.plain_search.proofs.Carrying.{all_more, has_more, has_last}
@@ -22,13 +23,16 @@ use Rattle.plain_search.proofs.Carrying.{all_more, has_more, has_last}
 module _ (js : Journals) (q : Query) (r : Ref) (d : Delegation) where
   -- ---- reasons that hold
 
-  pub early_holds : (x : ℕ) → Some x ≡ reading_of js r → EndsBy q.skew q.transit x q.from d.lasting → IsAside js q r d (Early (r ∷ []))
+  pub early_holds : (x : ℕ) → Some x ≡ reading_of js r → EndsBy q.skew q.transit x q.from d.lasting
+      → IsAside js q r d (Early (r ∷ []))
   early_holds x e ends = (x, by_alone js r x (sym e), ends)
 
-  pub late_holds : (x : ℕ) → Some x ≡ reading_of js r → IsNew d.lasting × (q.to + q.skew ≤ x) → IsAside js q r d (Late (r ∷ []))
+  pub late_holds : (x : ℕ) → Some x ≡ reading_of js r → IsNew d.lasting × (q.to + q.skew ≤ x)
+      → IsAside js q r d (Late (r ∷ []))
   late_holds x e h = (h.0, (x, from_alone js r x (sym e), h.1))
 
-  pub released_holds : (j : Ref) → GivesBack js j d → IsReturnedBy js q r j → IsAside js q r d (Released j (plain_order r j) (j ∷ []))
+  pub released_holds : (j : Ref) → GivesBack js j d → IsReturnedBy js q r j
+      → IsAside js q r d (Released j (plain_order r j) (j ∷ []))
   released_holds j back h = (back, before_shown js q.skew r j h.0, (h.1.0, by_alone js j h.1.0 h.1.1, h.1.2))
 
   -- ---- where none does
@@ -40,7 +44,8 @@ module _ (js : Journals) (q : Query) (r : Ref) (d : Delegation) where
       let b = shown_before js q.skew order r j plain.0 h.1 in
       let x : None ≡ Some b.0 = e ∙ b.2 in absurd (cc)
 
-  pub no_reason : (x : ℕ) → Some x ≡ reading_of js r → (EndsBy q.skew q.transit x q.from d.lasting → ⊥) → ((IsNew d.lasting × (q.to + q.skew ≤ x)) → ⊥)
+  pub no_reason : (x : ℕ) → Some x ≡ reading_of js r → (EndsBy q.skew q.transit x q.from d.lasting → ⊥)
+      → ((IsNew d.lasting × (q.to + q.skew ≤ x)) → ⊥)
       → ((j : Ref) → GivesBack js j d → IsReturnedBy js q r j → ⊥) → HasNoReason js q r d
   no_reason x e early late back (Early chain) plain h =
       let same = one_reading js r h.0 x (by_one js chain r h.0 h.1 plain) (sym e) in
@@ -66,7 +71,8 @@ pub record AreNamed (js : Journals) (q : Query) (left : List Ref) (fs : List For
   pub passed : Passed (IsOthers js q) (IsNamedIn fs) left
 
 module _ (js : Journals) (q : Query) where
-  pub not_anothers : (r : Ref) (d : Delegation) → Some d ≡ delegation_of js r → (IsAnothers d q → ⊥) → (f : Delegation) → IsOthersAt js q r f → ⊥
+  pub not_anothers : (r : Ref) (d : Delegation) → Some d ≡ delegation_of js r → (IsAnothers d q → ⊥) → (f : Delegation)
+      → IsOthersAt js q r f → ⊥
   not_anothers r d e not f h = not (subst (λ (x : Delegation). IsAnothers x q) (one_told js r d f e h.0) h.1)
 
   others_listed : (left : List Ref) → IsListing js q.prefix left → (r : Ref) → IsOthers js q r → Has left r
@@ -78,17 +84,21 @@ module _ (js : Journals) (q : Query) where
     passed = passed_none (IsOthers js q) (IsNamedIn []) left (others_listed left listed);
   }
 
-  pub not_named : (left more : List Ref) (r : Ref) (fs : List Foreign) → left ≡ r ∷ more → ((d : Delegation) → IsOthersAt js q r d → ⊥) → AreNamed js q left fs → AreNamed js q more fs
+  pub not_named : (left more : List Ref) (r : Ref) (fs : List Foreign) → left ≡ r ∷ more
+      → ((d : Delegation) → IsOthersAt js q r d → ⊥) → AreNamed js q left fs → AreNamed js q more fs
   not_named left more r fs e none h = record {
     reasoned = h.reasoned;
-    passed = passed_on (IsOthers js q) (IsNamedIn fs) (IsNamedIn fs) left more r e (λ j n. n) (λ w. absurd (none w.0 w.1)) h.passed;
+    passed = passed_on (IsOthers js q) (IsNamedIn fs) (IsNamedIn fs) left more r e (λ j n. n)
+        (λ w. absurd (none w.0 w.1)) h.passed;
   }
 
-  pub one_named : (left more : List Ref) (fs on : List Foreign) (f : Foreign) (d : Delegation) → left ≡ f.grant ∷ more → IsOthersAt js q f.grant d → IsAside js q f.grant d f.reason → on ≡ fs ++ f ∷ []
+  pub one_named : (left more : List Ref) (fs on : List Foreign) (f : Foreign) (d : Delegation) → left ≡ f.grant ∷ more
+      → IsOthersAt js q f.grant d → IsAside js q f.grant d f.reason → on ≡ fs ++ f ∷ []
       → AreNamed js q left fs → AreNamed js q more on
   one_named left more fs on f d e other aside same h = subst (AreNamed js q more) (sym same) (record {
     reasoned = all_more (IsReasoned js q) fs f h.reasoned (d, other.0, aside);
-    passed = passed_on (IsOthers js q) (IsNamedIn fs) (IsNamedIn (fs ++ f ∷ [])) left more f.grant e (λ j n. (n.0, has_more fs f n.0 n.1, n.2)) (λ w. (f, has_last fs f, refl)) h.passed;
+    passed = passed_on (IsOthers js q) (IsNamedIn fs) (IsNamedIn (fs ++ f ∷ [])) left more f.grant e
+        (λ j n. (n.0, has_more fs f n.0 n.1, n.2)) (λ w. (f, has_last fs f, refl)) h.passed;
   })
 
   pub all_named : (left : List Ref) (fs : List Foreign) → left ≡ [] → AreNamed js q left fs → AreForeign js q fs

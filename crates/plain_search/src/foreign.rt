@@ -21,27 +21,27 @@ use lead_time::Reading;
 use std::alloc::Global;
 
 /// Returns whether what was told of at this reading has ended by the query's beginning.
-pub fn has_ended(query: &Query, lasting: Lasting, told: Reading) -> bool
-    ensures { IsTrue result ↔ EndsBy query.now.skew query.now.transit told query.now.from lasting }
+pub fn has_ended(query: &Query, lasting: Lasting, granted: Reading) -> bool
+    ensures { IsTrue result ↔ EndsBy query.now.skew query.now.transit granted query.now.from lasting }
 {
     let late = query.skew.milliseconds() + query.transit.milliseconds();
     let from = query.from.milliseconds();
     match lasting {
         Lasting::For(seconds) => {
             seconds != Lease::INFINITE
-                && told.milliseconds() + late + 1000 * u64::from(seconds) <= from
+                && granted.milliseconds() + late + 1000 * u64::from(seconds) <= from
         }
         Lasting::Until(end) => end.milliseconds() + late <= from,
     }
 }
 
 /// Returns whether what is told of at this reading begins past the query.
-pub fn begins_late(query: &Query, lasting: Lasting, told: Reading) -> bool
-    ensures { IsTrue result ↔ (IsNew lasting × (query.now.to + query.now.skew ≤ told)) }
+pub fn begins_late(query: &Query, lasting: Lasting, granted: Reading) -> bool
+    ensures { IsTrue result ↔ (IsNew lasting × (query.now.to + query.now.skew ≤ granted)) }
 {
     match lasting {
         Lasting::For(_) => {
-            query.to.milliseconds() + query.skew.milliseconds() <= told.milliseconds()
+            query.to.milliseconds() + query.skew.milliseconds() <= granted.milliseconds()
         }
         Lasting::Until(_) => false,
     }
@@ -63,13 +63,13 @@ fn reason_of<S: LineSource>(
     ensures none { IsErrOf result FindError.NoneFound
         → HasNoReason (S.journals source.now) query.now at delegation.now }
 {
-    let Some(told) = reading_at(source, at) else {
+    let Some(granted) = reading_at(source, at) else {
         return Err(FindError::NoneFound);
     };
-    if has_ended(query, delegation.lasting, told) {
+    if has_ended(query, delegation.lasting, granted) {
         return Ok(Reason::Early(single(alloc, at)?));
     }
-    if begins_late(query, delegation.lasting, told) {
+    if begins_late(query, delegation.lasting, granted) {
         return Ok(Reason::Late(single(alloc, at)?));
     }
     let found = returning(alloc, source, recent, query, at, delegation)?;

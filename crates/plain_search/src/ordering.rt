@@ -35,7 +35,7 @@ pub fn shows_before(first: &Dated, second: &Dated, skew: Skew) -> bool
 
 /// Returns whether the two lines alone show that the first was written before the second: by their journal, or by their
 /// clocks.
-#[tactic(auto, using(crate::proofs::Orders::before_by_tests, crate::proofs::Orders::not_read_first, crate::proofs::Orders::not_read_second))]
+#[tactic(auto, using(crate::proofs::Orders::before_by_tests, crate::proofs::Orders::not_read_first, crate::proofs::Orders::not_read_second,))]
 pub fn is_plainly_before<L: Lines>(lines: &L, first: Ref, second: Ref, skew: Skew) -> bool
     ensures { IsTrue result ↔ IsPlainlyBefore (L.journals lines.now) skew first second }
 {

@@ -1,5 +1,6 @@
 -- What is left of the sorted free units is the choice.
-use Rattle.std.proofs.Common.{◌≡◌, ℕ, ◌-◌, ◌≤◌, List, length, take, count_by, filter, ◌++◌, drop, ◌∙◌, sym, ap, arith, refl, Bool, true, false, cond, ltb, eqb}
+use Rattle.std.proofs.Common.{◌≡◌, ℕ, ◌-◌, ◌≤◌, List, length, take, count_by, filter, ◌++◌, drop, ◌∙◌, sym, ap, arith}
+use Rattle.std.proofs.Common.{refl, Bool, true, false, cond, ltb, eqb}
 use Rattle.std.specs.List.Sorted.{IsPermutation}
 use Rattle.std.specs.Ordering.{is_lt, nat_cmp}
 use Rattle.std.specs.declared.cmp.Ordering.TheVariants.{Less, Equal, Greater}
@@ -15,15 +16,23 @@ use Rattle.pool_balance.specs.Balance.{half_of, is_free, is_backup, free_of, lac
 length-free : (units : List (Prefix × Status)) → length (free_of units) ≡ count_by is_free units
 length-free units = length-map (filter is_free units) (λ (u : Prefix × Status). u.0) ∙ length-filter is_free units
 
-pub choice : (units : List (Prefix × Status)) (free ranked chosen : List Prefix) (backup lacks : ℕ) → free ≡ free_of units → backup ≡ count_by is_backup units
-    → lacks ≡ half_of (length free) backup - backup → IsPermutation free ranked → IsDescending ranked → chosen ≡ take lacks ranked
+pub choice : (units : List (Prefix × Status)) (free ranked chosen : List Prefix) (backup lacks : ℕ)
+    → free ≡ free_of units → backup ≡ count_by is_backup units
+    → lacks ≡ half_of (length free) backup - backup → IsPermutation free ranked → IsDescending ranked
+    → chosen ≡ take lacks ranked
     → IsChoice units chosen × (length chosen ≡ lacking units)
 choice units free ranked chosen backup lacks f b n same descending is =
     let many : length free ≡ count_by is_free units = ap length f ∙ length-free units in
     let lack : lacks ≡ lacking units = n ∙ rw (many, b) refl in
     let long : length ranked ≡ length free = length_permutation free ranked same in
     let few : lacks ≤ length ranked = omega arith in (
-      record { ranked = ranked; free = rw f at same; descending = descending; highest = is ∙ ap (λ (k : ℕ). take k ranked) lack },
+      record {
+        ranked = ranked;
+        free = rw f at same;
+        descending = descending;
+        highest =
+            is ∙ ap (λ (k : ℕ). take k ranked) lack;
+      },
       ap length is ∙ (length-take-le lacks ranked few ∙ lack),
     )
 
@@ -35,9 +44,11 @@ is_lt-nat_cmp x y = by (ltb x y) (eqb x y) where
   by false false = refl
 
 -- a sort through a slice of the whole vector, and the vector cut afterwards
-pub kept : (len n : ℕ) (old new out : List Prefix) → IsPermutation old new → len ≡ length old → out ≡ take n (take len (new ++ drop (length new) old)) → out ≡ take n new
+pub kept : (len n : ℕ) (old new out : List Prefix) → IsPermutation old new → len ≡ length old
+    → out ≡ take n (take len (new ++ drop (length new) old)) → out ≡ take n new
 kept len n old new out same l e =
     let long : length new ≡ length old = length_permutation old new same in
     let k : len ≡ length new = l ∙ sym long in
     let within : length new ≤ length new = omega arith in
-    e ∙ ap (λ (w : List Prefix). take n w) (ap (λ (m : ℕ). take m (new ++ drop (length new) old)) k ∙ (take-append-le (length new) new (drop (length new) old) within ∙ take-length new))
+    e ∙ ap (λ (w : List Prefix). take n w) (ap (λ (m : ℕ). take m (new ++ drop (length new) old)) k
+    ∙ (take-append-le (length new) new (drop (length new) old) within ∙ take-length new))

@@ -6,7 +6,9 @@ use Rattle.text_fields.specs.Parsing.{◌>>=◌}
 use Rattle.prefix_range.specs.Spelling.{with_digit, digits_on}
 
 -- one more digit, or no number
-pub digits_step : (base : ℕ) (word : List ℕ) (n i : ℕ) → i < length word → digits_on base n (drop i word) ≡ (with_digit base n (get_or word i 0) >>= λ m. digits_on base m (drop (i + 1) word))
+pub digits_step : (base : ℕ) (word : List ℕ) (n i : ℕ) → i < length word
+    → digits_on base n (drop i word) ≡ (with_digit base n (get_or word i 0)
+    >>= λ m. digits_on base m (drop (i + 1) word))
 unfolding digits_on
 digits_step base word n i lt = rw (drop-cons word i 0 lt, add-one) refl
 

@@ -1,5 +1,6 @@
 -- Groups that are read one by one.
-use Rattle.std.proofs.Common.{◌≡◌, ◌≢◌, ℕ, suc, ◌+◌, ◌-◌, ◌*◌, ◌/◌, ◌%◌, ◌^◌, ◌<◌, ◌≤◌, List, [], ◌∷◌, ◌++◌, length, Some, None, refl, sym, ap, ◌∙◌, arith, add-one, eqb, lit<, true}
+use Rattle.std.proofs.Common.{◌≡◌, ◌≢◌, ℕ, suc, ◌+◌, ◌-◌, ◌*◌, ◌/◌, ◌%◌, ◌^◌, ◌<◌, ◌≤◌, List, [], ◌∷◌, ◌++◌, length}
+use Rattle.std.proofs.Common.{Some, None, refl, sym, ap, ◌∙◌, arith, add-one, eqb, lit<, true}
 use Rattle.std.proofs.lemmas.Bool.{lt-ltb, le-ltb, eq-eqb, ne_eqb}
 use Rattle.std.proofs.Math.Nat.{pow-succ', pow-le-pow_right}
 use Rattle.text_fields.specs.Parsing.{◌>>=◌}
@@ -49,7 +50,10 @@ whole_none n a ne = rw (ne_eqb (length (groups_of n a)) 8 (λ e. ne (sym (length
 -- one group more, in the row's own numbers
 pub with_is : (n a g : ℕ) → n < 8 → g < 65536 → with_one (groups_of n a) g ≡ Some (groups_of (n + 1) (a * 65536 + g))
 unfolding with_one
-with_is n a g lt fits = rw (lt-ltb (length (groups_of n a)) 8 (omega (arith, length-groups n a)), groups_next n a g fits) refl
+with_is n a g lt fits = rw (
+  lt-ltb (length (groups_of n a)) 8 (omega (arith, length-groups n a)),
+  groups_next n a g fits,
+) refl
 
 pub with_none : (n a g : ℕ) → 8 ≤ n → with_one (groups_of n a) g ≡ None
 unfolding with_one
@@ -67,7 +71,8 @@ product_fits n a h lt = omega (arith, with_fits n a 0 h lt (lit< tt))
 
 -- ---- zeros
 
-pub pad_step : (groups : List ℕ) (n i : ℕ) → i < n → padded groups (n - i) ≡ (with_one groups 0 >>= λ more. padded more (n - (i + 1)))
+pub pad_step : (groups : List ℕ) (n i : ℕ) → i < n → padded groups (n - i)
+    ≡ (with_one groups 0 >>= λ more. padded more (n - (i + 1)))
 unfolding padded
 pad_step groups n i lt =
     let left : n - i ≡ suc (n - (i + 1)) = omega arith in

@@ -1,5 +1,7 @@
 -- The prefix that is read of a text is spelled so, and a prefix that is spelled is read again.
-use Rattle.std.proofs.Common.{◌≡◌, ℕ, zero, suc, ◌+◌, ◌*◌, ◌/◌, ◌%◌, ◌<◌, ◌≤◌, ◌^◌, true, cond, eqb, ltb, leb, List, [], ◌∷◌, ◌++◌, length, Some, None, refl, sym, ap, subst, ◌∙◌, append_assoc, append-nil, add-zero, zero-add, arith, lit<}
+use Rattle.std.proofs.Common.{◌≡◌, ℕ, zero, suc, ◌+◌, ◌*◌, ◌/◌, ◌%◌, ◌<◌, ◌≤◌, ◌^◌, true, cond, eqb, ltb, leb, List, []}
+use Rattle.std.proofs.Common.{◌∷◌, ◌++◌, length, Some, None, refl, sym, ap, subst, ◌∙◌, append_assoc, append-nil}
+use Rattle.std.proofs.Common.{add-zero, zero-add, arith, lit<}
 use Rattle.std.specs.Prelude.{map, option_map}
 use Rattle.std.specs.List.{AllByRecursion}
 use Rattle.std.specs.Fmt.{decimal}
@@ -14,9 +16,11 @@ use Rattle.text_fields.specs.Number.{number_of}
 use Rattle.text_fields.proofs.Steps.{bind_some, map_some, some_is, chosen}
 use Rattle.text_fields.proofs.CutLaws.{split-joined, joined-split, Lacks-joined}
 use Rattle.text_fields.proofs.NumberLaws.{number_takes, number_again, decimal_lacks}
-use Rattle.text_fields.proofs.OctetLaws.{octets_take, octets_again, length-hex, octets_are_bytes, hex_lacks, hex_lacks_colon}
+use Rattle.text_fields.proofs.OctetLaws.{octets_take, octets_again, length-hex, octets_are_bytes, hex_lacks}
+use Rattle.text_fields.proofs.OctetLaws.{hex_lacks_colon}
 use Rattle.prefix_range.specs.Prefix.{Prefix, IsPrefix, size_of}
-use Rattle.prefix_range.specs.Text.{groups_of, group_text, address_text, prefix_text, group_of, with_group, address_on, address_of, made, parts_prefix, prefix_word}
+use Rattle.prefix_range.specs.Text.{groups_of, group_text, address_text, prefix_text, group_of, with_group, address_on}
+use Rattle.prefix_range.specs.Text.{address_of, made, parts_prefix, prefix_word}
 use Rattle.prefix_range.specs.Spelling.{value_on}
 use Rattle.prefix_range.proofs.Groups.{length-groups}
 
@@ -46,7 +50,8 @@ group_again g lt = rw (octets_again (to_be_bytes w16 g) (group_octets g lt), fro
 AreGroups : List ℕ → Type 0
 AreGroups groups = AllByRecursion (λ g. g < 65536) groups
 
-value-append : (address : ℕ) (groups : List ℕ) (g : ℕ) → value_on address (groups ++ g ∷ []) ≡ 65536 * value_on address groups + g
+value-append : (address : ℕ) (groups : List ℕ) (g : ℕ) → value_on address (groups ++ g ∷ [])
+    ≡ 65536 * value_on address groups + g
 unfolding value_on
 value-append address [] g = refl
 value-append address (h ∷ groups) g = value-append (65536 * address + h) groups g
@@ -66,7 +71,8 @@ groups-value (suc n) address lt =
     value-append 0 (groups_of n (address / 65536)) (address % 65536) ∙ omega (arith, rest)
 
 -- and groups are those of the address that they make
-value-groups : (k address : ℕ) (groups : List ℕ) → AreGroups groups → groups_of (k + length groups) (value_on address groups) ≡ groups_of k address ++ groups
+value-groups : (k address : ℕ) (groups : List ℕ) → AreGroups groups
+    → groups_of (k + length groups) (value_on address groups) ≡ groups_of k address ++ groups
 unfolding value_on AreGroups groups_of
 value-groups k address [] h = simp add-zero (sym (append-nil (groups_of k address)))
 value-groups k address (g ∷ groups) h =
@@ -82,14 +88,16 @@ unfolding AreGroups groups_of
 are_groups zero address = tt
 are_groups (suc n) address = more (groups_of n (address / 65536)) (are_groups n (address / 65536))
   where
-    more : (groups : List ℕ) → AllByRecursion (λ g. g < 65536) groups → AllByRecursion (λ g. g < 65536) (groups ++ address % 65536 ∷ [])
+    more : (groups : List ℕ) → AllByRecursion (λ g. g < 65536) groups
+        → AllByRecursion (λ g. g < 65536) (groups ++ address % 65536 ∷ [])
     more [] h = (omega arith, tt)
     more (g ∷ groups) h = (h.0, more groups h.1)
 
 -- ---- addresses
 
 Reads : ℕ → ℕ → List (List ℕ) → ℕ → Type 0
-Reads n address words a = (groups : List ℕ) × (words ≡ map group_text groups) × (length groups ≡ n) × AreGroups groups × (a ≡ value_on address groups)
+Reads n address words a = (groups : List ℕ) × (words ≡ map group_text groups) × (length groups ≡ n) × AreGroups groups
+    × (a ≡ value_on address groups)
 
 with_takes : (address g m : ℕ) → with_group address g ≡ Some m → (65536 * address + g ≡ m) × (m < 2 ^ 128)
 unfolding with_group
@@ -98,9 +106,11 @@ with_takes address g m e =
     let same : 65536 * address + g ≡ m = some_is _ _ c.1 in
     (same, omega (arith, ltb-true (65536 * address + g) (2 ^ 128) c.0, same))
 
-address_takes : (n address : ℕ) (words : List (List ℕ)) (a : ℕ) → address < 2 ^ 128 → address_on n address words ≡ Some a → Reads n address words a × (a < 2 ^ 128)
+address_takes : (n address : ℕ) (words : List (List ℕ)) (a : ℕ) → address < 2 ^ 128
+    → address_on n address words ≡ Some a → Reads n address words a × (a < 2 ^ 128)
 unfolding address_on Reads value_on AreGroups
-address_takes zero address [] a lt e = let same : address ≡ a = some_is _ _ e in (([], refl, refl, tt, sym same), omega (arith, lt, same))
+address_takes zero address [] a lt e = let same : address ≡ a = some_is _ _ e in
+    (([], refl, refl, tt, sym same), omega (arith, lt, same))
 address_takes zero address (word ∷ words) a lt e = absurd cc
 address_takes (suc n) address [] a lt e = absurd cc
 address_takes (suc n) address (word ∷ words) a lt e =
@@ -110,14 +120,17 @@ address_takes (suc n) address (word ∷ words) a lt e =
     let w = with_takes address g.0 m.0 m.1 in
     let rest = address_takes n m.0 words a w.1 m.2 in
     let r = rest.0 in
-    let both : word ∷ words ≡ group_text g.0 ∷ map group_text r.0 = ap (λ (x : List ℕ). x ∷ words) group.0 ∙ ap (λ (xs : List (List ℕ)). group_text g.0 ∷ xs) r.1 in
+    let both : word ∷ words ≡ group_text g.0 ∷ map group_text r.0 =
+    ap (λ (x : List ℕ). x ∷ words) group.0 ∙ ap (λ (xs : List (List ℕ)). group_text g.0 ∷ xs) r.1 in
     ((g.0 ∷ r.0, both, omega (arith, r.2), (group.1, r.3), r.4 ∙ ap (λ (x : ℕ). value_on x r.0) (sym w.0)), rest.1)
 
-address_again : (groups : List ℕ) (address : ℕ) → AreGroups groups → value_on address groups < 2 ^ 128 → address_on (length groups) address (map group_text groups) ≡ Some (value_on address groups)
+address_again : (groups : List ℕ) (address : ℕ) → AreGroups groups → value_on address groups < 2 ^ 128
+    → address_on (length groups) address (map group_text groups) ≡ Some (value_on address groups)
 unfolding address_on with_group value_on AreGroups
 address_again [] address h lt = refl
 address_again (g ∷ groups) address h lt =
-    let fits : ltb (65536 * address + g) (2 ^ 128) ≡ true = lt-ltb _ _ (omega (arith, grows groups (65536 * address + g), lt)) in
+    let fits : ltb (65536 * address + g) (2 ^ 128) ≡ true =
+    lt-ltb _ _ (omega (arith, grows groups (65536 * address + g), lt)) in
     rw (group_again g h.0, fits) (address_again groups (65536 * address + g) h.1 lt)
 
 words_lack : (groups : List ℕ) → AreGroups groups → AllLack 58 (map group_text groups)
@@ -131,15 +144,22 @@ low_lack stop (g ∷ groups) low = (hex_lacks stop (to_be_bytes w16 g) low, low_
 
 pub address_lacks : (stop address : ℕ) → stop < 48 → Lacks stop (address_text address)
 unfolding address_text
-address_lacks stop address low = Lacks-joined stop 58 (map group_text (groups_of 8 address)) (low_lack stop (groups_of 8 address) low) (λ e. absurd (omega arith))
+address_lacks stop address low = Lacks-joined stop 58 (map group_text (groups_of 8 address))
+    (low_lack stop (groups_of 8 address) low) (λ e. absurd (omega arith))
 
 pub text_takes : (text : List ℕ) (a : ℕ) → address_of text ≡ Some a → (text ≡ address_text a) × (a < 2 ^ 128)
 unfolding Reads address_text groups_of
 text_takes text a e =
     let t = address_takes 8 0 (split 58 text) a (lit< tt) e in
     let r = t.0 in
-    let same : groups_of 8 a ≡ r.0 = ap (groups_of 8) r.4 ∙ (ap (λ (n : ℕ). groups_of n (value_on 0 r.0)) (sym r.2) ∙ (ap (λ (n : ℕ). groups_of n (value_on 0 r.0)) (sym (zero-add (length r.0))) ∙ value-groups 0 0 r.0 r.3)) in
-    (sym (joined-split 58 text) ∙ (ap (joined 58) r.1 ∙ ap (λ (gs : List ℕ). joined 58 (map group_text gs)) (sym same)), t.1)
+    let same : groups_of 8 a ≡ r.0 = ap (groups_of 8) r.4
+    ∙ (ap (λ (n : ℕ). groups_of n (value_on 0 r.0)) (sym r.2)
+    ∙ (ap (λ (n : ℕ). groups_of n (value_on 0 r.0)) (sym (zero-add (length r.0))) ∙ value-groups 0 0 r.0 r.3))
+    in (
+      sym (joined-split 58 text) ∙ (ap (joined 58) r.1
+          ∙ ap (λ (gs : List ℕ). joined 58 (map group_text gs)) (sym same)),
+      t.1,
+    )
 
 some_words : (words : List (List ℕ)) → 0 < length words → AllLack 58 words → split 58 (joined 58 words) ≡ words
 some_words [] some h = absurd (omega arith)
@@ -150,27 +170,35 @@ unfolding address_text
 text_again a lt =
     let groups = groups_of 8 a in
     let n : length groups ≡ 8 = length-groups 8 a in
-    let words : split 58 (address_text a) ≡ map group_text groups = some_words (map group_text groups) (omega (arith, length-map groups group_text, n)) (words_lack groups (are_groups 8 a)) in
+    let words : split 58 (address_text a) ≡ map group_text groups =
+    some_words (map group_text groups) (omega (arith, length-map groups group_text, n))
+    (words_lack groups (are_groups 8 a)) in
     let value : value_on 0 groups ≡ a = groups-value 8 a (omega (arith, lt)) in
-    ap (address_on 8 0) words ∙ (ap (λ (k : ℕ). address_on k 0 (map group_text groups)) (sym n) ∙ (address_again groups 0 (are_groups 8 a) (omega (arith, value, lt)) ∙ ap (λ (x : ℕ). Some x) value))
+    ap (address_on 8 0) words ∙ (ap (λ (k : ℕ). address_on k 0 (map group_text groups)) (sym n)
+    ∙ (address_again groups 0 (are_groups 8 a) (omega (arith, value, lt)) ∙ ap (λ (x : ℕ). Some x) value))
 
 -- ---- prefixes
 
 pub prefix_lacks : (stop : ℕ) (p : Prefix) → stop < 47 → IsPrefix p → Lacks stop (prefix_text p)
 prefix_lacks stop p low h =
-    Lacks-joined stop 47 (address_text p.address ∷ decimal p.length ∷ []) (address_lacks stop p.address (omega arith), (decimal_lacks stop p.length (omega arith) (omega (arith, h.short)), tt)) (λ e. absurd (omega arith))
+    Lacks-joined stop 47 (address_text p.address ∷ decimal p.length ∷ []) (
+      address_lacks stop p.address (omega arith),
+      (decimal_lacks stop p.length (omega arith) (omega (arith, h.short)), tt),
+    ) (λ e. absurd (omega arith))
 
 made_takes : (a n : ℕ) (p : Prefix) → a < 2 ^ 128 → made a n ≡ Some p → IsPrefix p × (a ≡ p.address) × (n ≡ p.length)
 made_takes a n p lt e =
     let c = chosen (leb n 128) (cond (eqb (a % size_of n) 0) (Some (record { address = a; length = n })) None) p e in
     let d = chosen (eqb (a % size_of n) 0) (Some (record { address = a; length = n })) p c.1 in
     let is : record { address = a; length = n } ≡ p = some_is _ p d.1 in
-    subst (λ (q : Prefix). IsPrefix q × (a ≡ q.address) × (n ≡ q.length)) is (record { short = leb-true n 128 c.0; address = lt; host_bits = eqb-true _ _ d.0 }, refl, refl)
+    subst (λ (q : Prefix). IsPrefix q × (a ≡ q.address) × (n ≡ q.length)) is
+    (record { short = leb-true n 128 c.0; address = lt; host_bits = eqb-true _ _ d.0 }, refl, refl)
 
 made_again : (p : Prefix) → IsPrefix p → made p.address p.length ≡ Some p
 made_again p h = rw (le-leb p.length 128 h.short, eq-eqb (p.address % size_of p.length) 0 h.host_bits) refl
 
-parts_take : (parts : List (List ℕ)) (p : Prefix) → parts_prefix parts ≡ Some p → (parts ≡ address_text p.address ∷ decimal p.length ∷ []) × IsPrefix p
+parts_take : (parts : List (List ℕ)) (p : Prefix) → parts_prefix parts ≡ Some p
+    → (parts ≡ address_text p.address ∷ decimal p.length ∷ []) × IsPrefix p
 parts_take [] p e = absurd cc
 parts_take (a ∷ []) p e = absurd cc
 parts_take (a ∷ n ∷ []) p e =
@@ -178,8 +206,11 @@ parts_take (a ∷ n ∷ []) p e =
     let y = bind_some (number_of n) (λ y. made x.0 y) p x.2 in
     let address = text_takes a x.0 x.1 in
     let number = number_takes n y.0 y.1 in
-    let m = made_takes x.0 y.0 p address.1 y.2 in
-    (ap (λ (w : List ℕ). w ∷ n ∷ []) (address.0 ∙ ap address_text m.1) ∙ ap (λ (w : List ℕ). address_text p.address ∷ w ∷ []) (number.0 ∙ ap decimal m.2), m.0)
+    let m = made_takes x.0 y.0 p address.1 y.2 in (
+      ap (λ (w : List ℕ). w ∷ n ∷ []) (address.0 ∙ ap address_text m.1)
+          ∙ ap (λ (w : List ℕ). address_text p.address ∷ w ∷ []) (number.0 ∙ ap decimal m.2),
+      m.0,
+    )
 parts_take (a ∷ n ∷ b ∷ more) p e = absurd cc
 
 pub prefix_takes : (word : List ℕ) (p : Prefix) → prefix_word word ≡ Some p → (word ≡ prefix_text p) × IsPrefix p
@@ -193,5 +224,8 @@ unfolding prefix_word
 prefix_again p h =
     let length : p.length < 2 ^ 64 = omega (arith, h.short) in
     let parts : split 47 (prefix_text p) ≡ address_text p.address ∷ decimal p.length ∷ [] =
-    split-joined 47 (address_text p.address) (decimal p.length ∷ []) (address_lacks 47 p.address (lit< tt), (decimal_lacks 47 p.length (lit< tt) length, tt)) in
+    split-joined 47 (address_text p.address) (decimal p.length ∷ []) (
+      address_lacks 47 p.address (lit< tt),
+      (decimal_lacks 47 p.length (lit< tt) length, tt),
+    ) in
     ap parts_prefix parts ∙ rw (text_again p.address h.address, number_again p.length length) (made_again p h)

@@ -34,7 +34,7 @@ fn group_at(text: &[u8], at: usize) -> Option<u16>
     group_of(text[at], text[at + 1], text[at + 2], text[at + 3])
 }
 
-#[tactic(auto, using(crate::proofs::Offsets::begun, crate::proofs::Offsets::no_group, crate::proofs::Offsets::no_colon))]
+#[tactic(auto, using(crate::proofs::Offsets::begun, crate::proofs::Offsets::no_group, crate::proofs::Offsets::no_colon,))]
 fn address_of(text: &[u8]) -> Option<u128>
     requires { length text.now ≡ ADDRESS_OCTETS }
     ensures { Finds (λ n. n) result (address_of text.now) }
@@ -51,7 +51,7 @@ fn address_of(text: &[u8]) -> Option<u128>
     Some(address * 65536 + u128::from(group))
 }
 
-#[tactic(auto, using(crate::proofs::Offsets::too_short, crate::proofs::Offsets::no_slash, crate::proofs::Offsets::no_address))]
+#[tactic(auto, using(crate::proofs::Offsets::too_short, crate::proofs::Offsets::no_slash, crate::proofs::Offsets::no_address,))]
 fn prefix_of(word: &[u8]) -> Option<Prefix>
     ensures { Finds (λ p. p) result (prefix_word word.now) }
 {

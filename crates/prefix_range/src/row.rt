@@ -45,7 +45,7 @@ impl Row {
     }
 
     /// With one group more, where there are fewer than eight.
-    #[tactic(auto, using(crate::proofs::Rows::with_row, crate::proofs::Rows::with_is, crate::proofs::Rows::with_none, crate::proofs::Rows::with_fits))]
+    #[tactic(auto, using(crate::proofs::Rows::with_row, crate::proofs::Rows::with_is, crate::proofs::Rows::with_none, crate::proofs::Rows::with_fits,))]
     pub(crate) fn with(self, group: u16) -> Option<Row>
         ensures { Finds (λ r. r) result (with_one self group) }
     {

@@ -4,7 +4,7 @@ use crate::arguments::Arguments;
 use crate::prefixes::add_error;
 use crate::texts::add_answer;
 use lead_time::{
-    End, LeadTimeError, Reading, Skew, Transit, allowed_valid, earliest, ended, latest, own_end,
+    End, LeadTimeError, Reading, Skew, Transit, allowed_valid, earliest, is_past, latest, own_end,
     takeover, told_end,
 };
 use line_words::{add_number, add_word};
@@ -81,7 +81,7 @@ pub fn own(arguments: &mut Arguments<'_>, out: &mut Vec<u8>) -> Result<(), Alloc
 pub fn is_over(arguments: &mut Arguments<'_>, out: &mut Vec<u8>) -> Result<(), AllocError> {
     let now = arguments.reading();
     let end = arguments.end();
-    add_answer(out, ended(now, end))
+    add_answer(out, is_past(now, end))
 }
 
 /// `allowed DESIRED MCLT ACKED NOW`.

@@ -10,13 +10,10 @@ ghost use Rattle.server_settings.specs.Settings.{settings_of, AreWithin, AreFit}
 use crate::error::OpenError;
 use binding_rules::Role;
 use book_rules::are_apart;
-use book_state::{MOST_UNITS, Pool, YEAR};
+use book_state::{MOST_POOLS, MOST_UNITS, Pool, YEAR};
 use client_id::Duid;
 use lead_time::{Skew, Transit};
 use std::marker::Model;
-
-/// The most pools.
-const MOST_POOLS: usize = 16;
 
 /// A server's settings: its role, its identifier and the pools that it delegates of, within all limits, of pools that
 /// have no address in common. Contracts see the record of specs/Settings.

@@ -12,6 +12,8 @@ count_is (v ∷ vs) = let same = count_is vs in omega (arith, same)
 
 -- the fault of a count is that of the list
 pub counted : (vs : List Value) (d : Data) (least most : ℕ) (r : Option Fault) → as_array d ≡ Some (items_view vs)
-    → MatchOption r (IsCount least most (length vs)) (IsCountFault least most (length vs)) → MatchOption r (AreTables least most d) (AreTablesFault least most d)
+    → MatchOption r (IsCount least most (length vs)) (IsCountFault least most (length vs))
+    → MatchOption r (AreTables least most d) (AreTablesFault least most d)
 counted vs d least most None at fits = (items_view vs, at, subst (λ (n : ℕ). IsCount least most n) (count_is vs) fits)
-counted vs d least most (Some fault) at wrong = inr (items_view vs, at, subst (λ (n : ℕ). IsCountFault least most n fault) (count_is vs) wrong)
+counted vs d least most (Some fault) at wrong =
+    inr (items_view vs, at, subst (λ (n : ℕ). IsCountFault least most n fault) (count_is vs) wrong)

@@ -19,15 +19,25 @@ module _ (m : Members) (place : Place) where
   one_more [] w all c are about = inr (c, [], ap (λ (l : List Complaint). l ++ c ∷ []) are, about, refl)
   one_more (v ∷ ws) w all c (inl fit) about = inl (fit.0, one_more ws w all c fit.1 about)
   one_more (v ∷ ws) w all c (inr some) about =
-      inr (some.0, some.1 ++ c ∷ [], ap (λ (l : List Complaint). l ++ c ∷ []) some.2, some.3, one_more ws w some.1 c some.4 about)
+      inr (
+        some.0,
+        some.1 ++ c ∷ [],
+        ap (λ (l : List Complaint). l ++ c ∷ []) some.2,
+        some.3,
+        one_more ws w some.1 c some.4 about,
+      )
 
   -- the same of the first wishes of all
-  pub next_met : (ws : List Wanted) (i : ℕ) (w : Wanted) (all : List Complaint) → i < length ws → AreComplaints m place (take i ws) all
+  pub next_met : (ws : List Wanted) (i : ℕ) (w : Wanted) (all : List Complaint) → i < length ws
+      → AreComplaints m place (take i ws) all
       → IsMet m (get_or ws i w) → AreComplaints m place (take (i + 1) ws) all
   next_met ws i w all lt are met =
-      subst (λ (l : List Wanted). AreComplaints m place l all) (sym (take_more ws i w lt)) (one_met (take i ws) (get_or ws i w) all are met)
+      subst (λ (l : List Wanted). AreComplaints m place l all) (sym (take_more ws i w lt))
+      (one_met (take i ws) (get_or ws i w) all are met)
 
-  pub next_more : (ws : List Wanted) (i : ℕ) (w : Wanted) (all : List Complaint) (c : Complaint) → i < length ws → AreComplaints m place (take i ws) all
+  pub next_more : (ws : List Wanted) (i : ℕ) (w : Wanted) (all : List Complaint) (c : Complaint) → i < length ws
+      → AreComplaints m place (take i ws) all
       → IsComplaint m place (get_or ws i w) c → AreComplaints m place (take (i + 1) ws) (all ++ c ∷ [])
   next_more ws i w all c lt are about =
-      subst (λ (l : List Wanted). AreComplaints m place l (all ++ c ∷ [])) (sym (take_more ws i w lt)) (one_more (take i ws) (get_or ws i w) all c are about)
+      subst (λ (l : List Wanted). AreComplaints m place l (all ++ c ∷ [])) (sym (take_more ws i w lt))
+      (one_more (take i ws) (get_or ws i w) all c are about)

@@ -1,11 +1,13 @@
 -- The settings that a document names whose keys are each as wanted.
-use Rattle.std.proofs.Common.{arith, ◌≡◌, inl, inr, ℕ, pos, ◌+◌, ◌<◌, ◌≤◌, Bool, true, false, List, [], ◌∷◌, ◌++◌, length, codes, Option, Some, None, option_map, option_and_then, refl, sym, ap, subst}
+use Rattle.std.proofs.Common.{arith, ◌≡◌, inl, inr, ℕ, pos, ◌+◌, ◌<◌, ◌≤◌, Bool, true, false, List, [], ◌∷◌, ◌++◌}
+use Rattle.std.proofs.Common.{length, codes, Option, Some, None, option_map, option_and_then, refl, sym, ap, subst}
 use Rattle.std.specs.Prelude.{⊤, nat_le}
 use Rattle.std.specs.List.{All, sum_by}
 use Rattle.std.proofs.lemmas.Bool.{le-leb, leb-true}
 use Rattle.std.proofs.lemmas.Bool.Decides.{nat_tests}
 use Rattle.std.proofs.lemmas.List.Elements.{All-cons}
-use Rattle.toml.specs.Data.{Data, Items, no_items, item, Members, no_members, get_member, as_str, as_integer, as_array, as_table}
+use Rattle.toml.specs.Data.{Data, Items, no_items, item, Members, no_members, get_member, as_str, as_integer, as_array}
+use Rattle.toml.specs.Data.{as_table}
 use Rattle.text_fields.specs.Parsing.{◌>>=◌}
 use Rattle.prefix_range.specs.Prefix.{Prefix}
 use Rattle.client_id.specs.Duid.{duid_word}
@@ -14,9 +16,11 @@ use Rattle.server_settings.specs.Settings.{ServerSettings, settings_of, AreWithi
 use Rattle.book_state.specs.declared.pool.Pool.{Pool}
 use Rattle.book_state.specs.Book.{units_in}
 use Rattle.book_state.specs.Places.{IsPool}
-use Rattle.settings_text.specs.Document.{role_of, prefix_of, up_to, text_at, number_at, role_in, duid_in, transit_by, transit_in, pool_of, pools_of, pools_in as named_pools, named_in}
+use Rattle.settings_text.specs.Document.{role_of, prefix_of, up_to, text_at, number_at, role_in, duid_in, transit_by}
+use Rattle.settings_text.specs.Document.{transit_in, pool_of, pools_of, pools_in as named_pools, named_in}
 use Rattle.settings_advice.specs.declared.key.Key.{Key}
-use Rattle.settings_advice.specs.declared.key.Key.TheVariants.{Role, Duid, SkewMs, Mclt, Life, TransitMs, Prefix as PrefixKey, Unit, Pool as PoolKey}
+use Rattle.settings_advice.specs.declared.key.Key.TheVariants.{Role, Duid, SkewMs, Mclt, Life, TransitMs}
+use Rattle.settings_advice.specs.declared.key.Key.TheVariants.{Prefix as PrefixKey, Unit, Pool as PoolKey}
 use Rattle.settings_advice.specs.declared.wish.Wording.{Wording}
 use Rattle.settings_advice.specs.declared.wish.Wording.TheVariants.{RoleName, Identifier, Range}
 use Rattle.settings_advice.specs.declared.wish.Wish.TheVariants.{Text, Number, Tables}
@@ -27,7 +31,8 @@ use Rattle.settings_advice.specs.declared.complaint.Complaint.{Complaint}
 use Rattle.settings_advice.specs.declared.refusing.Clash.TheVariants.{Units}
 use Rattle.settings_advice.specs.Keys.{key_name}
 use Rattle.settings_advice.specs.Wishes.{Spells, IsFit, IsMet, AreComplaints, always, maybe, wishes, count_of}
-use Rattle.settings_advice.specs.Pools.{prefix_in, least_unit, pool_wishes, length_or_none, IsWhole, AreOfPool, members_or_none, members_in, AreOfPools, items_or_none, pools_in}
+use Rattle.settings_advice.specs.Pools.{prefix_in, least_unit, pool_wishes, length_or_none, IsWhole, AreOfPool}
+use Rattle.settings_advice.specs.Pools.{members_or_none, members_in, AreOfPools, items_or_none, pools_in}
 use Rattle.settings_advice.specs.Refusing.{AreAll, AreNamed, AreRead, IsClash}
 
 -- ---- no complaint
@@ -66,7 +71,8 @@ record Counted (low high : ℕ) (o : Option ℕ) : Type 0 where
   pub least : low ≤ n
   pub most : n ≤ high
 
-text_met : (m : Members) (key : Key) (wording : Wording) → IsMet m (always key (Text wording)) → Spelled wording (text_at (key_name key) m)
+text_met : (m : Members) (key : Key) (wording : Wording) → IsMet m (always key (Text wording))
+    → Spelled wording (text_at (key_name key) m)
 unfolding text_at
 text_met m key wording met = by_value (get_member (key_name key) m) met where
   by_value : (o : Option Data) → IsFit (always key (Text wording)) o → Spelled wording (o >>= (λ value. as_str value))
@@ -77,21 +83,31 @@ up_to_most : (n most : ℕ) → n ≤ most → up_to most (pos n) ≡ Some n
 unfolding up_to
 up_to_most n most le = rw (le-leb n most le) refl
 
-number_met : (m : Members) (key : Key) (least most : ℕ) → IsMet m (always key (Number least most)) → Counted least most (number_at (key_name key) most m)
+number_met : (m : Members) (key : Key) (least most : ℕ) → IsMet m (always key (Number least most))
+    → Counted least most (number_at (key_name key) most m)
 unfolding number_at
 number_met m key least most met = by_value (get_member (key_name key) m) met where
-  by_value : (o : Option Data) → IsFit (always key (Number least most)) o → Counted least most (o >>= (λ value. as_integer value >>= (λ n. up_to most n)))
+  by_value : (o : Option Data) → IsFit (always key (Number least most)) o
+      → Counted least most (o >>= (λ value. as_integer value >>= (λ n. up_to most n)))
   by_value None met = absurd (cc met)
   by_value (Some d) (n, at, ge, le) =
-      record { n = n; at = goes (as_integer d) (pos n) (λ n. up_to most n) (Some n) at (up_to_most n most le); least = ge; most = le }
+      record {
+        n = n;
+        at = goes (as_integer d) (pos n) (λ n. up_to most n) (Some n) at (up_to_most n most le);
+        least =
+            ge;
+        most = le;
+      }
 
 transit_met : (m : Members) → IsMet m (maybe TransitMs (Number 0 3600000)) → (n : ℕ) × (transit_in m ≡ Some n)
 unfolding transit_in
 transit_met m met = by_value (get_member (codes "transit_ms") m) refl met where
-  by_value : (o : Option Data) → get_member (codes "transit_ms") m ≡ o → IsFit (maybe TransitMs (Number 0 3600000)) o → (n : ℕ) × (transit_by o m ≡ Some n)
+  by_value : (o : Option Data) → get_member (codes "transit_ms") m ≡ o → IsFit (maybe TransitMs (Number 0 3600000)) o
+      → (n : ℕ) × (transit_by o m ≡ Some n)
   by_value None e met = (0, refl)
   by_value (Some d) e met =
-      let n = number_met m TransitMs 0 3600000 (subst (λ (o : Option Data). IsFit (always TransitMs (Number 0 3600000)) o) (sym e) met) in
+      let n = number_met m TransitMs 0 3600000
+      (subst (λ (o : Option Data). IsFit (always TransitMs (Number 0 3600000)) o) (sym e) met) in
       (n.n, n.at)
 
 -- ---- the pools
@@ -102,20 +118,27 @@ record Named (o : Option Pool) : Type 0 where
   pub is_pool : IsPool pool
 
 pool_named : (m : Members) (before : ℕ) → AreOfPool before m []
-    → Named (text_at (codes "prefix") m >>= (λ word. prefix_of word >>= (λ prefix. number_at (codes "unit") 128 m >>= (λ unit. Some (record { prefix = prefix; unit_length = unit })))))
+    → Named (text_at (codes "prefix") m >>= (λ word. prefix_of word
+    >>= (λ prefix. number_at (codes "unit") 128 m
+    >>= (λ unit. Some (record { prefix = prefix; unit_length = unit })))))
 unfolding prefix_in
 pool_named m before are =
     let met = all_met m (PoolPlace before) (pool_wishes m) are.keys in
     let word = text_met m PrefixKey Range met.first in
     let p : Prefix = word.spells.0 in
     let unit = number_met m Unit (least_unit m) 128 met.rest.first in
-    let found : prefix_in m ≡ Some p = goes (text_at (codes "prefix") m) word.word (λ word. prefix_of word) (Some p) word.at word.spells.1 in
+    let found : prefix_in m ≡ Some p = goes (text_at (codes "prefix") m) word.word (λ word. prefix_of word)
+    (Some p) word.at word.spells.1 in
     let pool : Pool = record { prefix = p; unit_length = unit.n } in
     record {
       pool = pool;
-      at = goes (text_at (codes "prefix") m) word.word (λ word. prefix_of word >>= (λ prefix. number_at (codes "unit") 128 m >>= (λ unit. Some (record { prefix = prefix; unit_length = unit })))) (Some pool) word.at
-          (goes (prefix_of word.word) p (λ prefix. number_at (codes "unit") 128 m >>= (λ unit. Some (record { prefix = prefix; unit_length = unit }))) (Some pool) word.spells.1
-          (goes (number_at (codes "unit") 128 m) unit.n (λ unit. Some (record { prefix = p; unit_length = unit })) (Some pool) unit.at refl));
+      at = goes (text_at (codes "prefix") m) word.word (λ word. prefix_of word
+          >>= (λ prefix. number_at (codes "unit") 128 m
+          >>= (λ unit. Some (record { prefix = prefix; unit_length = unit })))) (Some pool) word.at
+          (goes (prefix_of word.word) p (λ prefix. number_at (codes "unit") 128 m
+          >>= (λ unit. Some (record { prefix = prefix; unit_length = unit }))) (Some pool) word.spells.1
+          (goes (number_at (codes "unit") 128 m) unit.n (λ unit. Some (record { prefix = p; unit_length = unit }))
+          (Some pool) unit.at refl));
       is_pool = record {
         prefix = subst IsWhole found are.prefix;
         longer = subst (λ (o : Option Prefix). length_or_none o ≤ unit.n) found unit.least;
@@ -127,8 +150,11 @@ pool_met : (before : ℕ) (d : Data) → AreOfPool before (members_in d) [] → 
 unfolding pool_of
 pool_met before d are = by_table (as_table d) are where
   by_table : (o : Option Members) → AreOfPool before (members_or_none o) []
-      → Named (o >>= (λ m. text_at (codes "prefix") m >>= (λ word. prefix_of word >>= (λ prefix. number_at (codes "unit") 128 m >>= (λ unit. Some (record { prefix = prefix; unit_length = unit }))))))
-  by_table None are = let met = all_met no_members (PoolPlace before) (pool_wishes no_members) are.keys in let none = met.first in absurd (cc none)
+      → Named (o >>= (λ m. text_at (codes "prefix") m
+      >>= (λ word. prefix_of word >>= (λ prefix. number_at (codes "unit") 128 m
+      >>= (λ unit. Some (record { prefix = prefix; unit_length = unit }))))))
+  by_table None are = let met = all_met no_members (PoolPlace before) (pool_wishes no_members) are.keys in
+      let none = met.first in absurd (cc none)
   by_table (Some m) are = pool_named m before are
 
 record AllNamed (count : ℕ) (o : Option (List Pool)) : Type 0 where
@@ -139,14 +165,22 @@ record AllNamed (count : ℕ) (o : Option (List Pool)) : Type 0 where
 
 pools_met : (before : ℕ) (ds : Items) → AreOfPools before ds [] → AllNamed (count_of ds) (pools_of ds)
 unfolding pools_of
-pools_met before no_items are = record { pools = []; at = refl; each = λ k d lt. absurd (omega (arith, lt)); many = refl }
+pools_met before no_items are = record {
+  pools = [];
+  at = refl;
+  each = λ k d lt. absurd (omega (arith, lt));
+  many =
+      refl;
+}
 pools_met before (item d ds) (one, rest, joined, here, behind) =
     let none = nil_both one rest joined in
     let p = pool_met before d (subst (λ (one : List Complaint). AreOfPool before (members_in d) one) none.0 here) in
-    let ps = pools_met (before + 1) ds (subst (λ (rest : List Complaint). AreOfPools (before + 1) ds rest) none.1 behind) in
+    let ps = pools_met (before + 1) ds (subst (λ (rest : List Complaint). AreOfPools (before + 1) ds rest) none.1
+    behind) in
     record {
       pools = p.pool ∷ ps.pools;
-      at = goes (pool_of d) p.pool (λ pool. option_map (λ pools. pool ∷ pools) (pools_of ds)) (Some (p.pool ∷ ps.pools)) p.at (ap (option_map (λ pools. p.pool ∷ pools)) ps.at);
+      at = goes (pool_of d) p.pool (λ pool. option_map (λ pools. pool ∷ pools) (pools_of ds))
+          (Some (p.pool ∷ ps.pools)) p.at (ap (option_map (λ pools. p.pool ∷ pools)) ps.at);
       each = All-cons IsPool p.pool ps.pools p.is_pool ps.each;
       many = let same = ps.many in omega (arith, same);
     }
@@ -158,10 +192,12 @@ record Bounded (o : Option (List Pool)) : Type 0 where
   pub some : 1 ≤ length pools
   pub few : length pools ≤ 16
 
-pools_named : (m : Members) → IsMet m (always PoolKey (Tables 1 16)) → AreOfPools 0 (pools_in m) [] → Bounded (named_pools m)
+pools_named : (m : Members) → IsMet m (always PoolKey (Tables 1 16)) → AreOfPools 0 (pools_in m) []
+    → Bounded (named_pools m)
 unfolding named_pools
 pools_named m met are = by_value (get_member (codes "pool") m) met are where
-  by_value : (o : Option Data) → IsFit (always PoolKey (Tables 1 16)) o → AreOfPools 0 (items_or_none (o >>= as_array)) []
+  by_value : (o : Option Data) → IsFit (always PoolKey (Tables 1 16)) o
+      → AreOfPools 0 (items_or_none (o >>= as_array)) []
       → Bounded (o >>= (λ value. as_array value >>= (λ items. pools_of items)))
   by_value None met are = absurd (cc met)
   by_value (Some d) (ds, at, count) are =
@@ -193,9 +229,16 @@ duid_met m met =
 
 module _ (role : RoleValue) (duid : List ℕ) (skew mclt life transit : ℕ) (pools : List Pool) where
   -- the settings of seven parts that are each there
-  all_there : (a : Option RoleValue) (b : Option (List ℕ)) (c d e f : Option ℕ) (g : Option (List Pool)) → a ≡ Some role → b ≡ Some duid → c ≡ Some skew
+  all_there : (a : Option RoleValue) (b : Option (List ℕ)) (c d e f : Option ℕ) (g : Option (List Pool))
+      → a ≡ Some role → b ≡ Some duid → c ≡ Some skew
       → d ≡ Some mclt → e ≡ Some life → f ≡ Some transit → g ≡ Some pools
-      → (a >>= (λ role. b >>= (λ duid. c >>= (λ skew. d >>= (λ mclt. e >>= (λ life. f >>= (λ transit. g >>= (λ pools. Some (settings_of role duid skew mclt life transit pools)))))))))
+      → (a >>= (λ role. b
+      >>= (λ duid. c
+      >>= (λ skew. d
+      >>= (λ mclt. e
+      >>= (λ life. f
+      >>= (λ transit. g
+      >>= (λ pools. Some (settings_of role duid skew mclt life transit pools)))))))))
       ≡ Some (settings_of role duid skew mclt life transit pools)
   all_there a b c d e f g at bt ct dt et ft gt = rw (at, bt, ct, dt, et, ft, gt) refl
 
@@ -215,11 +258,14 @@ named_met m are =
     let mclt = number_met m Mclt 1 31536000 met.rest.rest.rest.first in
     let life = number_met m Life 1 31536000 met.rest.rest.rest.rest.first in
     let transit = transit_met m met.rest.rest.rest.rest.rest.first in
-    let pools = pools_named m met.rest.rest.rest.rest.rest.rest.rest.rest.rest.first (subst (λ (of_pools : List Complaint). AreOfPools 0 (pools_in m) of_pools) none.1 are.pools) in
+    let pools = pools_named m met.rest.rest.rest.rest.rest.rest.rest.rest.rest.first
+    (subst (λ (of_pools : List Complaint). AreOfPools 0 (pools_in m) of_pools) none.1 are.pools) in
     record {
       settings = settings_of role.0 duid.0 skew.n mclt.n life.n transit.0 pools.pools;
-      at = all_there role.0 duid.0 skew.n mclt.n life.n transit.0 pools.pools (role_in m) (duid_in m) (number_at (codes "skew_ms") 86400000 m)
-          (number_at (codes "mclt") 31536000 m) (number_at (codes "life") 31536000 m) (transit_in m) (named_pools m) role.1 duid.1 skew.at mclt.at life.at transit.1 pools.at;
+      at = all_there role.0 duid.0 skew.n mclt.n life.n transit.0 pools.pools (role_in m) (duid_in m)
+          (number_at (codes "skew_ms") 86400000 m)
+          (number_at (codes "mclt") 31536000 m) (number_at (codes "life") 31536000 m) (transit_in m)
+          (named_pools m) role.1 duid.1 skew.at mclt.at life.at transit.1 pools.at;
       within = λ room. record {
         mclt_least = mclt.least;
         mclt = mclt.most;
@@ -232,11 +278,17 @@ named_met m are =
       };
     }
 
-pub too_many : (m : Members) → AreAll m [] → ((s : ServerSettings) → named_in m ≡ Some s → AreWithin s → ⊥) → IsClash m Units
+pub too_many : (m : Members) → AreAll m [] → ((s : ServerSettings) → named_in m ≡ Some s → AreWithin s → ⊥)
+    → IsClash m Units
 too_many m are refused =
-    let named = named_met m are in
-    (named.settings, named.at, by_test named.settings named.at named.within (nat_le (sum_by units_in named.settings.pools) 65536) refl) where
-      by_test : (s : ServerSettings) → named_in m ≡ Some s → (sum_by units_in s.pools ≤ 65536 → AreWithin s) → (b : Bool) → nat_le (sum_by units_in s.pools) 65536 ≡ b → 65536 < sum_by units_in s.pools
+    let named = named_met m are in (
+      named.settings,
+      named.at,
+      by_test named.settings named.at named.within
+          (nat_le (sum_by units_in named.settings.pools) 65536) refl,
+    ) where
+      by_test : (s : ServerSettings) → named_in m ≡ Some s → (sum_by units_in s.pools ≤ 65536 → AreWithin s)
+          → (b : Bool) → nat_le (sum_by units_in s.pools) 65536 ≡ b → 65536 < sum_by units_in s.pools
       by_test s at within true e = absurd (refused s at (within (leb-true (sum_by units_in s.pools) 65536 e)))
       by_test s at within false e = grind (arith, nat_tests)
 

@@ -12,12 +12,17 @@ upto P i k lt below at = choose (k == i) refl where
   choose false e = let less : k < i = grind (arith, nat_tests) in below k less
 
 -- the best of the first is no further than the next
-pub stays : (f : Key → ℕ) (keys : List Key) (best e : Key) (i : ℕ) → i < length keys → ((k : ℕ) → k < i → (d : Key) → f best ≤ f (get_or keys k d)) → f best ≤ f (get_or keys i e)
+pub stays : (f : Key → ℕ) (keys : List Key) (best e : Key) (i : ℕ) → i < length keys
+    → ((k : ℕ) → k < i → (d : Key) → f best ≤ f (get_or keys k d)) → f best ≤ f (get_or keys i e)
     → (k : ℕ) → k < i + 1 → (d : Key) → f best ≤ f (get_or keys k d)
 stays f keys best e i within first least k lt =
-    upto (λ j. (d : Key) → f best ≤ f (get_or keys j d)) i k lt first (λ d. subst (λ x. f best ≤ f x) (get_or_default keys i e d within) least)
+    upto (λ j. (d : Key) → f best ≤ f (get_or keys j d)) i k lt first
+    (λ d. subst (λ x. f best ≤ f x) (get_or_default keys i e d within) least)
 
 -- the next is nearer than the best of the first
-pub goes : (f : Key → ℕ) (keys : List Key) (best e : Key) (i : ℕ) → i < length keys → ((k : ℕ) → k < i → (d : Key) → f best ≤ f (get_or keys k d)) → f (get_or keys i e) < f best
+pub goes : (f : Key → ℕ) (keys : List Key) (best e : Key) (i : ℕ) → i < length keys
+    → ((k : ℕ) → k < i → (d : Key) → f best ≤ f (get_or keys k d)) → f (get_or keys i e) < f best
     → (k : ℕ) → k < i + 1 → (d : Key) → f (get_or keys i e) ≤ f (get_or keys k d)
-goes f keys best e i within first less = stays f keys (get_or keys i e) e i within (λ k lt d. (let old = first k lt d in omega (arith, old, less))) (omega arith)
+goes f keys best e i within first less =
+    stays f keys (get_or keys i e) e i within (λ k lt d. (let old = first k lt d in omega (arith, old, less)))
+    (omega arith)

@@ -14,5 +14,5 @@ pub record Mirrors (s : FileState) (f : File) : Type 0 where
   pub under : (place : ℕ) → StandsIn f.under place (slice_index s.under.items place)
 
 -- the new state is that of the file after the call, whichever file the old one was of
-abbrev pub Follows : Call → FileState → FileState → Type 0
-Follows call old new = (f : File) → Mirrors old f → Mirrors new (after_call call f)
+abbrev pub FollowsCall : Call → FileState → FileState → Type 0
+FollowsCall call old new = (f : File) → Mirrors old f → Mirrors new (after_call call f)

@@ -14,7 +14,7 @@ pub(crate) struct FileState {
 impl FileState {
     ghost use Rattle.std.specs.Prelude.{IfOk, OnOk};
     ghost use Rattle.torn_disk.specs.Disk.{opened, appended, cut, flushed, no_file, after_call};
-    ghost use Rattle.test_files.specs.Mirror.{Mirrors, Follows};
+    ghost use Rattle.test_files.specs.Mirror.{Mirrors, FollowsCall};
 
     /// Makes the state of a file that was opened and held this content, all of it on the disk.
     pub(crate) fn new(alloc: Global, content: &[u8]) -> Result<FileState, AllocError>
@@ -29,14 +29,14 @@ impl FileState {
 
     /// Writes octets behind all others.
     pub(crate) fn append(&mut self, octets: &[u8]) -> Result<(), AllocError>
-        ensures { OnOk result (Follows (appended octets.now) self.old self.new) }
+        ensures { OnOk result (FollowsCall (appended octets.now) self.old self.new) }
     {
         self.written.extend_from_slice(octets)
     }
 
     /// Cuts the file to a length.
     pub(crate) fn cut(&mut self, alloc: Global, length: usize) -> Result<(), AllocError>
-        ensures { OnOk result (Follows (cut length) self.old self.new) }
+        ensures { OnOk result (FollowsCall (cut length) self.old self.new) }
     {
         let kept = self.written[..length.min(self.written.len())].to_vec(alloc)?;
         self.under = mem::replace(&mut self.written, kept);
@@ -46,7 +46,7 @@ impl FileState {
 
     /// Puts all that was written on the disk.
     pub(crate) fn sync(&mut self)
-        ensures { Follows flushed self.old self.new }
+        ensures { FollowsCall flushed self.old self.new }
     {
         self.synced = self.written.len();
         self.under.clear();

@@ -1,5 +1,6 @@
 -- A word of digits spells octets where it has an even number of them.
-use Rattle.std.proofs.Common.{◌≡◌, ℕ, suc, ◌+◌, ◌*◌, ◌%◌, ◌&&◌, eqb, Bool, true, false, List, [], ◌∷◌, length, Option, Some, None, refl, sym, ap, ◌∙◌, arith}
+use Rattle.std.proofs.Common.{◌≡◌, ℕ, suc, ◌+◌, ◌*◌, ◌%◌, ◌&&◌, eqb, Bool, true, false, List, [], ◌∷◌, length, Option}
+use Rattle.std.proofs.Common.{Some, None, refl, sym, ap, ◌∙◌, arith}
 use Rattle.std.specs.Prelude.{is_some, option_map}
 use Rattle.std.specs.List.{list_all}
 use Rattle.text_fields.specs.Parsing.{◌>>=◌}
@@ -28,7 +29,8 @@ mapped : {A B : Type 0} (f : A → B) (o : Option A) → is_some (option_map f o
 mapped f (Some x) = refl
 mapped f None = refl
 
-bound : (o : Option ℕ) (rest : Option (List ℕ)) → is_some (o >>= λ x. option_map (λ xs. x ∷ xs) rest) ≡ (is_some o && is_some rest)
+bound : (o : Option ℕ) (rest : Option (List ℕ)) → is_some (o >>= λ x. option_map (λ xs. x ∷ xs) rest)
+    ≡ (is_some o && is_some rest)
 bound (Some x) rest = mapped (λ xs. x ∷ xs) rest
 bound None rest = refl
 
@@ -48,8 +50,10 @@ by_pairs (a ∷ b ∷ word) =
     ∙ (ap (λ (x : Bool). x && is_some (octets_of word)) (octet_some a b)
     ∙ (ap (λ (x : Bool). (is_some (hex_value a) && is_some (hex_value b)) && x) (by_pairs word)
     ∙ (regroup (is_some (hex_value a)) (is_some (hex_value b)) (even (length word)) (digits word)
-    ∙ ap (λ (x : Bool). x && (is_some (hex_value a) && (is_some (hex_value b) && digits word))) (sym (even-more (length word))))))
+    ∙ ap (λ (x : Bool). x && (is_some (hex_value a) && (is_some (hex_value b) && digits word)))
+    (sym (even-more (length word))))))
 
-pub spells_octets : (word : List ℕ) → is_some (octets_of word) ≡ (eqb (length word % 2) 0 && list_all (λ b. is_some (hex_value b)) word)
+pub spells_octets : (word : List ℕ) → is_some (octets_of word)
+    ≡ (eqb (length word % 2) 0 && list_all (λ b. is_some (hex_value b)) word)
 unfolding digits even
 spells_octets word = by_pairs word

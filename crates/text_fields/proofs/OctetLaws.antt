@@ -1,5 +1,6 @@
 -- The octets that are read of a word are spelled so, and octets that are spelled are read again.
-use Rattle.std.proofs.Common.{◌≡◌, ◌≢◌, ℕ, zero, suc, ◌+◌, ◌*◌, ◌/◌, ◌%◌, ◌<◌, List, [], ◌∷◌, length, get_or, Some, refl, ap, subst, ◌∙◌, arith, lit<}
+use Rattle.std.proofs.Common.{◌≡◌, ◌≢◌, ℕ, zero, suc, ◌+◌, ◌*◌, ◌/◌, ◌%◌, ◌<◌, List, [], ◌∷◌, length, get_or, Some}
+use Rattle.std.proofs.Common.{refl, ap, subst, ◌∙◌, arith, lit<}
 use Rattle.std.specs.Prelude.{option_map}
 use Rattle.std.specs.Int.{w32, to_be_bytes}
 use Rattle.std.proofs.lemmas.Bool.Decides.{nat_tests}
@@ -39,14 +40,18 @@ octet_again x lt =
 
 pub octets_take : (word xs : List ℕ) → octets_of word ≡ Some xs → (word ≡ hex xs) × AreOctets xs
 unfolding octets_of
-octets_take [] xs e = let none : [] ≡ xs = some_is _ _ e in subst (λ (ys : List ℕ). ([] ≡ hex ys) × AreOctets ys) none (refl, tt)
+octets_take [] xs e = let none : [] ≡ xs = some_is _ _ e in
+    subst (λ (ys : List ℕ). ([] ≡ hex ys) × AreOctets ys) none (refl, tt)
 octets_take (a ∷ []) xs e = absurd cc
 octets_take (a ∷ b ∷ word) xs e =
     let x = bind_some (octet_of a b) (λ y. option_map (λ ys. y ∷ ys) (octets_of word)) xs e in
     let m = map_some (octets_of word) (λ ys. x.0 ∷ ys) xs x.2 in
     let one = octet_takes a b x.0 x.1 in
     let more = octets_take word m.0 m.1 in
-    subst (λ (ys : List ℕ). (a ∷ b ∷ word ≡ hex ys) × AreOctets ys) m.2 (rw (← one.0, ← one.1, ← more.0) refl, (one.2, more.1))
+    subst (λ (ys : List ℕ). (a ∷ b ∷ word ≡ hex ys) × AreOctets ys) m.2 (
+      rw (← one.0, ← one.1, ← more.0) refl,
+      (one.2, more.1),
+    )
 
 pub octets_again : (xs : List ℕ) → AreOctets xs → octets_of (hex xs) ≡ Some xs
 unfolding octets_of
@@ -76,4 +81,7 @@ colon_lacks n lt e = grind (arith, nat_tests)
 
 pub hex_lacks_colon : (xs : List ℕ) → AreOctets xs → Lacks 58 (hex xs)
 hex_lacks_colon [] h = tt
-hex_lacks_colon (x ∷ xs) h = (colon_lacks (x / 16) (omega (arith, h.0)), (colon_lacks (x % 16) (omega arith), hex_lacks_colon xs h.1))
+hex_lacks_colon (x ∷ xs) h = (
+  colon_lacks (x / 16) (omega (arith, h.0)),
+  (colon_lacks (x % 16) (omega arith), hex_lacks_colon xs h.1),
+)

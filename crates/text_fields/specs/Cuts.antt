@@ -14,8 +14,8 @@ abbrev pub behind : ℕ → List (List ℕ) → List ℕ
 behind stop cuts = flat_map (λ cut. stop ∷ cut) cuts
 
 -- each cut with a stop of its own behind it, as the lines of a text have line feeds
-abbrev pub ended : ℕ → List (List ℕ) → List ℕ
-ended stop cuts = flat_map (λ cut. cut ++ stop ∷ []) cuts
+abbrev pub with_stops : ℕ → List (List ℕ) → List ℕ
+with_stops stop cuts = flat_map (λ cut. cut ++ stop ∷ []) cuts
 
 -- one octet more in front of the first cut
 abbrev pub in_front : ℕ → List (List ℕ) → List (List ℕ)

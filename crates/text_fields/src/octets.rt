@@ -56,7 +56,7 @@ pub fn is_hex(word: &[u8]) -> bool
 }
 
 /// Reads two lower-case digits for each octet of `out`; `None` where a digit is none.
-#[tactic(auto, using(crate::proofs::Digits::octets_step, crate::proofs::Digits::octets_kept, crate::proofs::Digits::octets_done))]
+#[tactic(auto, using(crate::proofs::Digits::octets_step, crate::proofs::Digits::octets_kept, crate::proofs::Digits::octets_done,))]
 pub fn octets_of(word: &[u8], out: &mut [u8]) -> Option<()>
     requires { length word.now ≡ 2 * length out.old }
     ensures { Finds (λ _. out.new) result (octets_of word.now) }

@@ -4,11 +4,13 @@ use Rattle.std.proofs.Common.{arith, refl, ap, ◌∙◌, add-one}
 use Rattle.std.proofs.lemmas.Bool.Decides.{nat_tests}
 use Rattle.time_text.specs.Calendar.{days_before_month, days_of_month, days_of_year}
 
-step : (year month : ℕ) → days_before_month year (suc (suc month)) ≡ days_before_month year (suc month) + days_of_month year (suc month)
+step : (year month : ℕ) → days_before_month year (suc (suc month))
+    ≡ days_before_month year (suc month) + days_of_month year (suc month)
 unfolding days_before_month
 step year month = refl
 
-pub next_month : (year month : ℕ) → 1 ≤ month → days_before_month year (month + 1) ≡ days_before_month year month + days_of_month year month
+pub next_month : (year month : ℕ) → 1 ≤ month → days_before_month year (month + 1)
+    ≡ days_before_month year month + days_of_month year month
 next_month year zero le = absurd (omega arith)
 next_month year (suc month) le = ap (days_before_month year) (add-one (suc month)) ∙ step year month
 

@@ -32,5 +32,6 @@ years_short year = omega (arith, days_counted year)
 pub four_digits : (d : Date) → IsDate d → day_number d ≤ 3652425 → d.year ≤ 9999
 four_digits d is le = omega (arith, days_counted d.year, is.from_first)
 
-pub behind_years : (m : ℕ) → 253402300799999 < m → 86400000 * day_number (record { year = 10000; month = 1; day = 1 }) ≤ m + 86400000 * first_day
+pub behind_years : (m : ℕ) → 253402300799999 < m → 86400000 * day_number (record { year = 10000; month = 1; day = 1 })
+    ≤ m + 86400000 * first_day
 behind_years m over = omega (arith, days_counted 10000, january 10000, first_day_is)

@@ -1,7 +1,8 @@
 //! Moments as people write them (RFC 3339).
 //!
 //! [`read_time`] finds the moment that a text spells, at any offset and with up to three decimals of a second;
-//! [`push_time`] writes one in UTC, which is read as that moment again (law [`times_are_read_again`]). specs/Calendar says
+//! [`push_time`] writes one in UTC, which is read as that moment again (law [`times_are_read_again`]). specs/Calendar
+//! says
 //! the calendar, specs/Time the texts.
 //!
 //! ```text

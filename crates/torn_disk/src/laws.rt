@@ -2,7 +2,8 @@
 
 ghost use Rattle.torn_disk.specs.Laws.{WithinAnAppend, WithinACut, WithinASync};
 
-/// Whatever is left within a call is left before it or after it, so that it is enough to look at a file after each call.
+/// Whatever is left within a call is left before it or after it, so that it is enough to look at a file after each
+/// call.
 pub fn left_within_a_call()
     ensures append { WithinAnAppend }
     ensures cut { WithinACut }

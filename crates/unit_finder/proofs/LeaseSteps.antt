@@ -1,5 +1,6 @@
 -- How what clients have follows the lines.
-use Rattle.std.proofs.Common.{◌≡◌, ℕ, ◌+◌, ◌<◌, ◌≤◌, ◌⊎◌, ◌||◌, Bool, true, false, List, [], ◌∷◌, ◌++◌, length, take, get_or, ap, sym, ◌∙◌, subst, refl, inl, inr, arith, Option, Some, None, add-one}
+use Rattle.std.proofs.Common.{◌≡◌, ℕ, ◌+◌, ◌<◌, ◌≤◌, ◌⊎◌, ◌||◌, Bool, true, false, List, [], ◌∷◌, ◌++◌, length, take}
+use Rattle.std.proofs.Common.{get_or, ap, sym, ◌∙◌, subst, refl, inl, inr, arith, Option, Some, None, add-one}
 use Rattle.std.specs.Prelude.{IfSome}
 use Rattle.std.specs.BTreeSet.{BTreeSet}
 use Rattle.std.proofs.Math.Nat.{eq-or-lt_of_le}
@@ -11,7 +12,7 @@ use Rattle.binding_rules.specs.declared.unit.UnitStatus.TheVariants.{Free, FreeB
 use Rattle.binding_rules.specs.declared.unit.Unit.{Unit as UnitValue}
 use Rattle.journal_lines.specs.declared.line.Line.{Line}
 use Rattle.book_state.specs.declared.pool.Pool.{Pool}
-use Rattle.book_state.specs.Book.{Book, is_in, is_unit, units_in}
+use Rattle.book_state.specs.Book.{BookState, is_in, is_unit, units_in}
 use Rattle.book_state.specs.Effects.{after, same_prefix}
 use Rattle.book_state.specs.Places.{IsPool, IsUnitAt, index_in}
 use Rattle.book_state.proofs.Ranges.{within, index_below, unit_of_place}
@@ -27,7 +28,8 @@ use Rattle.unit_finder.proofs.LeastUnits.{unit_last, either}
 
 -- ---- a unit and what it is delegated under
 
-pub under_held : (b : Book) (p : Prefix) (u : UnitValue) (h : Leased) → IsUnitOf b p → u ≡ b.units p → leased_under p u.status ≡ Some h → IsHeld b h
+pub under_held : (b : BookState) (p : Prefix) (u : UnitValue) (h : Leased) → IsUnitOf b p → u ≡ b.units p
+    → leased_under p u.status ≡ Some h → IsHeld b h
 under_held b p u h unit is under = by_status u.status refl under where
   by_status : (s : UnitStatus) → u.status ≡ s → leased_under p s ≡ Some h → IsHeld b h
   by_status (Active k) e f =
@@ -38,7 +40,7 @@ under_held b p u h unit is under = by_status u.status refl under where
   by_status (Expired k) e f = absurd (cc)
   by_status (Released k) e f = absurd (cc)
 
-pub held_under : (b : Book) (h : Leased) → IsHeld b h → leased_under h.prefix (b.units h.prefix).status ≡ Some h
+pub held_under : (b : BookState) (h : Leased) → IsHeld b h → leased_under h.prefix (b.units h.prefix).status ≡ Some h
 held_under b h held = ap (leased_under h.prefix) held.1
 
 -- the unit is the one that an event is about, or another
@@ -51,7 +53,7 @@ near_or_away (Some p) q = by_test (same_prefix q p) refl where
 
 -- ---- one line
 
-module _ (b c : Book) (l : Line) (s m t u : BTreeSet Leased) where
+module _ (b c : BookState) (l : Line) (s m t u : BTreeSet Leased) where
   pub record IsSettled : Type 0 where
     pub more : (h : Leased) → Has s h → Has m h
     pub only : (h : Leased) → Has m h → Has s h ⊎ (coming_of l.event ≡ Some h)
@@ -70,8 +72,10 @@ module _ (b c : Book) (l : Line) (s m t u : BTreeSet Leased) where
 
     still : (h : Leased) → IsAway (subject_of l.event) h.prefix → IsHeld b h → IsHeld c h
     still h far (unit, active) =
-        let w = after_away b c l h.prefix is keeps far in
-        (record { whole = unit.whole; unit = ap (λ (ps : List Pool). is_unit ps h.prefix) w.pools ∙ unit.unit }, ap (λ (x : UnitValue). x.status) w.unit ∙ active)
+        let w = after_away b c l h.prefix is keeps far in (
+          record { whole = unit.whole; unit = ap (λ (ps : List Pool). is_unit ps h.prefix) w.pools ∙ unit.unit },
+          ap (λ (x : UnitValue). x.status) w.unit ∙ active,
+        )
 
     old : (h : Leased) → Has t h → IsHeld b h → IsHeld c h
     old h has held = elim (near_or_away (subject_of l.event) h.prefix) [
@@ -82,12 +86,20 @@ module _ (b c : Book) (l : Line) (s m t u : BTreeSet Leased) where
     sound : (h : Leased) → Has u h → IsHeld c h
     sound h has =
         let first = i.fewer_last h has in
-        elim (i.only h (i.fewer_first h first)) [ inl o ↦ old h first (were.sound h o) | inr new ↦ i.gone_last h new has ]
+        elim (i.only h (i.fewer_first h first)) [
+          | inl o ↦ old h first (were.sound h o)
+          | inr new ↦ i.gone_last h new has
+        ]
 
     begun : (h : Leased) → IsHeld c h → Has m h
     begun h (unit, active) =
-        let before : IsUnitOf b h.prefix = record { whole = unit.whole; unit = ap (λ (ps : List Pool). is_unit ps h.prefix) (sym was.pools) ∙ unit.unit } in
-        let now : ((after b l).units h.prefix).status ≡ Active (record { client = h.client; iaid = h.iaid }) = ap (λ (x : Book). (x.units h.prefix).status) (sym is) ∙ active in
+        let before : IsUnitOf b h.prefix = record {
+          whole = unit.whole;
+          unit =
+              ap (λ (ps : List Pool). is_unit ps h.prefix) (sym was.pools) ∙ unit.unit;
+        } in
+        let now : ((after b l).units h.prefix).status ≡ Active (record { client = h.client; iaid = h.iaid }) =
+        ap (λ (x : BookState). (x.units h.prefix).status) (sym is) ∙ active in
         elim (comes b h.prefix (record { client = h.client; iaid = h.iaid }) l.reading l.event now) [
           | inl a ↦ i.more h (were.complete h (before, a))
           | inr new ↦ i.there h new
@@ -97,26 +109,34 @@ module _ (b c : Book) (l : Line) (s m t u : BTreeSet Leased) where
     complete h held = i.kept_last h held (i.kept_first h held (begun h held))
 
 -- a line that is refused changes nothing
-pub unsettled : (b c : Book) (coming : Option Leased) (s m u : BTreeSet Leased) → c ≡ b → ((h : Leased) → Has s h → Has m h) → ((h : Leased) → Has m h → Has s h ⊎ (coming ≡ Some h))
-    → ((h : Leased) → Has u h → Has m h) → ((h : Leased) → coming ≡ Some h → Has u h → IsHeld c h) → ((h : Leased) → IsHeld c h → Has m h → Has u h) → AreLeases b s → AreLeases c u
+pub unsettled : (b c : BookState) (coming : Option Leased) (s m u : BTreeSet Leased) → c ≡ b
+    → ((h : Leased) → Has s h → Has m h) → ((h : Leased) → Has m h → Has s h ⊎ (coming ≡ Some h))
+    → ((h : Leased) → Has u h → Has m h) → ((h : Leased) → coming ≡ Some h → Has u h → IsHeld c h)
+    → ((h : Leased) → IsHeld c h → Has m h → Has u h) → AreLeases b s → AreLeases c u
 unsettled b c coming s m u is more only fewer gone kept were = record {
-  sound = λ h has. elim (only h (fewer h has)) [ inl old ↦ subst (λ (x : Book). IsHeld x h) (sym is) (were.sound h old) | inr new ↦ gone h new has ];
-  complete = λ h held. kept h held (more h (were.complete h (subst (λ (x : Book). IsHeld x h) is held)));
+  sound = λ h has. elim (only h (fewer h has))
+      [ inl old ↦ subst (λ (x : BookState). IsHeld x h) (sym is) (were.sound h old) | inr new ↦ gone h new has ];
+  complete = λ h held. kept h held (more h (were.complete h (subst (λ (x : BookState). IsHeld x h) is held)));
 }
 
 -- ---- all units of a table
 
-pub record IsNotedTo (b : Book) (pool : Pool) (s m : BTreeSet Leased) (n : ℕ) : Type 0 where
+pub record IsNotedTo (b : BookState) (pool : Pool) (s m : BTreeSet Leased) (n : ℕ) : Type 0 where
   pub sound : ((h : Leased) → Has s h → IsHeld b h) → (h : Leased) → Has m h → IsHeld b h
   pub more : (h : Leased) → Has s h → Has m h
   pub all : (h : Leased) → IsHeld b h → is_in pool h.prefix ≡ true → index_in pool h.prefix < n → Has m h
 
-pub noted_on : (b : Book) (pool : Pool) (s m t : BTreeSet Leased) (n : ℕ) (p : Prefix) (o : Option Leased) → IsPool pool → IsUnitAt pool n p
+pub noted_on : (b : BookState) (pool : Pool) (s m t : BTreeSet Leased) (n : ℕ) (p : Prefix) (o : Option Leased)
+    → IsPool pool → IsUnitAt pool n p
     → IfSome o (IsHeld b) → ((h : Leased) → IsHeld b h → h.prefix ≡ p → o ≡ Some h)
-    → ((h : Leased) → Has m h → Has t h) → ((h : Leased) → Has t h → Has m h ⊎ (o ≡ Some h)) → ((h : Leased) → o ≡ Some h → Has t h)
+    → ((h : Leased) → Has m h → Has t h) → ((h : Leased) → Has t h → Has m h ⊎ (o ≡ Some h))
+    → ((h : Leased) → o ≡ Some h → Has t h)
     → IsNotedTo b pool s m n → IsNotedTo b pool s t (n + 1)
 noted_on b pool s m t n p o good at held exact more only there noted = record {
-  sound = λ were h has. elim (only h has) [ inl old ↦ noted.sound were h old | inr new ↦ subst (λ (x : Option Leased). IfSome x (IsHeld b)) new held ];
+  sound = λ were h has. elim (only h has) [
+    | inl old ↦ noted.sound were h old
+    | inr new ↦ subst (λ (x : Option Leased). IfSome x (IsHeld b)) new held
+  ];
   more = λ h has. more h (noted.more h has);
   all = all;
 } where
@@ -128,19 +148,25 @@ noted_on b pool s m t n p o good at held exact more only there noted = record {
         | inr less ↦ more h (noted.all h is inside less)
       ]
 
-pub noted_all : (b : Book) (pool : Pool) (s m : BTreeSet Leased) (n : ℕ) → IsPool pool → units_in pool ≤ n → IsNotedTo b pool s m n → (h : Leased) → IsHeld b h → is_in pool h.prefix ≡ true → Has m h
-noted_all b pool s m n good le noted h held inside = noted.all h held inside (let lt = index_below pool h.prefix good (within pool h.prefix inside) in omega (arith, lt, le))
+pub noted_all : (b : BookState) (pool : Pool) (s m : BTreeSet Leased) (n : ℕ) → IsPool pool → units_in pool ≤ n
+    → IsNotedTo b pool s m n → (h : Leased) → IsHeld b h → is_in pool h.prefix ≡ true → Has m h
+noted_all b pool s m n good le noted h held inside =
+    noted.all h held inside (let lt = index_below pool h.prefix good (within pool h.prefix inside) in
+    omega (arith, lt, le))
 
-pub record AreLeasesTo (b : Book) (pools : List Pool) (n : ℕ) (s : BTreeSet Leased) : Type 0 where
+pub record AreLeasesTo (b : BookState) (pools : List Pool) (n : ℕ) (s : BTreeSet Leased) : Type 0 where
   pub sound : (h : Leased) → Has s h → IsHeld b h
   pub all : (h : Leased) → IsHeld b h → is_unit (take n pools) h.prefix ≡ true → Has s h
 
-pub leases_on : (b : Book) (pools : List Pool) (n : ℕ) (pool : Pool) (s t : BTreeSet Leased) → n < length pools → pool ≡ get_or pools n pool
+pub leases_on : (b : BookState) (pools : List Pool) (n : ℕ) (pool : Pool) (s t : BTreeSet Leased) → n < length pools
+    → pool ≡ get_or pools n pool
     → (((h : Leased) → Has s h → IsHeld b h) → (h : Leased) → Has t h → IsHeld b h) → ((h : Leased) → Has s h → Has t h)
-    → ((h : Leased) → IsHeld b h → is_in pool h.prefix ≡ true → Has t h) → AreLeasesTo b pools n s → AreLeasesTo b pools (n + 1) t
+    → ((h : Leased) → IsHeld b h → is_in pool h.prefix ≡ true → Has t h) → AreLeasesTo b pools n s
+    → AreLeasesTo b pools (n + 1) t
 leases_on b pools n pool s t lt is sound more all so = record {
   sound = sound so.sound;
-  all = λ h held inside. elim (either (is_unit (take n pools) h.prefix) (is_in pool h.prefix) (sym (units h.prefix) ∙ inside)) [ inl old ↦ more h (so.all h held old) | inr new ↦ all h held new ];
+  all = λ h held inside. elim (either (is_unit (take n pools) h.prefix) (is_in pool h.prefix) (sym (units h.prefix)
+      ∙ inside)) [ inl old ↦ more h (so.all h held old) | inr new ↦ all h held new ];
 } where
   longer : take (n + 1) pools ≡ take n pools ++ pool ∷ []
   longer = rw (add-one, take-suc pools n pool lt) (ap (λ (k : Pool). take n pools ++ k ∷ []) (sym is))
@@ -148,8 +174,10 @@ leases_on b pools n pool s t lt is sound more all so = record {
   units : (q : Prefix) → is_unit (take (n + 1) pools) q ≡ (is_unit (take n pools) q || is_in pool q)
   units q = ap (λ (ps : List Pool). is_unit ps q) longer ∙ unit_last (take n pools) pool q
 
-pub leases_all : (b : Book) (pools : List Pool) (n : ℕ) (s : BTreeSet Leased) → pools ≡ b.pools → length pools ≤ n → AreLeasesTo b pools n s → AreLeases b s
+pub leases_all : (b : BookState) (pools : List Pool) (n : ℕ) (s : BTreeSet Leased) → pools ≡ b.pools → length pools ≤ n
+    → AreLeasesTo b pools n s → AreLeases b s
 leases_all b pools n s same le so = record {
   sound = so.sound;
-  complete = λ h held. so.all h held (ap (λ (ps : List Pool). is_unit ps h.prefix) (take_all n pools le ∙ same) ∙ held.0.unit);
+  complete = λ h held. so.all h held (ap (λ (ps : List Pool). is_unit ps h.prefix) (take_all n pools le ∙ same)
+      ∙ held.0.unit);
 }

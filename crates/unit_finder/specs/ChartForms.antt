@@ -3,18 +3,18 @@ use Rattle.std.specs.Prelude.{◌≡◌, ℕ, ◌+◌, ◌*◌, ◌^◌, ◌<◌
 use Rattle.book_state.specs.declared.pool.Pool.{Pool}
 use Rattle.book_state.specs.Book.{units_in}
 use Rattle.book_state.specs.Places.{IsPool}
-use Rattle.unit_finder.specs.declared.marking.Mark.{Mark}
-use Rattle.unit_finder.specs.Marks.{nothing, joined}
+use Rattle.unit_finder.specs.declared.unit_kinds.Kinds.{Kinds}
+use Rattle.unit_finder.specs.Kinds.{nothing, joined}
 
-abbrev pub at : List Mark → ℕ → Mark
+abbrev pub at : List Kinds → ℕ → Kinds
 at nodes i = get_or nodes i nothing
 
 -- a mark is that of the two below it
-pub record IsJoined (nodes : List Mark) (i : ℕ) : Type 0 where
+pub record IsJoined (nodes : List Kinds) (i : ℕ) : Type 0 where
   pub joins : at nodes i ≡ joined (at nodes (2 * i)) (at nodes (2 * i + 1))
 
 -- a mark of all comes first, and behind 2^levels - 1 joined ones come those of the units
-pub record IsChart (levels : ℕ) (nodes : List Mark) : Type 0 where
+pub record IsChart (levels : ℕ) (nodes : List Kinds) : Type 0 where
   pub few : levels ≤ 16
   pub whole : length nodes ≡ 2 * 2 ^ levels
   pub each : (i : ℕ) → 1 ≤ i → i < 2 ^ levels → IsJoined nodes i

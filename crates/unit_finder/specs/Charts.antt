@@ -1,14 +1,14 @@
 -- For bodies only: what a chart of marks tells of the units.
 use Rattle.std.specs.Prelude.{◌≡◌, ℕ, ◌+◌, ◌*◌, ◌^◌, ◌<◌, ◌≤◌, false}
 use Rattle.std.specs.Prelude.{Option, Some, None}
-use Rattle.unit_finder.specs.declared.marking.Mark.{Mark}
+use Rattle.unit_finder.specs.declared.unit_kinds.Kinds.{Kinds}
 use Rattle.unit_finder.specs.declared.searching.Wanted.{Wanted}
 use Rattle.unit_finder.specs.declared.chart.Chart.{Chart}
-use Rattle.unit_finder.specs.Marks.{may_be}
+use Rattle.unit_finder.specs.Kinds.{may_be}
 use Rattle.unit_finder.specs.ChartForms.{at}
 
 -- the mark of the unit at a place
-abbrev pub leaf : Chart → ℕ → Mark
+abbrev pub leaf : Chart → ℕ → Kinds
 leaf c place = at c.nodes.items (2 ^ c.levels + place)
 
 -- none of the units at these places from a place on may be wanted

@@ -14,7 +14,7 @@ use Rattle.binding_rules.specs.declared.message.Body.{Body}
 use Rattle.binding_rules.specs.declared.message.Body.TheVariants.{Update}
 use Rattle.journal_lines.specs.declared.event.Event.{Event}
 use Rattle.journal_lines.specs.declared.event.Event.TheVariants.{Unit as UnitLine, Grant, Take}
-use Rattle.book_state.specs.Book.{Book}
+use Rattle.book_state.specs.Book.{BookState}
 use Rattle.unit_finder.specs.declared.leasing.Leased.{Leased}
 use Rattle.unit_finder.specs.Units.{IsBoundTo}
 use Rattle.unit_finder.specs.Subjects.{subject_of}
@@ -48,7 +48,7 @@ abbrev pub Has : BTreeSet Leased → Leased → Type 0
 Has s h = IsTrue (contains leased_cmp s h)
 
 -- the set has what clients have, and nothing else
-pub record AreLeases (b : Book) (s : BTreeSet Leased) : Type 0 where
+pub record AreLeases (b : BookState) (s : BTreeSet Leased) : Type 0 where
   pub sound : (h : Leased) → Has s h → IsBoundTo b h.client h.iaid h.prefix
   pub complete : (h : Leased) → IsBoundTo b h.client h.iaid h.prefix → Has s h
 
@@ -73,12 +73,12 @@ coming_of (Take m) = coming_in m.body
 coming_of _ = None
 
 -- what the unit that an event is about is delegated under before it
-abbrev pub held_at : Book → Option Prefix → Option Leased
+abbrev pub held_at : BookState → Option Prefix → Option Leased
 held_at b None = None
 held_at b (Some p) = leased_under p (b.units p).status
 
-abbrev pub held_before : Book → Event → Option Leased
+abbrev pub held_before : BookState → Event → Option Leased
 held_before b e = held_at b (subject_of e)
 
-abbrev pub IsHeld : Book → Leased → Type 0
+abbrev pub IsHeld : BookState → Leased → Type 0
 IsHeld b h = IsBoundTo b h.client h.iaid h.prefix

@@ -2,7 +2,7 @@ pub mod Units
 pub mod Queries
 pub mod Searching
 pub mod Subjects
-pub mod Marks
+pub mod Kinds
 pub mod ChartForms
 pub mod Charts
 pub mod PoolCharts

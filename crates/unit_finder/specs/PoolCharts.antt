@@ -4,16 +4,16 @@ use Rattle.prefix_range.specs.Prefix.{Prefix}
 use Rattle.binding_rules.specs.declared.role.Role.{Role}
 use Rattle.binding_rules.specs.declared.unit.Unit.{Unit as UnitValue}
 use Rattle.book_state.specs.declared.pool.Pool.{Pool}
-use Rattle.book_state.specs.Book.{Book}
+use Rattle.book_state.specs.Book.{BookState}
 use Rattle.book_state.specs.Effects.{same_prefix}
 use Rattle.book_state.specs.Places.{IsUnitAt}
 use Rattle.unit_finder.specs.declared.pool_chart.PoolChart.{PoolChart}
-use Rattle.unit_finder.specs.Marks.{mark_of}
+use Rattle.unit_finder.specs.Kinds.{kinds_of}
 use Rattle.unit_finder.specs.Charts.{leaf}
 
 -- each mark is that of the unit at its place
-pub record IsMarked (role : Role) (units : Prefix → UnitValue) (c : PoolChart) : Type 0 where
-  pub each : (i : ℕ) (p : Prefix) → IsUnitAt c.pool i p → leaf c.chart i ≡ mark_of role (units p)
+pub record HasKinds (role : Role) (units : Prefix → UnitValue) (c : PoolChart) : Type 0 where
+  pub each : (i : ℕ) (p : Prefix) → IsUnitAt c.pool i p → leaf c.chart i ≡ kinds_of role (units p)
 
 -- the units with one changed
 abbrev pub with_unit_at : (Prefix → UnitValue) → Prefix → UnitValue → Prefix → UnitValue
@@ -22,7 +22,7 @@ with_unit_at units p u q = if same_prefix q p then u else units q
 abbrev pub pools_of : List PoolChart → List Pool
 pools_of charts = map (λ (c : PoolChart). c.pool) charts
 
--- a table's units are marked as they are
-pub record IsFollowed (b : Book) (charts : List PoolChart) : Type 0 where
+-- a table's units have their kinds in the charts
+pub record IsFollowed (b : BookState) (charts : List PoolChart) : Type 0 where
   pub pools : pools_of charts ≡ b.pools
-  pub marked : All (IsMarked b.role b.units) charts
+  pub kinds : All (HasKinds b.role b.units) charts

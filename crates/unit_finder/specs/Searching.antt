@@ -4,7 +4,7 @@ use Rattle.prefix_range.specs.Prefix.{Prefix}
 use Rattle.binding_rules.specs.declared.unit.Unit.{Unit as UnitValue}
 use Rattle.binding_rules.specs.Giving.{is_own}
 use Rattle.book_state.specs.declared.pool.Pool.{Pool}
-use Rattle.book_state.specs.Book.{Book, is_in}
+use Rattle.book_state.specs.Book.{BookState, is_in}
 use Rattle.book_rules.specs.UnitRules.{IsSeizable}
 use Rattle.unit_finder.specs.declared.searching.Wanted.{Wanted}
 use Rattle.unit_finder.specs.declared.searching.Wanted.TheVariants.{Usable, Expirable, Seizable, Pending}
@@ -12,7 +12,7 @@ use Rattle.unit_finder.specs.declared.searching.Wanted.TheVariants.{Due, Marked,
 use Rattle.unit_finder.specs.Units.{IsUnitOf}
 use Rattle.unit_finder.specs.Queries.{MayExpire}
 
-abbrev pub IsWanted : Book → Wanted → UnitValue → Type 0
+abbrev pub IsWanted : BookState → Wanted → UnitValue → Type 0
 IsWanted b Usable u = is_own b.role u.status ≡ true
 IsWanted b (Expirable now) u = MayExpire now u
 IsWanted b (Seizable now) u = IsSeizable b now u b.down
@@ -21,14 +21,14 @@ IsWanted b Due u = u.due ≢ None
 IsWanted b Marked u = u.marked ≡ true
 IsWanted b Overcounted u = 2 ^ 48 < u.mine
 
-abbrev pub IsSome : Book → Wanted → Prefix → Type 0
+abbrev pub IsSome : BookState → Wanted → Prefix → Type 0
 IsSome b w p = IsUnitOf b p × IsWanted b w (b.units p)
 
 -- of the units from an address on
-abbrev pub IsThere : Book → Wanted → ℕ → Prefix → Type 0
+abbrev pub IsThere : BookState → Wanted → ℕ → Prefix → Type 0
 IsThere b w from p = IsUnitOf b p × IsWanted b w (b.units p) × (from ≤ p.address)
 
-abbrev pub IsThereIn : Book → Wanted → ℕ → Pool → Prefix → Type 0
+abbrev pub IsThereIn : BookState → Wanted → ℕ → Pool → Prefix → Type 0
 IsThereIn b w from pool p = (is_in pool p ≡ true) × IsThere b w from p
 
 abbrev pub lower_of : Option Prefix → Option Prefix → Option Prefix

@@ -1,15 +1,15 @@
-//! A chart of the marks of a pool's units.
+//! A chart of the kinds of a pool's units.
 
 ghost use Rattle.unit_finder.specs.ChartForms.{IsChart};
 
-mod marks;
+mod nodes;
 
-use crate::marking::Mark;
+use crate::unit_kinds::Kinds;
 
-/// The marks of 2^levels units: a mark of them all, then those of each half, and so on to those of the units.
+/// The kinds of 2^levels units: those of them all, then those of each half, and so on to those of the units.
 #[derive(Drop)]
 pub(crate) struct Chart {
     pub(crate) levels: u8,
-    pub(crate) nodes: Vec<Mark>,
+    pub(crate) nodes: Vec<Kinds>,
     ghost whole: { IsChart levels nodes.items },
 }

@@ -3,8 +3,8 @@
 ghost use Rattle.book_rules.specs.State.{state};
 ghost use Rattle.unit_finder.specs.Queries.{IsFirstExpiry};
 
-use crate::marking::earlier;
 use crate::register::Register;
+use crate::unit_kinds::earlier;
 use lead_time::End;
 
 /// From when on a unit may be expired.

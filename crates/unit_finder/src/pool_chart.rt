@@ -7,7 +7,7 @@ pub(crate) mod charting;
 use crate::chart::Chart;
 use book_rules::Pool;
 
-/// A pool, and the marks of its units.
+/// A pool, and the kinds of its units.
 #[derive(Drop)]
 pub(crate) struct PoolChart {
     pub(crate) pool: Pool,

@@ -21,7 +21,7 @@ use prefix_range::Prefix;
 use std::alloc::{AllocError, Global};
 use std::collections::BTreeSet;
 
-/// A table, the marks of its units, by which one of a kind is found in few steps, and what each client has.
+/// A table, the kinds of its units, by which one of a kind is found in few steps, and what each client has.
 #[derive(Drop)]
 pub struct Register {
     /// The table.

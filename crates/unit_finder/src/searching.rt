@@ -5,7 +5,7 @@ ghost use Rattle.prefix_range.specs.Prefix.{Prefix as PrefixValue};
 ghost use Rattle.book_state.specs.Places.{IsPool, IsUnitAt};
 ghost use Rattle.book_rules.specs.State.{state};
 ghost use Rattle.unit_finder.specs.Units.{IsLeastOf};
-ghost use Rattle.unit_finder.specs.PoolCharts.{IsMarked};
+ghost use Rattle.unit_finder.specs.PoolCharts.{HasKinds};
 ghost use Rattle.unit_finder.specs.Queries.{MayExpire};
 ghost use Rattle.unit_finder.specs.Searching.{IsWanted, IsSome, IsThere, IsThereIn, lower_of};
 
@@ -14,7 +14,8 @@ use crate::pool_chart::charting::addresses;
 use crate::register::Register;
 use binding_rules::{Status, Unit, grantable};
 use book_rules::{Pool, Table};
-use lead_time::{Reading, ended};
+use book_state::GREATEST_START;
+use lead_time::{Reading, is_past};
 use prefix_range::Prefix;
 
 /// The kinds of units that are looked for.
@@ -36,13 +37,10 @@ pub enum Wanted {
     Overcounted,
 }
 
-/// The greatest count that a later volume may begin with: 2^48.
-pub const GREATEST_START: u64 = 281_474_976_710_656;
-
 fn may_expire(now: Reading, unit: &Unit) -> bool
     ensures { IsTrue result ↔ MayExpire now unit.now }
 {
-    unit.status.status() == Status::Active && ended(now, unit.own_end) && ended(now, unit.told)
+    unit.status.status() == Status::Active && is_past(now, unit.own_end) && is_past(now, unit.told)
 }
 
 fn is_wanted(table: &Table, wanted: &Wanted, unit: &Unit) -> bool
@@ -85,7 +83,7 @@ fn first_place(pool: &Pool, from: u128) -> usize
 
 /// The lowest unit of a pool that is wanted, from an address on.
 fn lowest_in(table: &Table, chart: &PoolChart, wanted: &Wanted, from: u128) -> Option<Prefix>
-    requires { IsMarked (state table.now).role (state table.now).units chart.now }
+    requires { HasKinds (state table.now).role (state table.now).units chart.now }
     ensures { IsLeastOf (IsThereIn (state table.now) wanted.now from chart.now.pool) result }
 {
     let pool = &chart.pool;

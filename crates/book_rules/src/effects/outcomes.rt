@@ -25,13 +25,7 @@ impl Table {
             return Outcome::Drop;
         }
         let unit = self.unit_or_fresh(&update.prefix);
-        let (outcome, _) = take_update(
-            self.standing.role,
-            &unit,
-            now,
-            self.standing.waiting,
-            update,
-        );
+        let (outcome, _) = take_update(self.numbers.role, &unit, now, self.numbers.waiting, update);
         outcome
     }
 
@@ -61,11 +55,11 @@ impl Table {
     pub fn outcome(&self, now: Reading, message: &PartnerMessage) -> Outcome
         ensures { result ≡ outcome (state self.now) now message.now }
     {
-        if message.term == self.standing.term {
+        if message.term == self.numbers.term {
             return self.body_outcome(now, &message.body);
         }
-        let is_higher = self.standing.term < message.term;
-        if self.standing.waiting && (is_higher && is_contact(&message.body)) {
+        let is_higher = self.numbers.term < message.term;
+        if self.numbers.waiting && (is_higher && is_contact(&message.body)) {
             Outcome::Accept
         } else {
             Outcome::Drop

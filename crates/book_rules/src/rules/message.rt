@@ -3,7 +3,7 @@
 ghost use Rattle.std.specs.Prelude.{◌≡◌, ◌↔◌, IsTrue, true};
 ghost use Rattle.book_rules.specs.State.{state};
 ghost use Rattle.book_state.specs.Book.{IsCalm};
-ghost use Rattle.book_rules.specs.MessageRules.{client_of, iaid_of, end_of, due_update, seized_update, IsTold};
+ghost use Rattle.book_rules.specs.MessageRules.{client_of, iaid_of, end_of, due_update, seized_update, TellsUnit};
 ghost use Rattle.book_rules.specs.MessageRules.{TellsChange, TellsReply, TellsNumbers, IsContactAnswer};
 ghost use Rattle.book_rules.specs.MessageRules.{KeepsSerial, KeepsUpdate, KeepsReply, KeepsContact};
 
@@ -80,7 +80,7 @@ pub fn seized_update(prefix: &Prefix, unit: &Unit) -> Update
 
 /// Returns whether an update tells of the unit's due change, or that it was seized.
 fn is_told(unit: &Unit, update: &Update) -> bool
-    ensures { IsTrue result ↔ IsTold unit.now update.now }
+    ensures { IsTrue result ↔ TellsUnit unit.now update.now }
 {
     if unit.marked {
         return *update == seized_update(&update.prefix, unit);
@@ -95,8 +95,8 @@ impl Table {
     {
         match event {
             Event::Send(message) => {
-                message.serial.number() == self.standing.serial.number() + 1
-                    && message.term == self.standing.term
+                message.serial.number() == self.numbers.serial.number() + 1
+                    && message.term == self.numbers.term
             }
             _ => true,
         }
@@ -144,7 +144,7 @@ impl Table {
     pub fn is_calm(&self) -> bool
         ensures { IsTrue result ↔ IsCalm (state self.now) }
     {
-        self.standing.down.is_none() && self.units.is_unmarked()
+        self.numbers.down.is_none() && self.units.is_unmarked()
     }
 
     /// Returns whether a number is the answer to what the partner asked.
@@ -152,7 +152,7 @@ impl Table {
         ensures { IsTrue result ↔ IsContactAnswer (state self.now) answer }
     {
         if self.is_calm() {
-            answer == self.standing.asked
+            answer == self.numbers.asked
         } else {
             answer.number() == 0
         }
@@ -163,8 +163,8 @@ impl Table {
     {
         match body {
             Body::Contact { ask, answer } => {
-                let asks = if self.standing.waiting {
-                    self.standing.restart
+                let asks = if self.numbers.waiting {
+                    self.numbers.restart
                 } else {
                     Counter::ZERO
                 };

@@ -9,7 +9,7 @@ ghost use Rattle.book_rules.specs.UnitRules.{KeepsRestart, IsSeizable, KeepsSeiz
 use crate::table::Table;
 use binding_rules::{Body, Role, ServerState, Status, Unit, UnitStatus, grantable, renewable};
 use journal_lines::Event;
-use lead_time::{Reading, allowed_valid, ended, takeover};
+use lead_time::{Reading, allowed_valid, is_past, takeover};
 
 impl Table {
     fn names_unit(&self, body: &Body) -> bool
@@ -42,7 +42,7 @@ impl Table {
         ensures { IsTrue result ↔ KeepsWaiting (state self.now) event.now }
     {
         match event {
-            Event::Grant(_) => !self.standing.waiting,
+            Event::Grant(_) => !self.numbers.waiting,
             _ => true,
         }
     }
@@ -54,7 +54,7 @@ impl Table {
         match event {
             Event::Grant(lease) => {
                 let unit = self.units.unit(&lease.prefix);
-                grantable(self.standing.role, unit) || renewable(unit, &lease.client, lease.iaid)
+                grantable(self.numbers.role, unit) || renewable(unit, &lease.client, lease.iaid)
             }
             _ => true,
         }
@@ -67,7 +67,7 @@ impl Table {
         match event {
             Event::Grant(lease) => {
                 let acked = self.units.unit(&lease.prefix).acked;
-                lease.valid == allowed_valid(self.standing.life, self.standing.mclt, acked, now)
+                lease.valid == allowed_valid(self.numbers.life, self.numbers.mclt, acked, now)
             }
             _ => true,
         }
@@ -95,8 +95,8 @@ impl Table {
             Event::Expire(prefix) => {
                 let unit = self.units.unit(prefix);
                 unit.status.status() == Status::Active
-                    && ended(now, unit.own_end)
-                    && ended(now, unit.told)
+                    && is_past(now, unit.own_end)
+                    && is_past(now, unit.told)
             }
             _ => true,
         }
@@ -109,7 +109,7 @@ impl Table {
         match event {
             Event::Backup(prefix) => {
                 let unit = self.units.unit(prefix);
-                self.standing.role == Role::Primary && is_free(unit)
+                self.numbers.role == Role::Primary && is_free(unit)
             }
             _ => true,
         }
@@ -122,7 +122,7 @@ impl Table {
         match event {
             Event::Reclaim(prefix) => {
                 let unit = self.units.unit(prefix);
-                self.standing.role == Role::Primary && is_free_backup(unit)
+                self.numbers.role == Role::Primary && is_free_backup(unit)
             }
             _ => true,
         }
@@ -134,9 +134,7 @@ impl Table {
     {
         match event {
             Event::State(ServerState::Down) => {
-                !self.standing.waiting
-                    && self.standing.down.is_none()
-                    && self.standing.term < u32::MAX
+                !self.numbers.waiting && self.numbers.down.is_none() && self.numbers.term < u32::MAX
             }
             _ => true,
         }
@@ -147,7 +145,7 @@ impl Table {
         ensures { IsTrue result ↔ KeepsRestart (state self.now) event.now }
     {
         match event {
-            Event::Restart(number) => number.number() == self.standing.restart.number() + 1,
+            Event::Restart(number) => number.number() == self.numbers.restart.number() + 1,
             _ => true,
         }
     }
@@ -156,18 +154,12 @@ impl Table {
     pub fn is_seizable(&self, now: Reading, unit: &Unit) -> bool
         ensures { IsTrue result ↔ IsSeizable (state self.now) now unit.now (state self.now).down }
     {
-        let standing = &self.standing;
-        match standing.down {
+        let numbers = &self.numbers;
+        match numbers.down {
             Some(down) => {
-                let until = takeover(
-                    unit.told,
-                    down,
-                    standing.mclt,
-                    standing.skew,
-                    standing.transit,
-                );
-                !grantable(standing.role, unit)
-                    && ended(now, unit.own_end)
+                let until = takeover(unit.told, down, numbers.mclt, numbers.skew, numbers.transit);
+                !grantable(numbers.role, unit)
+                    && is_past(now, unit.own_end)
                     && until <= now.milliseconds()
             }
             None => false,

@@ -16,42 +16,42 @@ impl Table {
     pub fn role(&self) -> Role
         ensures { result ≡ (state self.now).role }
     {
-        self.standing.role
+        self.numbers.role
     }
 
     /// The volume's number, from 1.
     pub fn volume(&self) -> u32
         ensures { result ≡ (state self.now).volume }
     {
-        self.standing.volume
+        self.numbers.volume
     }
 
     /// The most by which the server's clock may be wrong.
     pub fn skew(&self) -> Skew
         ensures { result ≡ (state self.now).skew }
     {
-        self.standing.skew
+        self.numbers.skew
     }
 
     /// The maximum client lead time, in seconds.
     pub fn mclt(&self) -> u32
         ensures { result ≡ (state self.now).mclt }
     {
-        self.standing.mclt
+        self.numbers.mclt
     }
 
     /// The desired lifetime, in seconds.
     pub fn life(&self) -> u32
         ensures { result ≡ (state self.now).life }
     {
-        self.standing.life
+        self.numbers.life
     }
 
     /// The most by which an answer may be under way.
     pub fn transit(&self) -> Transit
         ensures { result ≡ (state self.now).transit }
     {
-        self.standing.transit
+        self.numbers.transit
     }
 
     /// Returns how many lines led here.
@@ -59,28 +59,28 @@ impl Table {
         ensures count { result ≡ (state self.now).count }
         ensures few { result ≤ 2 ^ 20 }
     {
-        self.standing.count
+        self.numbers.count
     }
 
     /// The reading of the last line.
     pub fn reading(&self) -> Reading
         ensures { result ≡ (state self.now).reading }
     {
-        self.standing.reading
+        self.numbers.reading
     }
 
     /// Returns whether the last line was a close line.
     pub fn is_closed(&self) -> bool
         ensures { result ≡ (state self.now).closed }
     {
-        self.standing.closed
+        self.numbers.closed
     }
 
     /// The term of the server's messages.
     pub fn term(&self) -> u32
         ensures { result ≡ (state self.now).term }
     {
-        self.standing.term
+        self.numbers.term
     }
 
     /// The serial of the last message sent.
@@ -88,7 +88,7 @@ impl Table {
         ensures serial { result ≡ (state self.now).serial }
         ensures fits { result < 2 ^ 49 }
     {
-        self.standing.serial
+        self.numbers.serial
     }
 
     /// The number of the last restart.
@@ -96,28 +96,28 @@ impl Table {
         ensures restart { result ≡ (state self.now).restart }
         ensures fits { result < 2 ^ 49 }
     {
-        self.standing.restart
+        self.numbers.restart
     }
 
     /// Returns whether the server waits for its partner's answer to the last restart.
     pub fn is_waiting(&self) -> bool
         ensures { result ≡ (state self.now).waiting }
     {
-        self.standing.waiting
+        self.numbers.waiting
     }
 
     /// The number that the partner asked last.
     pub fn asked(&self) -> Counter
         ensures { result ≡ (state self.now).asked }
     {
-        self.standing.asked
+        self.numbers.asked
     }
 
     /// The reading since which the partner is taken for down.
     pub fn down(&self) -> Option<Reading>
         ensures { result ≡ (state self.now).down }
     {
-        self.standing.down
+        self.numbers.down
     }
 
     /// The pools, in the order of their lines.
@@ -143,7 +143,7 @@ impl Table {
     /// The unit of a prefix, or a fresh one where the prefix is none.
     pub fn unit_or_fresh(&self, prefix: &Prefix) -> Unit
         ensures unit { result ≡ (state self.now).units prefix.now }
-        ensures counted { result.mine ≤ 2 ^ 48 + self.now.standing.count }
+        ensures counted { result.mine ≤ 2 ^ 48 + self.now.numbers.count }
         ensures fits { result.mine < 2 ^ 49 }
     {
         *self.units.unit(prefix)

@@ -7,7 +7,7 @@ ghost use Rattle.book_rules.specs.State.{state};
 
 use crate::table::Table;
 use binding_rules::{Counter, Role};
-use book_state::{Place, Standing, Units};
+use book_state::{Place, StateNumbers, Units};
 use journal_lines::Head;
 use lead_time::{Reading, Skew, Transit};
 use std::alloc::{AllocError, Global};
@@ -37,7 +37,7 @@ impl Table {
     pub fn new(alloc: Global, role: Role, head: Head) -> Table
         ensures { state result ≡ blank role (volume_number head) }
     {
-        let standing = Standing {
+        let numbers = StateNumbers {
             role,
             volume: head.volume(),
             skew: no_skew(),
@@ -57,7 +57,7 @@ impl Table {
             down: None,
         };
         Table {
-            standing,
+            numbers,
             units: Units::new(alloc),
         }
     }
@@ -68,7 +68,7 @@ impl Table {
     {
         let units = self.units.copy()?;
         Ok(Table {
-            standing: self.standing,
+            numbers: self.numbers,
             units,
         })
     }

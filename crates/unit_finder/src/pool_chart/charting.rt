@@ -1,4 +1,4 @@
-//! The marks of the units of pools.
+//! The kinds of the units of pools.
 
 ghost use Rattle.std.specs.Prelude.{◌≡◌, ◌<◌, ◌≤◌, true, false, MatchOption, IfOk, All, length};
 ghost use Rattle.prefix_range.specs.Prefix.{Prefix as PrefixValue, size_of};
@@ -6,11 +6,11 @@ ghost use Rattle.binding_rules.specs.declared.unit.Unit.{Unit as UnitValue};
 ghost use Rattle.book_state.specs.Book.{is_in, units_in};
 ghost use Rattle.book_state.specs.Places.{IsPool, IsUnitAt, index_in};
 ghost use Rattle.book_rules.specs.State.{state};
-ghost use Rattle.unit_finder.specs.PoolCharts.{IsMarked, with_unit_at, pools_of};
+ghost use Rattle.unit_finder.specs.PoolCharts.{HasKinds, with_unit_at, pools_of};
 
 use crate::chart::Chart;
-use crate::marking::Mark;
 use crate::pool_chart::PoolChart;
+use crate::unit_kinds::Kinds;
 use binding_rules::{Role, Unit};
 use book_rules::{Pool, Table};
 use prefix_range::Prefix;
@@ -65,34 +65,34 @@ impl PoolChart {
     /// Notes what a unit is now.
     pub(crate) fn follow(&mut self, role: Role, prefix: &Prefix, unit: &Unit)
         ensures pool { self.new.pool ≡ self.old.pool }
-        ensures follows { (units : PrefixValue → UnitValue) → IsMarked role units self.old
-            → IsMarked role (with_unit_at units prefix.now unit.now) self.new }
+        ensures follows { (units : PrefixValue → UnitValue) → HasKinds role units self.old
+            → HasKinds role (with_unit_at units prefix.now unit.now) self.new }
     {
         if let Some(place) = self.place(prefix) {
-            self.chart.put(place, Mark::of(role, unit));
+            self.chart.put(place, Kinds::of(role, unit));
         }
     }
 
-    /// The marks of a pool's units, as a table has them.
+    /// The kinds of a pool's units, as a table has them.
     fn of(alloc: Global, table: &Table, pool: &Pool) -> Result<PoolChart, AllocError>
         requires pool { IsPool pool.now }
         requires few { units_in pool.now ≤ 65536 }
         ensures pool { IfOk result (λ c. c.pool ≡ pool.now) }
-        ensures marked { IfOk result (IsMarked (state table.now).role (state table.now).units) }
+        ensures kinds { IfOk result (HasKinds (state table.now).role (state table.now).units) }
     {
         let mut chart = Chart::new(alloc, pool.unit_length - pool.prefix.len())?;
         for index in 0..pool.count() {
             let unit = table.unit_or_fresh(&pool.unit(index));
-            chart.put(index, Mark::of(table.role(), &unit));
+            chart.put(index, Kinds::of(table.role(), &unit));
         }
         Ok(PoolChart { pool: *pool, chart })
     }
 }
 
-/// The marks of all units, as a table has them.
+/// The kinds of all units, as a table has them.
 pub(crate) fn charts_of(alloc: Global, table: &Table) -> Result<Vec<PoolChart>, AllocError>
     ensures pools { IfOk result (λ v. pools_of v.items ≡ (state table.now).pools) }
-    ensures marked { IfOk result (λ v. All (IsMarked (state table.now).role (state table.now).units) v.items) }
+    ensures kinds { IfOk result (λ v. All (HasKinds (state table.now).role (state table.now).units) v.items) }
 {
     let mut charts = Vec::new(alloc);
     for pool in table.pools() {
@@ -105,8 +105,8 @@ pub(crate) fn charts_of(alloc: Global, table: &Table) -> Result<Vec<PoolChart>, 
 pub(crate) fn follow(charts: &mut [PoolChart], role: Role, prefix: &Prefix, unit: &Unit)
     ensures count { length charts.new ≡ length charts.old }
     ensures pools { pools_of charts.new ≡ pools_of charts.old }
-    ensures follows { (units : PrefixValue → UnitValue) → All (IsMarked role units) charts.old
-        → All (IsMarked role (with_unit_at units prefix.now unit.now)) charts.new }
+    ensures follows { (units : PrefixValue → UnitValue) → All (HasKinds role units) charts.old
+        → All (HasKinds role (with_unit_at units prefix.now unit.now)) charts.new }
 {
     for index in 0..charts.len() {
         charts[index].follow(role, prefix, unit);

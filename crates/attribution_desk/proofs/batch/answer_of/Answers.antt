@@ -7,8 +7,11 @@ pub loop-ruling-init : goal.loop-ruling-init
 loop-ruling-init c = ap (λ t. t ++ flat_map ruling_line c.args.rulings.now) c.new-line.ensures.items
 
 pub loop-ruling-preserved : goal.loop-ruling-preserved
-loop-ruling-preserved c = line_more c.args.rulings.now c.loop-ruling.ruling-index _ c.loop-ruling.line.items c.extend_from_slice.new.self.items c.loop-ruling-test.true c.loop-ruling.invariant
-    (c.in_ok-extend_from_slice.ensures.items ∙ ap (λ t. c.loop-ruling.line.items ++ t) (c.deref.ensures.value ∙ c.in_ok-ruling_line.ensures))
+loop-ruling-preserved c = line_more c.args.rulings.now c.loop-ruling.ruling-index _ c.loop-ruling.line.items
+    c.extend_from_slice.new.self.items c.loop-ruling-test.true c.loop-ruling.invariant
+    (c.in_ok-extend_from_slice.ensures.items
+    ∙ ap (λ t. c.loop-ruling.line.items ++ t) (c.deref.ensures.value ∙ c.in_ok-ruling_line.ensures))
 
 pub returns-clause-line : goal.returns-clause-line
-returns-clause-line c = line_whole c.args.rulings.now c.loop-ruling.ruling-index c.loop-ruling.line.items c.loop-ruling-test.false c.loop-ruling.invariant
+returns-clause-line c = line_whole c.args.rulings.now c.loop-ruling.ruling-index c.loop-ruling.line.items
+    c.loop-ruling-test.false c.loop-ruling.invariant

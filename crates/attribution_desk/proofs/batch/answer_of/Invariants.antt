@@ -3,4 +3,5 @@ use Rattle.pair_ruling.specs.Ruling.{ruling_line}
 use Rattle.attribution_desk.proofs.batch.answer_of.Given as goal
 
 abbrev pub invariant-loop-ruling : goal.invariant-loop-ruling
-invariant-loop-ruling l = l.line.items ++ flat_map ruling_line (drop l.ruling-index l.rulings) ≡ flat_map ruling_line l.rulings
+invariant-loop-ruling l = l.line.items ++ flat_map ruling_line (drop l.ruling-index l.rulings)
+    ≡ flat_map ruling_line l.rulings

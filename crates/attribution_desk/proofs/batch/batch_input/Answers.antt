@@ -15,13 +15,17 @@ returns-clause-written g c =
     let answer = c.in_ok-answer.answer in
     written (λ input. IsBatch input c.args.skew c.args.transit) _ _ _ taken.0 answer.line.items answer.status taken.2
     (of_input (λ a b rest. IsBatchOf a b rest c.args.skew c.args.transit answer.line.items answer.status) taken.0 _ _ _
-    (c.finish-input.ensures.primary taken.0 has) (c.finish-input.ensures.secondary taken.0 has) (c.finish-input.ensures.rest taken.0 has) c.in_ok-answer.ensures.answer)
-    (subst (Appends (g.W.Write.contents c.args.writer.now.device) (g.W.Write.contents c.write_out.new.self.device)) c.deref.ensures.value c.in_ok-write_out.ensures.bytes)
+    (c.finish-input.ensures.primary taken.0 has) (c.finish-input.ensures.secondary taken.0 has)
+    (c.finish-input.ensures.rest taken.0 has) c.in_ok-answer.ensures.answer)
+    (subst (Appends (g.W.Write.contents c.args.writer.now.device) (g.W.Write.contents c.write_out.new.self.device))
+    c.deref.ensures.value c.in_ok-write_out.ensures.bytes)
 
 pub returns-clause-warned : goal.returns-clause-warned
 returns-clause-warned g c =
     let taken = c.in_ok-intake.ensures.taken in
     let has = taken.1 [] c.new.ensures in
-    of_known (λ input. IsJudgingWarning input c.args.skew c.args.transit c.in_ok-warnings.warnings.items) _ taken.0 taken.2
+    of_known (λ input. IsJudgingWarning input c.args.skew c.args.transit c.in_ok-warnings.warnings.items) _ taken.0
+    taken.2
     (of_input (λ a b rest. IsWarningOf a b c.args.skew c.args.transit c.in_ok-warnings.warnings.items) taken.0 _ _ _
-    (c.finish-input.ensures.primary taken.0 has) (c.finish-input.ensures.secondary taken.0 has) (c.finish-input.ensures.rest taken.0 has) c.in_ok-warnings.ensures.warned)
+    (c.finish-input.ensures.primary taken.0 has) (c.finish-input.ensures.secondary taken.0 has)
+    (c.finish-input.ensures.rest taken.0 has) c.in_ok-warnings.ensures.warned)

@@ -7,14 +7,21 @@ use Rattle.attribution_desk.proofs.batch.ruled.Goals as goal
 
 pub returns-in-Refused-clause-rulings : goal.returns-in-Refused-clause-rulings
 returns-in-Refused-clause-rulings g c =
-    let out = subst (IsRuled c.args.primary.now c.args.secondary.now c.args.skew) c.in-Refused.is c.in_ok-merged.ensures in
+    let out = subst (IsRuled c.args.primary.now c.args.secondary.now c.args.skew) c.in-Refused.is
+    c.in_ok-merged.ensures in
     let items = c.in_ok-vec-in-Refused.ensures.items_if_clones_equal (λ y e. search rules) in
-    subst (AreRuledOn c.args.primary.now c.args.secondary.now c.args.skew c.args.transit c.args.certificates.now) (sym items)
-    (all_refused c.args.primary.now c.args.secondary.now c.args.skew c.args.transit c.in-Refused.ruling out c.args.certificates.now)
+    subst (AreRuledOn c.args.primary.now c.args.secondary.now c.args.skew c.args.transit c.args.certificates.now)
+    (sym items)
+    (all_refused c.args.primary.now c.args.secondary.now c.args.skew c.args.transit c.in-Refused.ruling out
+    c.args.certificates.now)
 
 pub returns-clause-rulings : goal.returns-clause-rulings
 returns-clause-rulings g c =
     let fit = subst (IsRuled c.args.primary.now c.args.secondary.now c.args.skew) c.in-Fit.is c.in_ok-merged.ensures in
-    let judged = subst (λ js. AllJudged js c.args.skew c.args.transit c.args.certificates.now c.in_ok-verdicts.verdicts.items) c.in_ok-index.ensures c.in_ok-verdicts.ensures.verdicts in
-    subst (AreRuledOn c.args.primary.now c.args.secondary.now c.args.skew c.args.transit c.args.certificates.now) (sym (search rules))
-    (all_audited c.args.primary.now c.args.secondary.now c.args.skew c.args.transit fit.0 c.args.certificates.now c.in_ok-verdicts.verdicts.items judged)
+    let judged =
+    subst (λ js. AllJudged js c.args.skew c.args.transit c.args.certificates.now c.in_ok-verdicts.verdicts.items)
+    c.in_ok-index.ensures c.in_ok-verdicts.ensures.verdicts in
+    subst (AreRuledOn c.args.primary.now c.args.secondary.now c.args.skew c.args.transit c.args.certificates.now)
+    (sym (search rules))
+    (all_audited c.args.primary.now c.args.secondary.now c.args.skew c.args.transit fit.0 c.args.certificates.now
+    c.in_ok-verdicts.verdicts.items judged)

@@ -6,18 +6,27 @@ use Rattle.attribution_desk.proofs.batch.rulings_on.Goals as goal
 
 pub returns-in-Err-clause-rulings : goal.returns-in-Err-clause-rulings
 returns-in-Err-clause-rulings g c =
-    refused_by_a c.args.a c.args.b c.args.rest.now c.args.skew c.args.transit c.in_ok-claims.claims.items c.in_ok-claims.ensures
-    c.in-Err.fault c.len.result _ c.in-Err.is (search rules) (c.in_ok-vec-in-Err.ensures.items_if_clones_equal (λ y e. search rules))
+    refused_by_a c.args.a c.args.b c.args.rest.now c.args.skew c.args.transit c.in_ok-claims.claims.items
+    c.in_ok-claims.ensures
+    c.in-Err.fault c.len.result _ c.in-Err.is (search rules)
+    (c.in_ok-vec-in-Err.ensures.items_if_clones_equal (λ y e. search rules))
 
 pub returns-in-Err-b-clause-rulings : goal.returns-in-Err-b-clause-rulings
 returns-in-Err-b-clause-rulings g c =
-    refused_by_b c.args.a c.args.b c.args.rest.now c.args.skew c.args.transit c.in_ok-claims.claims.items c.in_ok-claims.ensures c.in-Ok.journal c.in-Ok.is
-    c.in-Err-b.fault c.len-in-Err-b.result _ c.in-Err-b.is (search rules) (c.in_ok-vec-in-Err-b.ensures.items_if_clones_equal (λ y e. search rules))
+    refused_by_b c.args.a c.args.b c.args.rest.now c.args.skew c.args.transit c.in_ok-claims.claims.items
+    c.in_ok-claims.ensures c.in-Ok.journal c.in-Ok.is
+    c.in-Err-b.fault c.len-in-Err-b.result _ c.in-Err-b.is (search rules)
+    (c.in_ok-vec-in-Err-b.ensures.items_if_clones_equal (λ y e. search rules))
 
 pub returns-clause-rulings : goal.returns-clause-rulings
 returns-clause-rulings g c =
-    judged_by_both c.args.a c.args.b c.args.rest.now c.args.skew c.args.transit c.in_ok-claims.claims.items c.in_ok-claims.ensures c.in-Ok.journal c.in-Ok.is
-    c.in-Ok-b.journal _ c.in_ok-found.found.faults.items c.in_ok-found.found.certificates.items c.in_ok-rulings.rulings.items c.in_ok-woven.field-0.items c.in-Ok-b.is
-    (written_over c.read_all.new.claims c.in_ok-claims.claims.items _ c.in_ok-claims.claims.len (search rules) (c.read_all.ensures.texts ∙ ap (λ cs. texts_of cs) c.deref_mut.ensures.value)) c.in_ok-found.ensures
-    (subst (λ cs. AreRuledOn c.in-Ok.journal c.in-Ok-b.journal c.args.skew c.args.transit cs c.in_ok-rulings.rulings.items) c.deref.ensures.value c.in_ok-rulings.ensures.rulings)
-    (subst₂ (λ fs vs. c.in_ok-woven.field-0.items ≡ woven fs vs) c.deref-2.ensures.value c.deref-3.ensures.value c.in_ok-woven.ensures)
+    judged_by_both c.args.a c.args.b c.args.rest.now c.args.skew c.args.transit c.in_ok-claims.claims.items
+    c.in_ok-claims.ensures c.in-Ok.journal c.in-Ok.is
+    c.in-Ok-b.journal _ c.in_ok-found.found.faults.items c.in_ok-found.found.certificates.items
+    c.in_ok-rulings.rulings.items c.in_ok-woven.field-0.items c.in-Ok-b.is
+    (written_over c.read_all.new.claims c.in_ok-claims.claims.items _ c.in_ok-claims.claims.len (search rules)
+    (c.read_all.ensures.texts ∙ ap (λ cs. texts_of cs) c.deref_mut.ensures.value)) c.in_ok-found.ensures
+    (subst (λ cs. AreRuledOn c.in-Ok.journal c.in-Ok-b.journal c.args.skew c.args.transit cs
+    c.in_ok-rulings.rulings.items) c.deref.ensures.value c.in_ok-rulings.ensures.rulings)
+    (subst₂ (λ fs vs. c.in_ok-woven.field-0.items ≡ woven fs vs) c.deref-2.ensures.value c.deref-3.ensures.value
+    c.in_ok-woven.ensures)

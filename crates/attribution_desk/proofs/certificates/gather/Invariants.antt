@@ -6,5 +6,6 @@ use Rattle.attribution_desk.proofs.certificates.gather.Given as goal
 
 abbrev pub invariant-loop-claim : goal.invariant-loop-claim
 invariant-loop-claim l = AreRead (into_iter_items l.claim-iterator)
-    × GathersOn (into_iter_items l.initial.claim-iterator) (into_iter_items l.claim-iterator) l.faults.items l.certificates.items
+    × GathersOn (into_iter_items l.initial.claim-iterator) (into_iter_items l.claim-iterator) l.faults.items
+    l.certificates.items
     × (into_iter_len l.claim-iterator ≡ length (into_iter_items l.claim-iterator))

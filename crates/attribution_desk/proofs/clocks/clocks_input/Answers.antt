@@ -11,5 +11,7 @@ returns-clause-written g c =
     let answer = c.in_ok-answer.answer in
     written (λ input. IsClocks input) _ _ _ taken.0 answer.line.items answer.status taken.2
     (of_pair (λ a b. IsClocksOf a b answer.line.items answer.status) taken.0 _ _
-    (c.finish-pair.ensures.primary taken.0 has) (c.finish-pair.ensures.secondary taken.0 has) c.in_ok-answer.ensures.answer)
-    (subst (Appends (g.W.Write.contents c.args.writer.now.device) (g.W.Write.contents c.write_out.new.self.device)) c.deref.ensures.value c.in_ok-write_out.ensures.bytes)
+    (c.finish-pair.ensures.primary taken.0 has) (c.finish-pair.ensures.secondary taken.0 has)
+    c.in_ok-answer.ensures.answer)
+    (subst (Appends (g.W.Write.contents c.args.writer.now.device) (g.W.Write.contents c.write_out.new.self.device))
+    c.deref.ensures.value c.in_ok-write_out.ensures.bytes)

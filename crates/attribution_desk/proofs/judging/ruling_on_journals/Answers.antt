@@ -12,4 +12,8 @@ returns-in-Refused-clause-ruling g c =
 pub returns-clause-ruling : goal.returns-clause-ruling
 returns-clause-ruling g c =
     let fit = subst (IsRuled c.args.primary.now c.args.secondary.now c.args.skew) c.in-Fit.is c.in_ok-merged.ensures in
-    inr (fit.0, subst (λ js. IsVerdict js c.args.skew c.args.transit c.args.claim.now c.audit.result) c.in_ok-index.ensures c.audit.ensures.verdict)
+    inr (
+      fit.0,
+      subst (λ js. IsVerdict js c.args.skew c.args.transit c.args.claim.now c.audit.result)
+          c.in_ok-index.ensures c.audit.ensures.verdict,
+    )

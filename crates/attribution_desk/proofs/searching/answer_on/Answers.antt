@@ -7,22 +7,44 @@ use Rattle.attribution_desk.proofs.searching.answer_on.Goals as goal
 
 pub returns-in-Refused-clause-answer : goal.returns-in-Refused-clause-answer
 returns-in-Refused-clause-answer g c =
-    let out = subst (IsRuled c.args.primary.now c.args.secondary.now c.skew.result) c.in-Refused.is c.in_ok-merged.ensures in
-    inl (c.in-Refused.ruling, subst (λ (skew : ℕ). IsRuledOut c.args.primary.now c.args.secondary.now skew c.in-Refused.ruling) c.skew.ensures out, c.in_ok-answer-in-Refused.ensures.said)
+    let out = subst (IsRuled c.args.primary.now c.args.secondary.now c.skew.result) c.in-Refused.is
+    c.in_ok-merged.ensures in
+    inl (
+      c.in-Refused.ruling,
+      subst (λ (skew : ℕ). IsRuledOut c.args.primary.now c.args.secondary.now skew c.in-Refused.ruling)
+          c.skew.ensures out,
+      c.in_ok-answer-in-Refused.ensures.said,
+    )
 
 pub returns-in-Some-clause-answer : goal.returns-in-Some-clause-answer
 returns-in-Some-clause-answer g c =
-    let fit = subst (IsRuled c.args.primary.now c.args.secondary.now c.skew.result) c.in-Fit.is c.in_ok-merged.ensures in
-    let found : (o : Option Ruling) → o ≡ Some c.in-Some.ruling → MatchOption o (Allows c.args.search.now c.args.primary.now c.args.secondary.now) (Forbids c.args.search.now c.args.primary.now c.args.secondary.now) → Forbids c.args.search.now c.args.primary.now c.args.secondary.now c.in-Some.ruling =
-    λ o is h. subst (λ (x : Option Ruling). MatchOption x (Allows c.args.search.now c.args.primary.now c.args.secondary.now) (Forbids c.args.search.now c.args.primary.now c.args.secondary.now)) is h in
-    inr (subst (IsFit c.args.primary.now c.args.secondary.now) c.skew.ensures fit.0, inl (c.in-Some.ruling, found _ c.in-Some.is c.forbidden.ensures, c.in_ok-answer.ensures.said))
+    let fit = subst (IsRuled c.args.primary.now c.args.secondary.now c.skew.result) c.in-Fit.is c.in_ok-merged.ensures
+    in
+    let found : (o : Option Ruling) → o ≡ Some c.in-Some.ruling
+    → MatchOption o (Allows c.args.search.now c.args.primary.now c.args.secondary.now)
+    (Forbids c.args.search.now c.args.primary.now c.args.secondary.now)
+    → Forbids c.args.search.now c.args.primary.now c.args.secondary.now c.in-Some.ruling =
+    λ o is h. subst (λ (x : Option Ruling).
+    MatchOption x (Allows c.args.search.now c.args.primary.now c.args.secondary.now)
+    (Forbids c.args.search.now c.args.primary.now c.args.secondary.now)) is h in
+    inr (
+      subst (IsFit c.args.primary.now c.args.secondary.now) c.skew.ensures fit.0,
+      inl (c.in-Some.ruling, found _ c.in-Some.is c.forbidden.ensures, c.in_ok-answer.ensures.said),
+    )
 
 pub returns-clause-answer : goal.returns-clause-answer
 returns-clause-answer g c =
-    let fit = subst (IsRuled c.args.primary.now c.args.secondary.now c.skew.result) c.in-Fit.is c.in_ok-merged.ensures in
-    let allowed = subst (λ (x : Option Ruling). MatchOption x (Allows c.args.search.now c.args.primary.now c.args.secondary.now) (Forbids c.args.search.now c.args.primary.now c.args.secondary.now)) c.in_default.is c.forbidden.ensures in
+    let fit = subst (IsRuled c.args.primary.now c.args.secondary.now c.skew.result) c.in-Fit.is c.in_ok-merged.ensures
+    in
+    let allowed =
+    subst (λ (x : Option Ruling). MatchOption x (Allows c.args.search.now c.args.primary.now c.args.secondary.now)
+    (Forbids c.args.search.now c.args.primary.now c.args.secondary.now)) c.in_default.is c.forbidden.ensures in
     let answer = c.in_ok-answer-2.answer in
     inr (
       subst (IsFit c.args.primary.now c.args.secondary.now) c.skew.ensures fit.0,
-      inr (allowed, subst (λ js. Answered c.args.search.now js answer.line.items answer.status) c.in_ok-index.ensures c.in_ok-answer-2.ensures.answer),
+      inr (
+        allowed,
+        subst (λ js. Answered c.args.search.now js answer.line.items answer.status) c.in_ok-index.ensures
+            c.in_ok-answer-2.ensures.answer,
+      ),
     )

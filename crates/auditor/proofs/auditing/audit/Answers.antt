@@ -7,4 +7,5 @@ use Rattle.attribution.proofs.Headline.{headline}
 use Rattle.auditor.proofs.auditing.audit.Goals as goal
 
 pub returns-clause-headline : goal.returns-clause-headline
-returns-clause-headline g c accepted = headline AreLegal lawful _ _ _ _ (accepted_from _ _ _ _ (subst (IsVerdict _ _ _ _) accepted c.judgment.ensures))
+returns-clause-headline g c accepted = headline AreLegal lawful _ _ _ _
+    (accepted_from _ _ _ _ (subst (IsVerdict _ _ _ _) accepted c.judgment.ensures))

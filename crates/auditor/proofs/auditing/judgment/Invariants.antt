@@ -3,4 +3,5 @@ use Rattle.auditor.proofs.Asked.{AreAsked}
 use Rattle.auditor.proofs.auditing.judgment.Given as goal
 
 abbrev pub invariant-loop-condition : goal.invariant-loop-condition
-invariant-loop-condition g l = AreAsked (g.S.Lines.journals l.source) l.skew l.transit l.certificate CONDITIONS l.condition-index
+invariant-loop-condition g l = AreAsked (g.S.Lines.journals l.source) l.skew l.transit l.certificate CONDITIONS
+    l.condition-index

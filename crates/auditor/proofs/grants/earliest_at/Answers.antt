@@ -6,10 +6,12 @@ use Rattle.auditor.proofs.grants.earliest_at.Goals as goal
 
 pub returns-in_err-last_of_chain : goal.returns-in_err-last_of_chain
 returns-in_err-last_of_chain g c =
-    rw c.from_residual.ensures (no_chain_to _ _ _ c.args.skew (ap last_of_chain (sym c.as_slice-refs.ensures) ∙ sym c.in_err-last_of_chain.ensures))
+    rw c.from_residual.ensures (no_chain_to _ _ _ c.args.skew (ap last_of_chain (sym c.as_slice-refs.ensures)
+    ∙ sym c.in_err-last_of_chain.ensures))
 
 pub returns-then-ne : goal.returns-then-ne
-returns-then-ne g c = ends_elsewhere _ _ _ _ c.args.skew (c.in_ok-last_of_chain.ensures ∙ ap last_of_chain c.as_slice-refs.ensures) (search rules)
+returns-then-ne g c = ends_elsewhere _ _ _ _ c.args.skew (c.in_ok-last_of_chain.ensures
+    ∙ ap last_of_chain c.as_slice-refs.ensures) (search rules)
 
 pub returns : goal.returns
 returns g c =

@@ -7,7 +7,9 @@ pub returns-in-Grant : goal.returns-in-Grant
 returns-in-Grant c = overlap_tested _ _ _ c.overlaps.ensures ∙ ap (concerns c.args.prefix.now) (sym c.in-Grant.is)
 
 pub returns-in-Carry : goal.returns-in-Carry
-returns-in-Carry c = overlap_tested _ _ _ c.overlaps-in-Carry.ensures ∙ ap (concerns c.args.prefix.now) (sym c.in-Carry.is)
+returns-in-Carry c = overlap_tested _ _ _ c.overlaps-in-Carry.ensures
+    ∙ ap (concerns c.args.prefix.now) (sym c.in-Carry.is)
 
 pub returns-in-Release : goal.returns-in-Release
-returns-in-Release c = overlap_tested _ _ _ c.overlaps-in-Release.ensures ∙ ap (concerns c.args.prefix.now) (sym c.in-Release.is)
+returns-in-Release c = overlap_tested _ _ _ c.overlaps-in-Release.ensures
+    ∙ ap (concerns c.args.prefix.now) (sym c.in-Release.is)

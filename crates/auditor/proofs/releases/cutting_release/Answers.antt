@@ -11,5 +11,7 @@ pub returns : goal.returns
 returns g c =
     let js = g.S.Lines.journals c.args.source.now in
     cut_by_search js c.args.skew c.args.piece.now _ c.least_cutting.result c.in_ok-lease.ensures
-    (subst (λ (d : Delegation). MatchOption c.least_cutting.result ((r : Ref) → CutsLeaseShort js c.args.skew c.args.piece.now d r → ⊥) (IsLeast (CutsLeaseShort js c.args.skew c.args.piece.now d)))
+    (subst (λ (d : Delegation). MatchOption c.least_cutting.result ((r : Ref)
+    → CutsLeaseShort js c.args.skew c.args.piece.now d r
+    → ⊥) (IsLeast (CutsLeaseShort js c.args.skew c.args.piece.now d)))
     c.of_lease.ensures c.least_cutting.ensures)

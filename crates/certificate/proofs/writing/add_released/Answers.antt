@@ -10,5 +10,7 @@ returns c =
     let release = c.args.release in
     let order = c.args.order.now in
     let latest = c.args.latest.now in
-    pushed c.add_latest.result c.args.out.now.items c.add_release.new.out.items c.add_latest.new.out.items (behind 32 (release_words release order)) (behind 32 (latest_words latest)) (behind 32 (reason_words (Released release order latest))) c.add_latest.ensures c.in_ok-add_release.ensures
+    pushed c.add_latest.result c.args.out.now.items c.add_release.new.out.items c.add_latest.new.out.items
+    (behind 32 (release_words release order)) (behind 32 (latest_words latest))
+    (behind 32 (reason_words (Released release order latest))) c.add_latest.ensures c.in_ok-add_release.ensures
     (released_spelled release order latest)

@@ -4,4 +4,7 @@ use Rattle.claims.proofs.by_line.naming_in.Goals as goal
 
 pub returns : goal.returns
 returns g c =
-    named_between g.T.NamesLine.named c.args.entries.now c.args.order.now c.requires c.args.line c.count_before-first.result c.count_before-behind.result c.count_before-first.ensures.within c.count_before-behind.ensures.within (search rules) (search rules) (search rules) (search rules) (search rules)
+    named_between g.T.NamesLine.named c.args.entries.now c.args.order.now c.requires c.args.line
+    c.count_before-first.result c.count_before-behind.result c.count_before-first.ensures.within
+    c.count_before-behind.ensures.within (search rules) (search rules) (search rules) (search rules)
+    (search rules)

@@ -9,18 +9,19 @@ returns-then-is_err-clause-silent g c =
     let MayHave = g.S.Service.may_have in
     let had = g.S.Service.receipts c.args.pass.now in
     let mid = g.S.Service.receipts c.loop-place.pass in
-    let has = g.S.Service.receipts c.ended_at.new.pass in
+    let has = g.S.Service.receipts c.at_last_for.new.pass in
     let t = c.in-Ok.told in
     first_cut MayHave c.args.partner c.args.message.now c.args.now had has has (c.loop-place.place + 1)
     (c.loop-place.answers.items ++ t.answer ∷ []) (or_earlier t.line c.loop-place.line)
-    (first_more MayHave c.args.partner c.args.message.now c.args.now had mid has c.loop-place.place c.loop-place.answers.items
+    (first_more MayHave c.args.partner c.args.message.now c.args.now had mid has c.loop-place.place
+    c.loop-place.answers.items
     c.loop-place.line c.loop-place.invariant.3 t c.in-Ok.ensures)
 
 pub loop-place-preserved : goal.loop-place-preserved
 loop-place-preserved g c =
     let had = g.S.Service.receipts c.args.pass.now in
     let mid = g.S.Service.receipts c.loop-place.pass in
-    let has = g.S.Service.receipts c.ended_at.new.pass in
+    let has = g.S.Service.receipts c.at_last_for.new.pass in
     let items : c.push.new.self.items ≡ c.loop-place.answers.items ++ c.in-Ok.told.answer ∷ [] = search rules in (
       search rules,
       search rules,

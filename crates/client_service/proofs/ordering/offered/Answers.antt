@@ -9,5 +9,6 @@ returns-in-Err g c =
     let had = g.S.Service.receipts c.args.pass.now in
     let has = g.S.Service.receipts c.offer.new.pass in
     subst (λ x. EndsIn g.S.Service.may_have Solicit c.args.now c.args.order.now had has x) (sym c.told_of.ensures)
-    (offer_refusal g.S.Service.may_have c.args.now c.args.order.now had has c.in-Err.refusal c.requires c.in-Err.ensures.offered
+    (offer_refusal g.S.Service.may_have c.args.now c.args.order.now had has c.in-Err.refusal c.requires
+    c.in-Err.ensures.offered
     c.in-Err.ensures.same)

@@ -12,21 +12,25 @@ always P (Err e) p = tt
 
 pub returns-in-Ok-try_get_matches_from-clause-given : goal.returns-in-Ok-try_get_matches_from-clause-given
 returns-in-Ok-try_get_matches_from-clause-given c =
-    let rows = (c.in-Ok-try_get_matches_from.ensures.matches (ap is_simple c.in-Ok.ensures)).1 ∙ ap (λ (a : App). subcommand_of a (map string_bytes c.args.words.now)) c.in-Ok.ensures in
+    let rows = (c.in-Ok-try_get_matches_from.ensures.matches (ap is_simple c.in-Ok.ensures)).1
+    ∙ ap (λ (a : App). subcommand_of a (map string_bytes c.args.words.now)) c.in-Ok.ensures in
     subst (λ (o : Option (Text × List Row)). IfOk c.command_found.result (IsGiven o)) rows c.command_found.ensures.given
 
 pub returns-in-Ok-try_get_matches_from-clause-accepted : goal.returns-in-Ok-try_get_matches_from-clause-accepted
 returns-in-Ok-try_get_matches_from-clause-accepted c =
     always (fault_of desk (map string_bytes c.args.words.now) ≡ []) c.command_found.result
-    (subst (λ (a : App). fault_of a (map string_bytes c.args.words.now) ≡ []) c.in-Ok.ensures (c.in-Ok-try_get_matches_from.ensures.kinds (ap is_simple_and_free c.in-Ok.ensures)))
+    (subst (λ (a : App). fault_of a (map string_bytes c.args.words.now) ≡ []) c.in-Ok.ensures
+    (c.in-Ok-try_get_matches_from.ensures.kinds (ap is_simple_and_free c.in-Ok.ensures)))
 
 pub returns-in-Ok-try_get_matches_from-clause-refused : goal.returns-in-Ok-try_get_matches_from-clause-refused
 returns-in-Ok-try_get_matches_from-clause-refused c usage taken =
-    let rows = (c.in-Ok-try_get_matches_from.ensures.matches (ap is_simple c.in-Ok.ensures)).1 ∙ ap (λ (a : App). subcommand_of a (map string_bytes c.args.words.now)) c.in-Ok.ensures in
+    let rows = (c.in-Ok-try_get_matches_from.ensures.matches (ap is_simple c.in-Ok.ensures)).1
+    ∙ ap (λ (a : App). subcommand_of a (map string_bytes c.args.words.now)) c.in-Ok.ensures in
     subst IsNoCommand rows (c.command_found.ensures.refused usage)
 
 pub returns-in-Err-clause-refused : goal.returns-in-Err-clause-refused
 returns-in-Err-clause-refused c usage taken =
-    let kind = c.in-Err.ensures.passes (subst (λ (a : App). takes a (map string_bytes c.args.words.now) ≡ true) (sym c.in-Ok.ensures) taken) in
+    let kind = c.in-Err.ensures.passes (subst (λ (a : App). takes a (map string_bytes c.args.words.now) ≡ true)
+    (sym c.in-Ok.ensures) taken) in
     let memory = c.usage_error.ensures kind in
     absurd (cc)

@@ -9,7 +9,11 @@ returns-in_err-number-clause-none c none n is =
 
 pub returns-then-number-most-clause-none : goal.returns-then-number-most-clause-none
 returns-then-number-most-clause-none c none n is =
-    none_within c.args.most c.ranges.most.fits c.args.text.now c.in_ok-number.number (rw (sym c.as_bytes.ensures.value) c.in_ok-number.ensures) (omega (arith, c.if-number-most.true)) n is
+    none_within c.args.most c.ranges.most.fits c.args.text.now c.in_ok-number.number
+    (rw (sym c.as_bytes.ensures.value) c.in_ok-number.ensures) (omega (arith, c.if-number-most.true)) n is
 
 pub returns-clause-given : goal.returns-clause-given
-returns-clause-given c = (sym c.as_bytes.ensures.value ∙ (number_takes _ _ c.in_ok-number.ensures).0, omega (arith, c.if-number-most.false))
+returns-clause-given c = (
+  sym c.as_bytes.ensures.value ∙ (number_takes _ _ c.in_ok-number.ensures).0,
+  omega (arith, c.if-number-most.false),
+)

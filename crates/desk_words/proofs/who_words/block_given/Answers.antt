@@ -7,15 +7,18 @@ use Rattle.desk_words.proofs.who_words.block_given.Goals as goal
 
 pub returns-in_default-clause-none : goal.returns-in_default-clause-none
 returns-in_default-clause-none c usage p is =
-    let found : None ≡ first_of (codes "prefix") (rows_of (found_of c.args.options.now)) = c.in_default.ensures ∙ first_value-rows (found_of c.args.options.now) (codes "prefix") in
+    let found : None ≡ first_of (codes "prefix") (rows_of (found_of c.args.options.now)) =
+    c.in_default.ensures ∙ first_value-rows (found_of c.args.options.now) (codes "prefix") in
     subst (λ (o : Option Text). IsBlockText o p) (sym found) is
 
 pub returns-clause-given : goal.returns-clause-given
 returns-clause-given c =
-    let found : Some c.in-Some.text.now ≡ first_of (codes "prefix") (rows_of (found_of c.args.options.now)) = c.in-Some.ensures ∙ first_value-rows (found_of c.args.options.now) (codes "prefix") in
+    let found : Some c.in-Some.text.now ≡ first_of (codes "prefix") (rows_of (found_of c.args.options.now)) =
+    c.in-Some.ensures ∙ first_value-rows (found_of c.args.options.now) (codes "prefix") in
     subst (λ (o : Option Text). IfOk c.block_in.result (IsBlockText o)) found c.block_in.ensures.given
 
 pub returns-clause-none : goal.returns-clause-none
 returns-clause-none c usage p is =
-    let found : Some c.in-Some.text.now ≡ first_of (codes "prefix") (rows_of (found_of c.args.options.now)) = c.in-Some.ensures ∙ first_value-rows (found_of c.args.options.now) (codes "prefix") in
+    let found : Some c.in-Some.text.now ≡ first_of (codes "prefix") (rows_of (found_of c.args.options.now)) =
+    c.in-Some.ensures ∙ first_value-rows (found_of c.args.options.now) (codes "prefix") in
     c.block_in.ensures.none usage p (subst (λ (o : Option Text). IsBlockText o p) (sym found) is)

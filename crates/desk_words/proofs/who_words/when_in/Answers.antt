@@ -5,5 +5,6 @@ use Rattle.desk_words.proofs.who_words.when_in.Goals as goal
 pub returns-clause-none : goal.returns-clause-none
 returns-clause-none c none m is = elim is.1 [
   | inl number ↦ c.in_default.ensures.none refl m (number, is.0)
-  | inr time ↦ c.read_time.ensures.none none m is.0 (subst (λ (text : List ℕ). IsTimeOf text m) (sym c.as_bytes.ensures.value) time)
+  | inr time ↦ c.read_time.ensures.none none m is.0
+      (subst (λ (text : List ℕ). IsTimeOf text m) (sym c.as_bytes.ensures.value) time)
 ]

@@ -17,7 +17,9 @@ pub returns-in_err-keep : goal.returns-in_err-keep
 returns-in_err-keep g c =
     let here = took _ _ _ _ c.next_option.ensures (c.in_ok-option.was ∙ ap (λ o. Ok o) c.in-Some.is) in
     let p = err_from_is_err_and c.from_residual-in_err-keep.result c.from_residual-in_err-keep.ensures.1 in
-    rw (p.1, p.2) (fails_with {X = Unit {0}} (λ _. c.loop-option.kept) _ _ c.keep.new.self _ _ _ _ _ c.loop-option.invariant here c.in_err-keep.ensures)
+    rw (p.1, p.2) (fails_with {X = Unit {0}} (λ _. c.loop-option.kept) _ _ c.keep.new.self _ _ _ _ _
+    c.loop-option.invariant here c.in_err-keep.ensures)
 
 pub returns : goal.returns
-returns g c = ends _ _ _ _ c.loop-option.invariant (ended _ _ _ c.next_option.ensures (c.in_ok-option.was ∙ ap (λ o. Ok o) c.in_default.is))
+returns g c = ends _ _ _ _ c.loop-option.invariant
+    (ended _ _ _ c.next_option.ensures (c.in_ok-option.was ∙ ap (λ o. Ok o) c.in_default.is))

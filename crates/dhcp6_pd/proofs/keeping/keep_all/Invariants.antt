@@ -3,7 +3,8 @@ use Rattle.dhcp6_pd.proofs.Folding.{IsFolded, row_length}
 use Rattle.dhcp6_pd.proofs.keeping.keep_all.Given as goal
 
 abbrev pub invariant-loop-option : goal.invariant-loop-option
-invariant-loop-option g l = IsFolded g.K.Keeps.step l.kept (row_of l.options.rest.now) (folded g.K.Keeps.step l.fn.kept (row_of l.fn.options.rest.now))
+invariant-loop-option g l = IsFolded g.K.Keeps.step l.kept (row_of l.options.rest.now)
+    (folded g.K.Keeps.step l.fn.kept (row_of l.fn.options.rest.now))
 
 abbrev pub decreases-loop-option : goal.decreases-loop-option
 decreases-loop-option g l = row_length (row_of l.options.rest.now)

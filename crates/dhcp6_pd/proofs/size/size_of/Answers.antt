@@ -12,7 +12,8 @@ returns-in_err-size c =
     let m = c.args.message.now in
     let p = err_from_is_err_and c.from_residual.result c.from_residual.ensures.1 in
     let ias = ap (λ (rs : _). length (flat_map ia_octets rs)) c.as_slice.ensures in
-    rw (p.1, p.2) (sym (fitting_more _ _ _ (omega (arith, message_length m, ias, c.head_size.ensures.value)) (sym c.ias_size.ensures ∙ c.in_err-size.was)))
+    rw (p.1, p.2) (sym (fitting_more _ _ _ (omega (arith, message_length m, ias, c.head_size.ensures.value))
+    (sym c.ias_size.ensures ∙ c.in_err-size.was)))
 
 pub returns : goal.returns
 returns c =

@@ -21,4 +21,6 @@ returns-clause-written c =
     let inside = c.in_ok-push_relays.ensures (server_octets m) (omega (arith, fit, relays, none)) in
     let empty = c.in_ok-out.ensures.items in
     let listed = c.as_slice.ensures in
-    c.in_ok-push_server.ensures ∙ (inside ∙ (ap (λ (xs : List ℕ). xs ++ relayed c.as_slice.result.now (server_octets m)) empty ∙ ap (λ (rs : List Relay). relayed rs (server_octets m)) listed))
+    c.in_ok-push_server.ensures
+    ∙ (inside ∙ (ap (λ (xs : List ℕ). xs ++ relayed c.as_slice.result.now (server_octets m)) empty
+    ∙ ap (λ (rs : List Relay). relayed rs (server_octets m)) listed))

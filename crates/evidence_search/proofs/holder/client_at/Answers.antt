@@ -9,12 +9,16 @@ pub returns-in_default-messages-clause-client : goal.returns-in_default-messages
 returns-in_default-messages-clause-client g c =
     let js = g.S.Lines.journals c.args.source.now in
     let at = c.args.at in
-    let found = subst (λ (q : Query). MatchOption c.in_ok-plain.plain ((m : ℕ) → q.from ≤ m → CarriesAt js q m at → ⊥) (λ x. (x.grant ≡ at) × IsReach js q x)) c.held_by-held.ensures c.in_ok-plain.ensures.reach in
-    not_carried js c.args.query.now at c.in-Some.lease c.in-Some.ensures c.in_ok-plain.plain found (λ h. let e : false ≡ true = c.if-carries.ensures.1 h in cc)
+    let found = subst (λ (q : Query). MatchOption c.in_ok-plain.plain ((m : ℕ) → q.from ≤ m → CarriesAt js q m at
+    → ⊥) (λ x. (x.grant ≡ at) × IsReach js q x)) c.held_by-held.ensures c.in_ok-plain.ensures.reach in
+    not_carried js c.args.query.now at c.in-Some.lease c.in-Some.ensures c.in_ok-plain.plain found
+    (λ h. let e : false ≡ true = c.if-carries.ensures.1 h in cc)
 
 pub returns-clause-client : goal.returns-clause-client
 returns-clause-client g c =
     let js = g.S.Lines.journals c.args.source.now in
     let at = c.args.at in
-    let found = subst (λ (q : Query). MatchOption c.in_ok-plain.plain ((m : ℕ) → q.from ≤ m → CarriesAt js q m at → ⊥) (λ x. (x.grant ≡ at) × IsReach js q x)) c.held_by-held.ensures c.in_ok-plain.ensures.reach in
-    not_carried js c.args.query.now at c.in-Some.lease c.in-Some.ensures c.in_ok-plain.plain found (λ h. let e : false ≡ true = c.if-carries.ensures.1 h in cc)
+    let found = subst (λ (q : Query). MatchOption c.in_ok-plain.plain ((m : ℕ) → q.from ≤ m → CarriesAt js q m at
+    → ⊥) (λ x. (x.grant ≡ at) × IsReach js q x)) c.held_by-held.ensures c.in_ok-plain.ensures.reach in
+    not_carried js c.args.query.now at c.in-Some.lease c.in-Some.ensures c.in_ok-plain.plain found
+    (λ h. let e : false ≡ true = c.if-carries.ensures.1 h in cc)

@@ -7,4 +7,5 @@ returns-then-milliseconds-clause-none g c _ =
     let at = c.milliseconds.ensures.value in
     let closed = c.milliseconds-2.ensures.value in
     let past = c.if-milliseconds.true in
-    past_closing (g.S.Lines.journals c.args.source.now) c.args.query.now c.close_reading-closed.result c.close_reading-closed.ensures (omega arith)
+    past_closing (g.S.Lines.journals c.args.source.now) c.args.query.now c.close_reading-closed.result
+    c.close_reading-closed.ensures (omega arith)

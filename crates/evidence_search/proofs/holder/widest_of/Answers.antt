@@ -9,28 +9,36 @@ use Rattle.evidence_search.proofs.holder.widest_of.Goals as goal
 pub returns-clause-round : goal.returns-clause-round
 returns-clause-round g c =
     let js = g.S.Lines.journals c.args.source.now in
-    let round = subst (λ (q : Query). IfOk c.widest.result (IsShownRound js q)) c.held_by-held.ensures c.widest.ensures.round in
+    let round = subst (λ (q : Query). IfOk c.widest.result (IsShownRound js q)) c.held_by-held.ensures
+    c.widest.ensures.round in
     round_of js c.args.query.now c.args.holder c.widest.result round
 
 pub returns-clause-shown : goal.returns-clause-shown
 returns-clause-shown g c =
     let js = g.S.Lines.journals c.args.source.now in
-    let round = subst (λ (q : Query). IfOk c.widest.result (IsShownRound js q)) c.held_by-held.ensures c.widest.ensures.round in
+    let round = subst (λ (q : Query). IfOk c.widest.result (IsShownRound js q)) c.held_by-held.ensures
+    c.widest.ensures.round in
     accepted_of js c.args.query.now c.args.holder c.widest.result round
 
 pub returns-clause-headline : goal.returns-clause-headline
 returns-clause-headline g c =
     let js = g.S.Lines.journals c.args.source.now in
-    let round = subst (λ (q : Query). IfOk c.widest.result (IsShownRound js q)) c.held_by-held.ensures c.widest.ensures.round in
+    let round = subst (λ (q : Query). IfOk c.widest.result (IsShownRound js q)) c.held_by-held.ensures
+    c.widest.ensures.round in
     true_of js c.args.query.now c.args.holder c.widest.result round
 
 pub returns-clause-widest : goal.returns-clause-widest
 returns-clause-widest g c =
     let js = g.S.Lines.journals c.args.source.now in
-    let round = subst (λ (q : Query). IfOk c.widest.result (IsShownRound js q)) c.held_by-held.ensures c.widest.ensures.round in
-    let earliest = subst (λ (q : Query). IfOk c.widest.result (λ (k : Certificate). (m : ℕ) → m + 1 ≡ k.from → HasNoPlainEvidence js (between q m q.to))) c.held_by-held.ensures c.widest.ensures.earliest in
-    let latest = subst (λ (q : Query). IfOk c.widest.result (λ (k : Certificate). HasNoPlainEvidence js (between q k.from (k.to + 1)))) c.held_by-held.ensures c.widest.ensures.latest in
+    let round = subst (λ (q : Query). IfOk c.widest.result (IsShownRound js q)) c.held_by-held.ensures
+    c.widest.ensures.round in
+    let earliest = subst (λ (q : Query). IfOk c.widest.result (λ (k : Certificate). (m : ℕ) → m + 1 ≡ k.from
+    → HasNoPlainEvidence js (between q m q.to))) c.held_by-held.ensures c.widest.ensures.earliest in
+    let latest =
+    subst (λ (q : Query). IfOk c.widest.result (λ (k : Certificate).
+    HasNoPlainEvidence js (between q k.from (k.to + 1)))) c.held_by-held.ensures c.widest.ensures.latest in
     widest_of js c.args.query.now c.args.holder c.widest.result round earliest latest
 
 pub returns-clause-none : goal.returns-clause-none
-returns-clause-none g c none = subst (λ (q : Query). HasNoPlainEvidence (g.S.Lines.journals c.args.source.now) q) c.held_by-held.ensures (c.widest.ensures.none none)
+returns-clause-none g c none = subst (λ (q : Query). HasNoPlainEvidence (g.S.Lines.journals c.args.source.now) q)
+    c.held_by-held.ensures (c.widest.ensures.none none)

@@ -13,5 +13,7 @@ loop-low-preserved g c =
       within = (let test = c.loop-low-test.true in let first = c.milliseconds.ensures.value in omega arith);
       none = λ m is. (
           let same : from ≡ m = omega arith in
-          subst (λ (n : ℕ). HasNoPlainEvidence (g.S.Lines.journals c.args.source.now) (between c.args.query.now n c.args.query.now.to)) same (c.in-Err-NoneFound.ensures.none (ap Err c.in-Err-NoneFound.field-0-is)));
+          subst (λ (n : ℕ). HasNoPlainEvidence (g.S.Lines.journals c.args.source.now)
+          (between c.args.query.now n c.args.query.now.to)) same
+          (c.in-Err-NoneFound.ensures.none (ap Err c.in-Err-NoneFound.field-0-is)));
     }

@@ -13,4 +13,6 @@ pub returns-else-milliseconds-clause-last : goal.returns-else-milliseconds-claus
 returns-else-milliseconds-clause-last g c to lt =
     let value = c.milliseconds.ensures.value in
     let is = c.in-Some.ensures in
-    past_reading _ c.close_reading-closed.result _ c.close_reading-closed.ensures (let less = c.if-milliseconds.false in let first = c.milliseconds-2.ensures.value in let second = c.milliseconds-3.ensures.value in omega arith)
+    past_reading _ c.close_reading-closed.result _ c.close_reading-closed.ensures (let less =
+    c.if-milliseconds.false in let first = c.milliseconds-2.ensures.value in
+    let second = c.milliseconds-3.ensures.value in omega arith)

@@ -8,7 +8,8 @@ loop-alloc-init g c = record {
   round = c.requires.round;
   from_is = refl;
   within = c.last_shown-high.ensures.least;
-  none = none_past (g.S.Lines.journals c.args.source.now) c.args.query.now c.args.found.from (c.last_shown-high.result + 1) (c.last_shown-high.ensures.last (c.last_shown-high.result + 1) (omega arith));
+  none = none_past (g.S.Lines.journals c.args.source.now) c.args.query.now c.args.found.from
+      (c.last_shown-high.result + 1) (c.last_shown-high.ensures.last (c.last_shown-high.result + 1) (omega arith));
 }
 
 pub returns-clause-latest : goal.returns-clause-latest

@@ -7,5 +7,7 @@ returns-clause-frames c = chunks_are_one
 
 pub returns-clause-faults : goal.returns-clause-faults
 returns-clause-faults c feds rest chunk fault h octets =
-    let s = chunks_are_one feds rest h in
-    (fault_of_stream (chunks_of feds) chunk rest (frames_of feds) fault s, fault_of_rest (chunks_of feds) chunk rest (frames_of feds) fault octets s)
+    let s = chunks_are_one feds rest h in (
+      fault_of_stream (chunks_of feds) chunk rest (frames_of feds) fault s,
+      fault_of_rest (chunks_of feds) chunk rest (frames_of feds) fault octets s,
+    )

@@ -7,7 +7,8 @@ abbrev pub invariant-loop-i : goal.invariant-loop-i
 invariant-loop-i l = (l.i ≤ length l.first) × (l.j ≤ length l.second)
     × ((line : Line) → slice_get l.first l.i ≡ Some line → IsTrue (is_setting line.event))
     × ((line : Line) → slice_get l.second l.j ≡ Some line → IsTrue (is_setting line.event))
-    × ((settings_of (drop l.i l.first) ≡ settings_of (drop l.j l.second)) ↔ (settings_of l.first ≡ settings_of l.second))
+    × ((settings_of (drop l.i l.first) ≡ settings_of (drop l.j l.second))
+    ↔ (settings_of l.first ≡ settings_of l.second))
 
 abbrev pub decreases-loop-i : goal.decreases-loop-i
 decreases-loop-i l = length l.first - l.i

@@ -15,5 +15,6 @@ returns-clause-verdicts g c =
     let threads = c.in_ok-done.ensures.len in
     let seats = c.in_ok-seats.ensures.seats.0 in
     let some : 0 < length c.in_ok-done.done.items = omega arith in
-    let each = all_settled Q count c.settled.new.mine.me.0.numbers c.in_ok-verdicts.verdicts.items all.0 e.settled all.1 (e.past some) in
+    let each = all_settled Q count c.settled.new.mine.me.0.numbers c.in_ok-verdicts.verdicts.items all.0 e.settled
+    all.1 (e.past some) in
     record { count = e.count; each = all_each Q count c.in_ok-verdicts.verdicts.items each e.count }

@@ -11,5 +11,6 @@ invariant-draws g l = record {
   table : l.seat.table_id ≡ l.word.table_id;
   view : l.seat.me.0 ≡ seat_of (length l.batch.certificates.now) 1 (map (λ (f : Found). f.index) l.found.items);
   slots : l.seat.me.1 ≡ [];
-  right : All (IsRight (IsVerdictAt (g.S.Lines.journals l.batch.source.now) l.batch.skew l.batch.transit l.batch.certificates.now) (length l.batch.certificates.now)) l.found.items;
+  right : All (IsRight (IsVerdictAt (g.S.Lines.journals l.batch.source.now) l.batch.skew l.batch.transit
+      l.batch.certificates.now) (length l.batch.certificates.now)) l.found.items;
 }

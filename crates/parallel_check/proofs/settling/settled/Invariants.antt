@@ -12,9 +12,12 @@ invariant-seats g l = record {
   limit : l.mine.me.0.limit ≡ l.word.key;
   parts : l.mine.me.0.parts + length l.done.items ≡ l.initial.mine.me.0.parts + length l.initial.done.items;
   shorter : length l.done.items ≤ length l.initial.done.items;
-  done : All (IsDone (IsVerdictAt (g.S.Lines.journals l.batch.source.now) l.batch.skew l.batch.transit l.batch.certificates.now) (length l.batch.certificates.now) l.word.table_id) l.done.items;
-  settled : Settled (IsVerdictAt (g.S.Lines.journals l.batch.source.now) l.batch.skew l.batch.transit l.batch.certificates.now) (length l.batch.certificates.now) l.mine.me.0.numbers l.verdicts;
-  past : length l.done.items < length l.initial.done.items → (n : ℕ) × (length l.batch.certificates.now ≤ n) × (0 < times n l.mine.me.0.numbers);
+  done : All (IsDone (IsVerdictAt (g.S.Lines.journals l.batch.source.now) l.batch.skew l.batch.transit
+      l.batch.certificates.now) (length l.batch.certificates.now) l.word.table_id) l.done.items;
+  settled : Settled (IsVerdictAt (g.S.Lines.journals l.batch.source.now) l.batch.skew l.batch.transit
+      l.batch.certificates.now) (length l.batch.certificates.now) l.mine.me.0.numbers l.verdicts;
+  past : length l.done.items < length l.initial.done.items → (n : ℕ) × (length l.batch.certificates.now ≤ n)
+      × (0 < times n l.mine.me.0.numbers);
 }
 
 abbrev pub decreases-seats : goal.decreases-seats

@@ -4,7 +4,9 @@ use Rattle.plain_search.proofs.Carrying.{AreReached}
 use Rattle.plain_search.proofs.reach.found_reaches.Given as goal
 
 abbrev pub invariant-loop-at : goal.invariant-loop-at
-invariant-loop-at g l = AreReached (g.S.Lines.journals l.source) l.query (g.S.LineSource.left l.source l.query.prefix l.walk) l.reaches.items × IsRecent (g.S.Lines.journals l.source) l.recent
+invariant-loop-at g l = AreReached (g.S.Lines.journals l.source) l.query
+    (g.S.LineSource.left l.source l.query.prefix l.walk) l.reaches.items
+    × IsRecent (g.S.Lines.journals l.source) l.recent
 
 abbrev pub decreases-loop-at : goal.decreases-loop-at
 decreases-loop-at g l = length (g.S.LineSource.left l.source l.query.prefix l.walk)

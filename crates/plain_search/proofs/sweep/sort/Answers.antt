@@ -6,4 +6,5 @@ use Rattle.plain_search.proofs.sweep.sort.Goals as goal
 
 pub returns-clause-sorted : goal.returns-clause-sorted
 returns-clause-sorted c =
-    on_ok_weaker c.sort_by_key.result (λ sorted. IsNonDecreasingBy-from_sort_by_key (λ (x : Reach). x.begin) _ sorted (λ a r q k. search rules)) c.sort_by_key.ensures.sorted
+    on_ok_weaker c.sort_by_key.result (λ sorted. IsNonDecreasingBy-from_sort_by_key (λ (x : Reach). x.begin) _ sorted
+    (λ a r q k. search rules)) c.sort_by_key.ensures.sorted

@@ -13,7 +13,9 @@ pub returns-in_err-length : goal.returns-in_err-length
 returns-in_err-length c = rw c.from_residual-in_err-length.ensures (no_length _ c.in_err-length.ensures)
 
 pub returns-then-length-gt128 : goal.returns-then-length-gt128
-returns-then-length-gt128 c = both_read _ _ _ (omega arith) c.if-word-ne47.false c.in_ok-address.ensures c.in_ok-length.ensures ∙ too_long _ _ c.if-length-gt128.true
+returns-then-length-gt128 c = both_read _ _ _ (omega arith) c.if-word-ne47.false c.in_ok-address.ensures
+    c.in_ok-length.ensures ∙ too_long _ _ c.if-length-gt128.true
 
 pub returns : goal.returns
-returns c = rw (both_read _ _ _ (omega arith) c.if-word-ne47.false c.in_ok-address.ensures c.in_ok-length.ensures) (grind (arith, common_steps))
+returns c = rw (both_read _ _ _ (omega arith) c.if-word-ne47.false c.in_ok-address.ensures c.in_ok-length.ensures)
+    (grind (arith, common_steps))

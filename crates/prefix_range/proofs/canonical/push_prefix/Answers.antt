@@ -8,5 +8,6 @@ returns c =
     let same = sym (address_groups c.args.prefix.now.address) in
     let groups = rw (c.first.ensures.value, same) at c.in_ok-push_groups.ensures in
     pushed _ c.args.out.now.items _ _ _ _ _ c.push_number.ensures
-    (c.in_ok-push.ensures.items ∙ (ap (λ (l : List ℕ). l ++ 47 ∷ []) groups ∙ append_assoc c.args.out.now.items _ (47 ∷ [])))
+    (c.in_ok-push.ensures.items ∙ (ap (λ (l : List ℕ). l ++ 47 ∷ []) groups
+    ∙ append_assoc c.args.out.now.items _ (47 ∷ [])))
     (rw (c.from.ensures, c.len.ensures.value) (sym (append_assoc _ (47 ∷ []) _)))

@@ -10,4 +10,5 @@ pub returns-in-Some-clause-only : goal.returns-in-Some-clause-only
 returns-in-Some-clause-only c p h e = let same = sym c.in-Some.ensures ∙ (ap prefix_word e ∙ prefix_again p h) in cc
 
 pub returns-in-None-clause-only : goal.returns-in-None-clause-only
-returns-in-None-clause-only c p h e = let same = sym c.in-None.ensures ∙ (ap prefix_word e ∙ prefix_again p h) in absurd cc
+returns-in-None-clause-only c p h e = let same = sym c.in-None.ensures ∙ (ap prefix_word e ∙ prefix_again p h) in
+    absurd cc

@@ -15,13 +15,16 @@ loop-wanted-preserved c =
           let grown = w.in_ok-extend_from_slice.ensures.items in
           let one : List Complaint = w.in-Some.complaint ∷ [] in (
             old.0 ++ one,
-            ap (λ (v : Vec Complaint Global). v.items) w.out-is ∙ grown ∙ ap (λ (l : List Complaint). l ++ one) old.1 ∙ append_assoc c.args.out.now.items old.0 one,
-            next_more m c.args.place c.args.wishes.now c.loop-wanted.wanted-index _ old.0 w.in-Some.complaint c.loop-wanted-test.true old.2 about,
+            ap (λ (v : Vec Complaint Global). v.items) w.out-is ∙ grown ∙ ap (λ (l : List Complaint). l ++ one) old.1
+                ∙ append_assoc c.args.out.now.items old.0 one,
+            next_more m c.args.place c.args.wishes.now c.loop-wanted.wanted-index _ old.0 w.in-Some.complaint
+                c.loop-wanted-test.true old.2 about,
           ))
       | in_default w ↦
           (let met = w.in_default.ensures in (
             old.0,
             ap (λ (v : Vec Complaint Global). v.items) w.out-is ∙ old.1,
-            next_met m c.args.place c.args.wishes.now c.loop-wanted.wanted-index _ old.0 c.loop-wanted-test.true old.2 met,
+            next_met m c.args.place c.args.wishes.now c.loop-wanted.wanted-index _ old.0 c.loop-wanted-test.true old.2
+                met,
           ))
     ]

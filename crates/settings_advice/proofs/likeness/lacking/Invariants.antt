@@ -4,4 +4,7 @@ use Rattle.settings_advice.specs.Nearest.{lacks}
 use Rattle.settings_advice.proofs.likeness.lacking.Given as goal
 
 abbrev pub invariant-loop-octet : goal.invariant-loop-octet
-invariant-loop-octet l = record { count : l.count ≡ count_by (lacks l.other) (take l.octet-index l.word); few : l.count ≤ l.octet-index }
+invariant-loop-octet l = record {
+  count : l.count ≡ count_by (lacks l.other) (take l.octet-index l.word);
+  few : l.count ≤ l.octet-index;
+}

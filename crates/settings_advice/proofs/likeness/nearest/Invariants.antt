@@ -5,4 +5,8 @@ use Rattle.settings_advice.specs.Nearest.{apart}
 use Rattle.settings_advice.proofs.likeness.nearest.Given as goal
 
 abbrev pub invariant-loop-key : goal.invariant-loop-key
-invariant-loop-key l = record { known : Contains l.known l.best; least : (k : ℕ) → k < l.key-index → (d : Key) → apart l.word (key_name l.best) ≤ apart l.word (key_name (get_or l.known k d)) }
+invariant-loop-key l = record {
+  known : Contains l.known l.best;
+  least : (k : ℕ) → k < l.key-index → (d : Key)
+      → apart l.word (key_name l.best) ≤ apart l.word (key_name (get_or l.known k d));
+}

@@ -9,7 +9,8 @@ loop-before-preserved c =
     let new = c.in_ok-add_of_pool.ensures in (
       old.0 ++ new.0,
       new.1 ∙ ap (λ (l : List Complaint). l ++ new.0) old.1 ∙ append_assoc c.args.out.now.items old.0 new.0,
-      one_more_pool c.args.pools.now c.loop-before.before c.index-pools-before.result old.0 new.0 c.loop-before-test.true c.index-pools-before.is old.2 new.2,
+      one_more_pool c.args.pools.now c.loop-before.before c.index-pools-before.result old.0 new.0
+          c.loop-before-test.true c.index-pools-before.is old.2 new.2,
     )
 
 pub returns : goal.returns

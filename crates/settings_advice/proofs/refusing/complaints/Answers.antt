@@ -13,7 +13,9 @@ returns c =
     record {
       top = top.0;
       of_pools = pools.0;
-      joined = pools.1 ∙ ap (λ (l : List Complaint). l ++ pools.0) (top.1 ∙ ap (λ (l : List Complaint). l ++ top.0) c.new-out.ensures.items);
-      keys = subst (λ (ws : List Wanted). AreComplaints (table_view c.args.table.now) Top ws top.0) c.wishes.ensures top.2;
+      joined = pools.1 ∙ ap (λ (l : List Complaint). l ++ pools.0) (top.1
+          ∙ ap (λ (l : List Complaint). l ++ top.0) c.new-out.ensures.items);
+      keys = subst (λ (ws : List Wanted). AreComplaints (table_view c.args.table.now) Top ws top.0) c.wishes.ensures
+          top.2;
       pools = pools.2;
     }

@@ -7,8 +7,11 @@ returns c = sym c.loop-value.invariant ∙ pools_end _ _ _ c.loop-value-test.fal
 
 pub loop-value-preserved : goal.loop-value-preserved
 loop-value-preserved c =
-    let on = pools_on c.loop-value.pools.items c.loop-value.value-index _ c.value-item.result c.in-Some.pool c.loop-value-test.true c.value-item.is (rw c.in-Some.is at c.pool_of.ensures) in
+    let on = pools_on c.loop-value.pools.items c.loop-value.value-index _ c.value-item.result c.in-Some.pool
+    c.loop-value-test.true c.value-item.is (rw c.in-Some.is at c.pool_of.ensures) in
     rw c.in_ok-extend_from_slice.ensures.items (sym on ∙ c.loop-value.invariant)
 
 pub returns-in_default : goal.returns-in_default
-returns-in_default c = sym c.loop-value.invariant ∙ pools_off c.loop-value.pools.items _ _ _ c.loop-value-test.true c.value-item.is (rw c.in_default.is at c.pool_of.ensures)
+returns-in_default c = sym c.loop-value.invariant
+    ∙ pools_off c.loop-value.pools.items _ _ _ c.loop-value-test.true c.value-item.is
+    (rw c.in_default.is at c.pool_of.ensures)

@@ -5,4 +5,5 @@ use Rattle.settings_text.specs.Document.{pools_of}
 use Rattle.settings_text.proofs.document.pools_of.Given as goal
 
 abbrev pub invariant-loop-value : goal.invariant-loop-value
-invariant-loop-value l = option_map (λ ps. l.pools.items ++ ps) (pools_of (items_view (drop l.value-index l.values))) ≡ pools_of (items_view l.values)
+invariant-loop-value l = option_map (λ ps. l.pools.items ++ ps) (pools_of (items_view (drop l.value-index l.values)))
+    ≡ pools_of (items_view l.values)

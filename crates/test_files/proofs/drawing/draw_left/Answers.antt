@@ -6,7 +6,8 @@ use Rattle.test_files.proofs.drawing.draw_left.Goals as goal
 pub loop-draws-init : goal.loop-draws-init
 loop-draws-init c =
     let s = c.args.state.now in
-    subst (IsFront (file_of s)) (sym (c.in_ok-content.ensures {u = tt})) (sure_front (file_of s) (min s.synced (length s.written.items)) (omega arith))
+    subst (IsFront (file_of s)) (sym (c.in_ok-content.ensures {u = tt}))
+    (sure_front (file_of s) (min s.synced (length s.written.items)) (omega arith))
 
 pub loop-draws-preserved : goal.loop-draws-preserved
 loop-draws-preserved c =
@@ -18,4 +19,5 @@ loop-draws-preserved c =
     (more_front f items c.octet_of.result c.loop-draws.invariant (search rules) (search rules))
 
 pub returns : goal.returns
-returns c = is_left (file_of c.args.state.now) c.loop-draws.content.items c.loop-draws.invariant (omega (arith, c.draw_length-length.ensures, c.len.ensures, c.loop-draws-test.false))
+returns c = is_left (file_of c.args.state.now) c.loop-draws.content.items c.loop-draws.invariant
+    (omega (arith, c.draw_length-length.ensures, c.len.ensures, c.loop-draws-test.false))

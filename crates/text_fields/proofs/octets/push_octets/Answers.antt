@@ -8,4 +8,12 @@ loop-octet-preserved c =
     let octets = c.args.octets.now in
     let i = c.loop-octet.octet-index in
     let lt : i < length octets = c.loop-octet-test.true in
-    rw (c.in_ok-extend_from_slice.ensures.items, take_more octets i 0 lt, hex_push (take i octets) (get_or octets i 0), c.loop-octet.invariant, append_assoc, c.hex_digit.ensures, c.hex_digit-in-loop-octet.ensures) refl
+    rw (
+      c.in_ok-extend_from_slice.ensures.items,
+      take_more octets i 0 lt,
+      hex_push (take i octets) (get_or octets i 0),
+      c.loop-octet.invariant,
+      append_assoc,
+      c.hex_digit.ensures,
+      c.hex_digit-in-loop-octet.ensures,
+    ) refl

@@ -16,6 +16,13 @@ loop-month-preserved c =
 pub returns-clause-date : goal.returns-clause-date
 returns-clause-date c =
     let last : c.loop-month.month ≡ 12 = omega arith in
-    let kept = subst (λ (m : ℕ). days_before_month c.args.year m + c.loop-month.day ≡ c.args.day_of_year) last c.loop-month.invariant.1 in
+    let kept = subst (λ (m : ℕ). days_before_month c.args.year m + c.loop-month.day ≡ c.args.day_of_year) last
+    c.loop-month.invariant.1 in
     let year = december c.args.year in
-    record { from_january = omega arith; to_december = omega arith; from_first = c.loop-month.invariant.0; to_last = omega (arith, kept, year, c.requires.within) }
+    record {
+      from_january = omega arith;
+      to_december = omega arith;
+      from_first = c.loop-month.invariant.0;
+      to_last =
+          omega (arith, kept, year, c.requires.within);
+    }

@@ -18,4 +18,9 @@ pub loop-year-smaller : goal.loop-year-smaller
 loop-year-smaller c = omega (arith, years_long c.loop-year.year, c.loop-year.invariant)
 
 pub returns-clause-not_over : goal.returns-clause-not_over
-returns-clause-not_over c = omega (arith, next_year c.loop-year.year, c.days_before_year.ensures.value, c.loop-year-test.false)
+returns-clause-not_over c = omega (
+  arith,
+  next_year c.loop-year.year,
+  c.days_before_year.ensures.value,
+  c.loop-year-test.false,
+)

@@ -5,7 +5,8 @@ use Rattle.time_text.proofs.reading.fraction.Goals as goal
 
 pub returns-then-not-is_ascii_digit-clause-value : goal.returns-then-not-is_ascii_digit-clause-value
 returns-then-not-is_ascii_digit-clause-value c =
-    let stop = fraction_stop c.args.digits.now c.loop-octet.worth c.loop-octet.octet-index (search rules) (sym c.is_ascii_digit.ensures.value ∙ c.if-not-is_ascii_digit.true) in
+    let stop = fraction_stop c.args.digits.now c.loop-octet.worth c.loop-octet.octet-index (search rules)
+    (sym c.is_ascii_digit.ensures.value ∙ c.if-not-is_ascii_digit.true) in
     let kept = c.loop-octet.invariant.0 in
     omega arith
 
@@ -13,8 +14,10 @@ pub loop-octet-preserved : goal.loop-octet-preserved
 loop-octet-preserved c =
     let is_digit = sym c.is_ascii_digit.ensures.value ∙ c.if-not-is_ascii_digit.false in
     let step = fraction_step c.args.digits.now c.loop-octet.worth c.loop-octet.octet-index (search rules) is_digit in
-    let below = digit_below (get_or c.args.digits.now c.loop-octet.octet-index 0) is_digit in
-    (one_kept _ _ _ _ _ _ _ c.loop-octet.invariant.0 step c.from.ensures, one_within _ _ _ c.loop-octet.invariant.1 (omega arith))
+    let below = digit_below (get_or c.args.digits.now c.loop-octet.octet-index 0) is_digit in (
+      one_kept _ _ _ _ _ _ _ c.loop-octet.invariant.0 step c.from.ensures,
+      one_within _ _ _ c.loop-octet.invariant.1 (omega arith),
+    )
 
 pub returns-clause-value : goal.returns-clause-value
 returns-clause-value c =

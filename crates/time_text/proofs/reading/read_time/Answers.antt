@@ -15,9 +15,11 @@ returns-clause-found c = IfSome_then c.moment_of.result c.moment_of.ensures.foun
   date = rw (← c.date_of-date.ensures.date) (search rules);
   clock = rw (← c.clock_of-clock.ensures.clock) (search rules);
   offset = rw (← c.offset_of-offset.ensures) (search rules);
-  moment = same_shown _ _ _ _ _ _ m c.date_of-date.ensures.date c.clock_of-clock.ensures.clock c.offset_of-offset.ensures shown;
+  moment = same_shown _ _ _ _ _ _ m c.date_of-date.ensures.date c.clock_of-clock.ensures.clock
+      c.offset_of-offset.ensures shown;
 })
 
 pub returns-clause-none : goal.returns-clause-none
 returns-clause-none c none m most is =
-    c.moment_of.ensures.none none m most (same_shown _ _ _ _ _ _ m (sym c.date_of-date.ensures.date) (sym c.clock_of-clock.ensures.clock) (sym c.offset_of-offset.ensures) is.moment)
+    c.moment_of.ensures.none none m most (same_shown _ _ _ _ _ _ m (sym c.date_of-date.ensures.date)
+    (sym c.clock_of-clock.ensures.clock) (sym c.offset_of-offset.ensures) is.moment)

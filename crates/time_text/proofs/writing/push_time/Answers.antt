@@ -8,5 +8,9 @@ pub returns-then-milliseconds-gt-LAST : goal.returns-then-milliseconds-gt-LAST
 returns-then-milliseconds-gt-LAST c =
     let same = c.milliseconds-milliseconds.ensures.value in
     on_ok_weaker c.push_number.result
-    (λ is. (decimal c.milliseconds-milliseconds.result, is, inr (behind_years c.args.moment (omega arith), ap decimal same)))
+    (λ is. (
+      decimal c.milliseconds-milliseconds.result,
+      is,
+      inr (behind_years c.args.moment (omega arith), ap decimal same),
+    ))
     c.push_number.ensures

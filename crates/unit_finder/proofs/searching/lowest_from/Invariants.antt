@@ -4,4 +4,5 @@ use Rattle.unit_finder.proofs.LeastUnits.{IsLeastSo}
 use Rattle.unit_finder.proofs.searching.lowest_from.Given as goal
 
 abbrev pub invariant-loop-chart : goal.invariant-loop-chart
-invariant-loop-chart l = IsLeastSo (state l.register.table) l.wanted l.from (pools_of l.register.charts.items) l.chart-index l.best
+invariant-loop-chart l = IsLeastSo (state l.register.table) l.wanted l.from
+    (pools_of l.register.charts.items) l.chart-index l.best

@@ -1,5 +1,5 @@
 use Rattle.std.proofs.Common.{rules}
 use Rattle.book_rules.proofs.table.Table.keeps_expiry.Goals as goal
 
-pub returns-then-ended : goal.returns-then-ended
-returns-then-ended c = search rules
+pub returns-then-is_past : goal.returns-then-is_past
+returns-then-is_past c = search rules

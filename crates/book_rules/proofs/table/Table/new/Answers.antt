@@ -12,11 +12,19 @@ invariant_of-result c = record {
     few = omega arith;
     serial = omega arith;
     restart = omega arith;
-    mine = λ p. (let e : (unit_at c.new.result p).mine ≡ 0 = ap (λ (t : Delegable). (unit_at t p).mine) c.new.ensures ∙ rw (none_changed p) refl in omega (arith, e));
+    mine = λ p. (let e : (unit_at c.new.result p).mine ≡ 0 = ap (λ (t : Delegable). (unit_at t p).mine) c.new.ensures
+        ∙ rw (none_changed p) refl in omega (arith, e));
   };
 }
 
 pub returns : goal.returns
 returns c =
     let units : unit_at (record { pools = []; units = [] }) ≡ (λ (p : Prefix). fresh) = fun_ext none_changed in
-    rw (c.volume.ensures, c.no_skew.ensures, c.first_reading.ensures, c.first_reading-2.ensures, c.new.ensures, units) refl
+    rw (
+      c.volume.ensures,
+      c.no_skew.ensures,
+      c.first_reading.ensures,
+      c.first_reading-2.ensures,
+      c.new.ensures,
+      units,
+    ) refl

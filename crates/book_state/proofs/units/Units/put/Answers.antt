@@ -8,13 +8,16 @@ use Rattle.book_state.proofs.TableLaws.{put_unit, marks_few, mark_one}
 use Rattle.book_state.proofs.units.Units.put.Goals as goal
 
 pub overflow_add-self : goal.overflow_add-self
-overflow_add-self c = let one = mark_one c.args.unit in omega (arith, marks_few _ _ _ c.self.invariant.delegable, one, c.mark.ensures)
+overflow_add-self c = let one = mark_one c.args.unit in
+    omega (arith, marks_few _ _ _ c.self.invariant.delegable, one, c.mark.ensures)
 
 pub returns-in-Some-clause-units : goal.returns-in-Some-clause-units
 returns-in-Some-clause-units c q =
     let at : place_on 0 c.self.inside.pools.items c.args.prefix.now ≡ Some c.in-Some.place
-    = ap (λ (t : Delegable). place_on 0 t.pools c.args.prefix.now) c.self.view_is ∙ (sym c.place.ensures.place ∙ c.in-Some.is) in
-    let put = put_unit c.self.inside.pools.items c.self.inside.units.items c.self.inside.marks c.args.prefix.now c.in-Some.place c.args.unit c.self.invariant.delegable c.place.ensures.whole at q in
+    = ap (λ (t : Delegable). place_on 0 t.pools c.args.prefix.now) c.self.view_is
+    ∙ (sym c.place.ensures.place ∙ c.in-Some.is) in
+    let put = put_unit c.self.inside.pools.items c.self.inside.units.items c.self.inside.marks c.args.prefix.now
+    c.in-Some.place c.args.unit c.self.invariant.delegable c.place.ensures.whole at q in
     put ∙ ap (λ (t : Delegable). if same_prefix q c.args.prefix.now then c.args.unit else unit_at t q) c.self.view_is
 
 pub returns-in_default-clause-units : goal.returns-in_default-clause-units

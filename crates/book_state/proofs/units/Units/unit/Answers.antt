@@ -6,9 +6,12 @@ use Rattle.book_state.proofs.units.Units.unit.Goals as goal
 pub returns-in-Some : goal.returns-in-Some
 returns-in-Some c =
     let at : place_on 0 c.self.inside.pools.items c.args.prefix.now ≡ Some c.in-Some.place
-    = ap (λ (t : Delegable). place_on 0 t.pools c.args.prefix.now) c.self.view_is ∙ (sym c.place.ensures.place ∙ c.in-Some.is) in
-    let lt : c.in-Some.place < length c.self.inside.units.items = subst (λ (t : Delegable). c.in-Some.place < length t.units) (sym c.self.view_is) c.in-Some.ensures.within in
-    let read = unit_placed c.self.inside.pools.items c.self.inside.units.items c.args.prefix.now c.in-Some.place c.index.result.now c.place.ensures.whole at lt c.index.ensures in
+    = ap (λ (t : Delegable). place_on 0 t.pools c.args.prefix.now) c.self.view_is
+    ∙ (sym c.place.ensures.place ∙ c.in-Some.is) in
+    let lt : c.in-Some.place < length c.self.inside.units.items =
+    subst (λ (t : Delegable). c.in-Some.place < length t.units) (sym c.self.view_is) c.in-Some.ensures.within in
+    let read = unit_placed c.self.inside.pools.items c.self.inside.units.items c.args.prefix.now c.in-Some.place
+    c.index.result.now c.place.ensures.whole at lt c.index.ensures in
     read ∙ ap (λ (t : Delegable). unit_at t c.args.prefix.now) c.self.view_is
 
 pub returns-in-None : goal.returns-in-None

@@ -5,5 +5,6 @@ use Rattle.claims.proofs.by_line.ByLine.naming.Goals as goal
 
 pub returns : goal.returns
 returns g c =
-    subst (λ (entries : List g.row.T.Denot). (k : ℕ) → Has c.naming_in.result.now k ↔ NamesAt g.T.NamesLine.named entries c.args.line k)
+    subst (λ (entries : List g.row.T.Denot). (k : ℕ) → Has c.naming_in.result.now k
+    ↔ NamesAt g.T.NamesLine.named entries c.args.line k)
     (c.deref.ensures.value ∙ c.self.view_is) c.naming_in.ensures

@@ -6,7 +6,8 @@ use Rattle.client_id.specs.Duid.{IsDuid, duid_of}
 use Rattle.client_id.proofs.TextLaws.{duid_takes, duid_again, hex_fault}
 use Rattle.client_id.proofs.duid.Duid.from_hex.Goals as goal
 
-is_found : (text : List ℕ) (r : Result (List ℕ) ClientIdError) → r ≡ duid_of text → IfOk r (λ d. (text ≡ hex d) × IsDuid d)
+is_found : (text : List ℕ) (r : Result (List ℕ) ClientIdError) → r ≡ duid_of text
+    → IfOk r (λ d. (text ≡ hex d) × IsDuid d)
 is_found text (Ok d) e = duid_takes text d (sym e)
 is_found text (Err x) e = tt
 

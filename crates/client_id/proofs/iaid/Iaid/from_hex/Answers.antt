@@ -10,4 +10,5 @@ pub returns-in-Some-clause-only : goal.returns-in-Some-clause-only
 returns-in-Some-clause-only c iaid h e = let same = sym c.in-Some.ensures ∙ (ap iaid_word e ∙ iaid_again iaid h) in cc
 
 pub returns-in-None-clause-only : goal.returns-in-None-clause-only
-returns-in-None-clause-only c iaid h e = let same = sym c.in-None.ensures ∙ (ap iaid_word e ∙ iaid_again iaid h) in absurd cc
+returns-in-None-clause-only c iaid h e = let same = sym c.in-None.ensures ∙ (ap iaid_word e ∙ iaid_again iaid h) in
+    absurd cc

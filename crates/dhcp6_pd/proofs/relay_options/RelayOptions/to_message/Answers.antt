@@ -17,17 +17,22 @@ pub returns-in_err-keep : goal.returns-in_err-keep
 returns-in_err-keep c =
     let here = took _ _ _ _ c.next_option.ensures (c.in_ok-option.was ∙ ap (λ o. Ok o) c.in-Some.is) in
     let p = err_from_is_err_and c.from_residual-in_err-keep.result c.from_residual-in_err-keep.ensures.1 in
-    rw (p.1, p.2) (fails_with {X = Option (Bor (List ℕ))} (λ found. (c.loop-option.self, found_in (row_of c.next_option.new.self.rest.now) found)) _ c.keep.new.self _ _ _ _ _ c.loop-option.invariant here c.in_err-keep.ensures)
+    rw (p.1, p.2) (fails_with {X = Option (Bor (List ℕ))} (λ found.
+    (c.loop-option.self, found_in (row_of c.next_option.new.self.rest.now) found)) _ c.keep.new.self _ _ _ _ _
+    c.loop-option.invariant here c.in_err-keep.ensures)
 
 pub returns-then-option-eq-RELAY_MESSAGE : goal.returns-then-option-eq-RELAY_MESSAGE
 returns-then-option-eq-RELAY_MESSAGE c =
     let here = took _ _ _ _ c.next_option.ensures (c.in_ok-option.was ∙ ap (λ o. Ok o) c.in-Some.is) in
-    comes _ _ _ _ _ _ c.loop-option.invariant here (given _ _ _ _ c.keep.ensures c.in_ok-keep.was) (eq-eqb _ _ c.if-option-eq-RELAY_MESSAGE.true)
+    comes _ _ _ _ _ _ c.loop-option.invariant here (given _ _ _ _ c.keep.ensures c.in_ok-keep.was)
+    (eq-eqb _ _ c.if-option-eq-RELAY_MESSAGE.true)
 
 pub loop-option-preserved : goal.loop-option-preserved
 loop-option-preserved c =
     let here = took _ _ _ _ c.next_option.ensures (c.in_ok-option.was ∙ ap (λ o. Ok o) c.in-Some.is) in
-    goes_on _ _ _ _ _ _ c.loop-option.invariant here (given _ _ _ _ c.keep.ensures c.in_ok-keep.was) (ne_eqb _ _ c.if-option-eq-RELAY_MESSAGE.false)
+    goes_on _ _ _ _ _ _ c.loop-option.invariant here (given _ _ _ _ c.keep.ensures c.in_ok-keep.was)
+    (ne_eqb _ _ c.if-option-eq-RELAY_MESSAGE.false)
 
 pub returns : goal.returns
-returns c = ends _ _ _ c.loop-option.invariant (ended _ _ _ c.next_option.ensures (c.in_ok-option.was ∙ ap (λ o. Ok o) c.in_default.is))
+returns c = ends _ _ _ c.loop-option.invariant
+    (ended _ _ _ c.next_option.ensures (c.in_ok-option.was ∙ ap (λ o. Ok o) c.in_default.is))

@@ -5,7 +5,8 @@ use Rattle.dhcp6_pd.proofs.UpToMessage.{IsOnTheWay}
 use Rattle.dhcp6_pd.proofs.relay_options.RelayOptions.to_message.Given as goal
 
 abbrev pub invariant-loop-option : goal.invariant-loop-option
-invariant-loop-option l = IsOnTheWay l.self (row_of l.options.rest.now) (to_message l.fn.self (row_of l.fn.options.rest.now))
+invariant-loop-option l = IsOnTheWay l.self (row_of l.options.rest.now)
+    (to_message l.fn.self (row_of l.fn.options.rest.now))
 
 abbrev pub decreases-loop-option : goal.decreases-loop-option
 decreases-loop-option l = row_length (row_of l.options.rest.now)

@@ -3,4 +3,9 @@ use Rattle.time_text.proofs.Years.{years_long}
 use Rattle.time_text.proofs.calendar.Date.with_number.Goals as goal
 
 pub days_before_year-requires : goal.days_before_year-requires
-days_before_year-requires c = omega (arith, years_long c.year_with-year.result, c.year_with-year.ensures.begun, c.requires.within)
+days_before_year-requires c = omega (
+  arith,
+  years_long c.year_with-year.result,
+  c.year_with-year.ensures.begun,
+  c.requires.within,
+)

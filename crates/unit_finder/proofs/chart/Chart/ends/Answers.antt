@@ -1,5 +1,5 @@
 use Rattle.std.proofs.Common.{ap, sym, arith}
-use Rattle.unit_finder.specs.declared.marking.Mark.{Mark}
+use Rattle.unit_finder.specs.declared.unit_kinds.Kinds.{Kinds}
 use Rattle.std.proofs.lemmas.Nat.{pow_pos}
 use Rattle.unit_finder.proofs.Charts.{least_of_all, read_at}
 use Rattle.unit_finder.proofs.chart.Chart.ends.Goals as goal
@@ -8,4 +8,6 @@ pub returns : goal.returns
 returns c =
     let whole = c.args.self.now.whole in
     let some = pow_pos c.args.self.now.levels in
-    least_of_all c.args.self.now c.index.result.now.ends whole (sym (ap (λ (m : Mark). m.ends) (read_at c.args.self.now.nodes.items 1 c.index.result.now (omega (arith, whole.whole, some)) c.index.ensures)))
+    least_of_all c.args.self.now c.index.result.now.ends whole
+    (sym (ap (λ (m : Kinds). m.ends) (read_at c.args.self.now.nodes.items 1 c.index.result.now
+    (omega (arith, whole.whole, some)) c.index.ensures)))

@@ -10,5 +10,7 @@ returns c =
     let pool = c.args.self.now.pool in
     let legal = c.args.self.now.whole.legal in
     let yes : is_in pool c.args.prefix.now ≡ true = sym c.has.ensures ∙ c.if-not-has.false in
-    subst (λ (i : ℕ). (i < units_in pool) × IsUnitAt pool i c.args.prefix.now) (sym c.index_of.ensures)
-    (index_below pool c.args.prefix.now legal (within pool c.args.prefix.now yes), stands_at pool c.args.prefix.now legal c.len-length.ensures.whole yes)
+    subst (λ (i : ℕ). (i < units_in pool) × IsUnitAt pool i c.args.prefix.now) (sym c.index_of.ensures) (
+      index_below pool c.args.prefix.now legal (within pool c.args.prefix.now yes),
+      stands_at pool c.args.prefix.now legal c.len-length.ensures.whole yes,
+    )

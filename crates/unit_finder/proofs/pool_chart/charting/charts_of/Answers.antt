@@ -3,13 +3,17 @@ use Rattle.std.proofs.lemmas.List.Elements.{All-push}
 use Rattle.std.specs.Prelude.{All}
 use Rattle.book_rules.specs.State.{state}
 use Rattle.unit_finder.specs.declared.pool_chart.PoolChart.{PoolChart}
-use Rattle.unit_finder.specs.PoolCharts.{IsMarked, pools_of}
+use Rattle.unit_finder.specs.PoolCharts.{HasKinds, pools_of}
 use Rattle.unit_finder.proofs.PoolCharts.{charts_push}
 use Rattle.unit_finder.proofs.pool_chart.charting.charts_of.Goals as goal
 
 pub loop-pool-preserved : goal.loop-pool-preserved
 loop-pool-preserved c = record {
-  pools = ap pools_of c.in_ok-push.ensures.items ∙ charts_push _ _ c.pool-item.result c.loop-pool.charts.items c.in_ok-of.field-0 (omega (arith, c.loop-pool-test.true)) c.pool-item.is c.in_ok-of.ensures.pool c.loop-pool.invariant.pools;
-  marked = subst (λ (cs : List PoolChart). All (IsMarked (state c.args.table.now).role (state c.args.table.now).units) cs) (sym c.in_ok-push.ensures.items)
-      (All-push (IsMarked (state c.args.table.now).role (state c.args.table.now).units) c.loop-pool.charts.items c.in_ok-of.field-0 c.loop-pool.invariant.marked c.in_ok-of.ensures.marked);
+  pools = ap pools_of c.in_ok-push.ensures.items
+      ∙ charts_push _ _ c.pool-item.result c.loop-pool.charts.items c.in_ok-of.field-0
+      (omega (arith, c.loop-pool-test.true)) c.pool-item.is c.in_ok-of.ensures.pool c.loop-pool.invariant.pools;
+  kinds = subst (λ (cs : List PoolChart). All (HasKinds (state c.args.table.now).role (state c.args.table.now).units)
+      cs) (sym c.in_ok-push.ensures.items)
+      (All-push (HasKinds (state c.args.table.now).role (state c.args.table.now).units) c.loop-pool.charts.items
+      c.in_ok-of.field-0 c.loop-pool.invariant.kinds c.in_ok-of.ensures.kinds);
 }

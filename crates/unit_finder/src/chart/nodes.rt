@@ -1,4 +1,4 @@
-//! The marks of a pool's units, so that one of a kind is found in few steps.
+//! The kinds of a pool's units, so that one of a kind is found in few steps.
 
 ghost use Rattle.std.specs.Prelude.{ℕ, ◌≡◌, ◌≢◌, ◌+◌, ◌*◌, ◌^◌, ◌<◌, ◌≤◌, ◌==◌};
 ghost use Rattle.std.specs.Prelude.{length, IfSome, IfNone, IfOk, if◌then◌else◌};
@@ -6,12 +6,12 @@ ghost use Rattle.unit_finder.specs.ChartForms.{at, IsJoined};
 ghost use Rattle.unit_finder.specs.Charts.{leaf, IsFree, IsSpan, IsLeastEnd};
 
 use crate::chart::Chart;
-use crate::marking::Mark;
 use crate::searching::Wanted;
+use crate::unit_kinds::Kinds;
 use lead_time::End;
 use std::alloc::{AllocError, Global};
 
-/// Returns how many units have this many levels of marks above them.
+/// Returns how many units have this many levels of kinds above them.
 fn places(levels: u8) -> usize
     requires { levels ≤ 16 }
     ensures { result ≡ 2 ^ levels }
@@ -19,8 +19,8 @@ fn places(levels: u8) -> usize
     1usize << levels
 }
 
-/// Joins anew all that stands above a mark that changed.
-fn raise(nodes: &mut [Mark], count: usize, from: usize)
+/// Joins anew all that stands above a kinds that changed.
+fn raise(nodes: &mut [Kinds], count: usize, from: usize)
     requires whole { length nodes.old ≡ 2 * count }
     requires few { count ≤ 65536 }
     requires below { from < count }
@@ -38,24 +38,24 @@ fn raise(nodes: &mut [Mark], count: usize, from: usize)
 }
 
 impl Chart {
-    /// The marks of 2^levels units that nothing is known of yet.
+    /// The kinds of 2^levels units that nothing is known of yet.
     pub(crate) fn new(alloc: Global, levels: u8) -> Result<Chart, AllocError>
         requires { levels ≤ 16 }
         ensures levels { IfOk result (λ c. c.levels ≡ levels) }
     {
         let mut nodes = Vec::new(alloc);
-        nodes.resize(2 * places(levels), Mark::nothing())?;
+        nodes.resize(2 * places(levels), Kinds::nothing())?;
         Ok(Chart { levels, nodes })
     }
 
-    /// Notes the mark of the unit at a place.
-    pub(crate) fn put(&mut self, place: usize, mark: Mark)
+    /// Notes the kinds of the unit at a place.
+    pub(crate) fn put(&mut self, place: usize, kinds: Kinds)
         requires { place < 2 ^ self.old.levels }
         ensures levels { self.new.levels ≡ self.old.levels }
-        ensures leaves { (k : ℕ) → leaf self.new k ≡ (if k == place then mark else leaf self.old k) }
+        ensures leaves { (k : ℕ) → leaf self.new k ≡ (if k == place then kinds else leaf self.old k) }
     {
         let count = places(self.levels);
-        self.nodes[count + place] = mark;
+        self.nodes[count + place] = kinds;
         raise(&mut self.nodes, count, (count + place) / 2);
     }
 

@@ -1,15 +1,15 @@
 //! What a search needs to know of units.
 
 ghost use Rattle.std.specs.Prelude.{◌≡◌, IsTrue};
-ghost use Rattle.unit_finder.specs.Marks.{ends_by, mark_of, nothing, earlier, joined, may_be};
+ghost use Rattle.unit_finder.specs.Kinds.{ends_by, kinds_of, nothing, earlier, joined, may_be};
 
 use crate::searching::Wanted;
 use binding_rules::{Role, Unit, UnitStatus, grantable};
-use lead_time::{End, ended};
+use lead_time::{End, is_past};
 
-/// The marks of a unit, or of some units at once: what one of them may be.
+/// The kinds of a unit, or of some units at once: what one of them may be.
 #[derive(Clone, Copy)]
-pub(crate) struct Mark {
+pub(crate) struct Kinds {
     /// One is the server's to give.
     pub(crate) usable: bool,
     /// One isn't.
@@ -45,13 +45,13 @@ pub(crate) fn earlier(one: Option<End>, other: Option<End>) -> Option<End>
     }
 }
 
-impl Mark {
+impl Kinds {
     /// Of a unit, as a server in this role sees it.
-    pub(crate) fn of(role: Role, unit: &Unit) -> Mark
-        ensures { result ≡ mark_of role unit.now }
+    pub(crate) fn of(role: Role, unit: &Unit) -> Kinds
+        ensures { result ≡ kinds_of role unit.now }
     {
         let usable = grantable(role, unit);
-        Mark {
+        Kinds {
             usable,
             taken: !usable,
             pending: unit.pending.is_some(),
@@ -62,10 +62,10 @@ impl Mark {
     }
 
     /// Of no unit.
-    pub(crate) fn nothing() -> Mark
+    pub(crate) fn nothing() -> Kinds
         ensures { result ≡ nothing }
     {
-        Mark {
+        Kinds {
             usable: false,
             taken: false,
             pending: false,
@@ -76,10 +76,10 @@ impl Mark {
     }
 
     /// Of the units of both.
-    pub(crate) fn joined(&self, other: &Mark) -> Mark
+    pub(crate) fn joined(&self, other: &Kinds) -> Kinds
         ensures { result ≡ joined self.now other.now }
     {
-        Mark {
+        Kinds {
             usable: self.usable || other.usable,
             taken: self.taken || other.taken,
             pending: self.pending || other.pending,
@@ -96,7 +96,7 @@ impl Mark {
         match wanted {
             Wanted::Usable => self.usable,
             Wanted::Expirable(now) => match self.ends {
-                Some(end) => ended(*now, end),
+                Some(end) => is_past(*now, end),
                 None => false,
             },
             Wanted::Seizable(_) => self.taken,

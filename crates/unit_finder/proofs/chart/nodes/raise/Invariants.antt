@@ -1,5 +1,5 @@
 use Rattle.unit_finder.proofs.Charts.{IsRising}
-use Rattle.unit_finder.proofs.chart.marks.raise.Given as goal
+use Rattle.unit_finder.proofs.chart.nodes.raise.Given as goal
 
 abbrev pub invariant-loop-node : goal.invariant-loop-node
 invariant-loop-node l = IsRising l.initial.nodes l.nodes l.count l.node

@@ -5,7 +5,7 @@ use Rattle.binding_rules.specs.declared.unit.UnitStatus.{UnitStatus}
 use Rattle.binding_rules.specs.declared.unit.UnitStatus.TheVariants.{Active}
 use Rattle.binding_rules.specs.declared.unit.Unit.{Unit as UnitValue}
 use Rattle.binding_rules.specs.Giving.{is_own}
-use Rattle.unit_finder.specs.declared.marking.Mark.{Mark}
+use Rattle.unit_finder.specs.declared.unit_kinds.Kinds.{Kinds}
 use Rattle.unit_finder.specs.declared.searching.Wanted.{Wanted}
 use Rattle.unit_finder.specs.declared.searching.Wanted.TheVariants.{Usable, Expirable, Seizable, Pending}
 use Rattle.unit_finder.specs.declared.searching.Wanted.TheVariants.{Due, Marked, Overcounted}
@@ -15,8 +15,8 @@ abbrev pub ends_by : UnitStatus → UnitValue → Option ℕ
 ends_by (Active k) u = Some (max u.own_end u.told)
 ends_by _ u = None
 
-abbrev pub mark_of : Role → UnitValue → Mark
-mark_of role u =
+abbrev pub kinds_of : Role → UnitValue → Kinds
+kinds_of role u =
     record {
       usable = is_own role u.status;
       taken = not (is_own role u.status);
@@ -27,7 +27,7 @@ mark_of role u =
     }
 
 -- of no unit
-abbrev pub nothing : Mark
+abbrev pub nothing : Kinds
 nothing =
     record {
       usable = false;
@@ -44,7 +44,7 @@ earlier (Some e) None = Some e
 earlier (Some e) (Some f) = Some (min e f)
 
 -- of the units of both
-abbrev pub joined : Mark → Mark → Mark
+abbrev pub joined : Kinds → Kinds → Kinds
 joined a b =
     record {
       usable = a.usable || b.usable;
@@ -60,7 +60,7 @@ is_by now None = false
 is_by now (Some e) = nat_le e now
 
 -- whether one of the units may be what is wanted
-abbrev pub may_be : Wanted → Mark → Bool
+abbrev pub may_be : Wanted → Kinds → Bool
 may_be Usable m = m.usable
 may_be (Expirable now) m = is_by now m.ends
 may_be (Seizable now) m = m.taken

@@ -7,9 +7,12 @@ use lead_time::{Reading, Skew, Transit};
 /// The most seconds of a maximum client lead time and of a lifetime: a year of 365 days.
 pub const YEAR: u32 = 31_536_000;
 
+/// The greatest count that a later volume may begin with: 2^48.
+pub const GREATEST_START: u64 = 281_474_976_710_656;
+
 /// The numbers of a book; specs/Book says what each is.
 #[derive(Clone, Copy, Debug)]
-pub struct Standing {
+pub struct StateNumbers {
     pub role: Role,
     pub volume: u32,
     pub skew: Skew,
