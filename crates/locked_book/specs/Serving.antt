@@ -5,11 +5,11 @@ use Rattle.prefix_range.specs.Prefix.{Prefix}
 use Rattle.binding_rules.specs.declared.unit.Unit.{Unit as UnitValue}
 use Rattle.journal_lines.specs.declared.line.Line.{Line}
 use Rattle.journal_lines.specs.declared.line.Journal.{Journal}
-use Rattle.book_state.specs.Book.{BookState as BookState, is_unit}
+use Rattle.book_state.specs.Book.{BookState, is_unit}
 use Rattle.order_book.specs.declared.order.Order.{Order}
 use Rattle.order_book.specs.declared.reply.Reply.TheVariants.{Granted}
 use Rattle.order_book.specs.Answer.{IsAnswer, IsFirstRefusal, IsRefusal}
-use Rattle.unit_finder.specs.Units.{IsLeastOf}
+use Rattle.unit_finder.specs.Units.{IsLeastOf, IsUsable}
 use Rattle.unit_finder.specs.Queries.{IsToExpire, IsFirstExpiry, IsToSeize, HasReply, HasChange, HasMark}
 use Rattle.order_book.specs.Replayed.{state_of}
 use Rattle.locked_book.specs.declared.receipt.Receipt.{Receipt}
@@ -95,6 +95,7 @@ pub record IsWork (j : Journal) (now from : ℕ) (work : Work) : Type 0 where
   pub change : IsLeastOf (HasChange (state_of j) from) work.change
   pub mark : IsLeastOf (HasMark (state_of j) from) work.mark
   pub seizable : IsLeastOf (IsToSeize (state_of j) now) work.seizable
+  pub usable : IsLeastOf (IsUsable (state_of j)) work.usable
   pub waiting : work.waiting ≡ (state_of j).waiting
   pub down : work.down ≡ (state_of j).down
 

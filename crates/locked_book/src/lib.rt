@@ -28,7 +28,8 @@ mod showing;
 mod telling;
 
 pub use error::{CloseFault, LockFault, ServeError};
-pub use keeping::{Kept, Pass};
+pub use keeping::{Kept, Pass, newest};
+pub use looking::{look_at, work_at};
 pub use name::BookName;
 pub use receipt::{Look, Receipt, Work};
 pub use shared::{CloseError, LockError, SharedBook};

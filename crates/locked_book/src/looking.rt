@@ -1,4 +1,4 @@
-//! What is read of a book under the lock.
+//! What is read of a book, also under the lock, by one who knows it by a last receipt.
 
 ghost use Rattle.order_book.specs.Answer.{IsRequest};
 ghost use Rattle.order_book.specs.Replayed.{IsLegal};
@@ -11,12 +11,9 @@ use lead_time::Reading;
 use order_book::{Book, Order};
 use prefix_range::Prefix;
 
-/// The lines, this unit, whether the server waits and whether its partner is down.
-pub(crate) fn look_at(
-    book: &Book,
-    last: Option<Receipt>,
-    prefix: Prefix,
-) -> Result<Look, ServeError>
+/// Returns what a book has now: how many lines, this unit, whether it waits, and whether its partner is down. It takes
+/// no memory. The one refusal is `Stranger`, where the book hasn't the line of the last receipt, if there is one.
+pub fn look_at(book: &Book, last: Option<Receipt>, prefix: Prefix) -> Result<Look, ServeError>
     ensures looked { IsLooked book.now last prefix result }
     ensures legal { IsLegal book.now }
 {
@@ -30,8 +27,9 @@ pub(crate) fn look_at(
     })
 }
 
-/// Returns what there is to do at a reading; of what is to be sent, for units that begin at an address or above.
-pub(crate) fn work_at(
+/// Returns what there is to do in a book at a reading; of what is to be sent, for units that begin at an address or
+/// above. It takes no memory. The one refusal is `Stranger`, as of `look_at`.
+pub fn work_at(
     book: &Book,
     last: Option<Receipt>,
     now: Reading,
@@ -50,6 +48,7 @@ pub(crate) fn work_at(
         change: book.next_change(from),
         mark: book.next_mark(from),
         seizable: book.first_to_seize(now),
+        usable: book.first_usable(),
         waiting: book.waiting(),
         down: book.down(),
     })

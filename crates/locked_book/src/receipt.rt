@@ -45,6 +45,8 @@ pub struct Work {
     pub mark: Option<Prefix>,
     /// The unit that a Seize takes over.
     pub seizable: Option<Prefix>,
+    /// The unit that the server may give to any client.
+    pub usable: Option<Prefix>,
     /// Whether the server waits for its partner's answer to the last restart.
     pub waiting: bool,
     /// The reading since which the partner is taken for down.

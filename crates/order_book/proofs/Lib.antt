@@ -11,3 +11,4 @@ pub mod KeptLines
 pub mod Counts
 pub mod Rolls
 pub mod NextBooks
+pub mod Expiry

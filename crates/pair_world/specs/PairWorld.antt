@@ -17,7 +17,7 @@ use Rattle.order_book.specs.declared.reply.Reply.{Reply}
 use Rattle.order_book.specs.declared.reply.Reply.TheVariants.{Done}
 use Rattle.order_book.specs.Replayed.{state_of, with_line}
 use Rattle.server_settings.specs.Settings.{ServerSettings, opening}
-use Rattle.order_book.specs.Answer.{IsAnswer, IsFirstRefusal}
+use Rattle.order_book.specs.Answer.{IsAnswer, IsServed, IsFirstRefusal}
 use Rattle.attribution.specs.Run.{Step}
 use Rattle.pair_world.specs.declared.event.Event.{Event}
 use Rattle.pair_world.specs.declared.event.Event.TheVariants.{Serve, Deliver, Stop, Restart, Pass}
@@ -134,10 +134,10 @@ Fails w (Deliver side sent clock) (OfBook e) =
 Fails w (Restart side clock) (OfBook e) = IsFirstRefusal (book side w) clock RestartOrder e
 Fails w _ _ = ⊥
 
--- what the server's book makes of an order that it doesn't do
+-- what the server's book makes of an order that it doesn't do; memory lacks only for what it would do
 abbrev pub IsBookRefusal : BookState → ℕ → Order → WorldError → Type 0
 IsBookRefusal b clock order (OfBook e) = IsFirstRefusal b clock order e
-IsBookRefusal b clock order Memory = ⊤
+IsBookRefusal b clock order Memory = (l : Line) × IsServed b clock order l
 IsBookRefusal b clock order _ = ⊥
 
 -- the order in which refusals are looked for
@@ -189,9 +189,9 @@ IsDone w (Restart side clock) reply v =
 IsDone w (Pass ms) reply v =
     (w.moment + ms ≤ 2 ^ 48) × (reply ≡ Done) × (v ≡ record w { moment = w.moment + ms })
 
--- why an event is refused: of want of memory nothing is said
+-- why an event is refused: for want of memory only where it would be done
 abbrev pub IsRefused : PairWorld → Event → WorldError → Type 0
-IsRefused w e Memory = ⊤
+IsRefused w e Memory = (reply : Reply) × (v : PairWorld) × IsDone w e reply v
 IsRefused w e error = IsFirstFailure w e error
 
 -- One step: what is refused changes nothing.

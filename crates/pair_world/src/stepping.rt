@@ -18,6 +18,16 @@ use journal_lines::Line;
 use lead_time::Reading;
 use order_book::{Book, BookError, Order, Reply};
 
+/// Why an order isn't done where there is no room for its line: the book's refusal comes first.
+fn lacks_room(book: &Book, clock: Reading, order: &Order) -> WorldError
+    ensures { IsBookRefusal (state_of book.now) clock order.now result }
+{
+    match book.answer(clock, order) {
+        Ok(_) => WorldError::Memory,
+        Err(error) => WorldError::Book(error),
+    }
+}
+
 /// Does what is ordered in a book, and adds the line to the run.
 fn write(
     run: &mut Vec<Step>,
@@ -33,7 +43,9 @@ fn write(
     ensures refused { IfErr result (λ e. IsBookRefusal (state_of book.old) clock order.now e
         × (book.new ≡ book.old) × (run.new.items ≡ run.old.items)) }
 {
-    run.reserve(1)?;
+    if run.reserve(1).is_err() {
+        return Err(lacks_room(book, clock, order));
+    }
     match book.apply(clock, order) {
         Ok(reply) => {
             let Some(line) = book.journal().last() else {
