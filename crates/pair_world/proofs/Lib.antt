@@ -33,6 +33,7 @@ pub mod Valid
 pub mod Results
 pub mod DownLaws
 pub mod Numbers
+pub mod Refusing
 pub mod Runs
 pub mod HolderLaws
 pub mod OneNow

@@ -167,9 +167,13 @@ impl World {
         if !self.is_stopped(side) {
             return Err(WorldError::Running);
         }
-        let reply = self.answer(side, clock, &Order::Restart)?;
-        self.set_stopped(side, false);
-        Ok(reply)
+        match self.answer(side, clock, &Order::Restart) {
+            Ok(reply) => {
+                self.set_stopped(side, false);
+                Ok(reply)
+            }
+            Err(error) => Err(error),
+        }
     }
 
     fn pass(&mut self, milliseconds: u64) -> Result<Reply, WorldError>
