@@ -1,6 +1,6 @@
 //! What a server goes on with, out of what its folder has.
 
-ghost use Rattle.std.specs.Prelude.{map};
+ghost use Rattle.std.specs.Prelude.{◌≡◌, map, refl};
 
 use binding_rules::Role;
 use folder_recovery::{Files, FolderBook, FolderRecoveryError, NextStep, Unread, recover_folder};
@@ -87,14 +87,19 @@ struct HeldFiles<'a> {
 }
 
 impl Files for HeldFiles<'_> {
-    ghost contents = { λ held. map (λ file. file.now) held.files.now };
+    ghost may_have = { λ held contents. contents ≡ map (λ file. file.now) held.files.now };
+
+    ghost has_some = { λ held. (map (λ file. file.now) held.files.now, refl) };
 
     fn count(&self) -> usize {
         self.files.len()
     }
 
     fn read(&self, alloc: Global, place: usize) -> Result<Vec<u8>, Unread> {
-        match self.files[place].to_vec(alloc) {
+        let Some(content) = self.files.get(place) else {
+            return Err(Unread);
+        };
+        match content.to_vec(alloc) {
             Ok(content) => Ok(content),
             Err(_) => Err(Unread),
         }

@@ -1,5 +1,7 @@
 //! The contents that were left of a folder's files.
 
+ghost use Rattle.std.specs.Prelude.{◌≡◌, refl};
+
 use std::alloc::Global;
 use std::marker::Model;
 use volume_folder::{Files, Unread};
@@ -37,14 +39,21 @@ impl Contents {
 }
 
 impl Files for Contents {
-    ghost contents = { λ c. c };
+    ghost may_have = { λ c contents. contents ≡ c };
+
+    ghost has_some = { λ c. (c, refl) };
 
     fn count(&self) -> usize {
         self.files.len()
     }
 
     fn read(&self, alloc: Global, place: usize) -> Result<Vec<u8>, Unread> {
-        let content = self.files[place].as_slice();
-        content.to_vec(alloc).or(Err(Unread))
+        let Some(content) = self.files.get(place) else {
+            return Err(Unread);
+        };
+        match content.to_vec(alloc) {
+            Ok(content) => Ok(content),
+            Err(_) => Err(Unread),
+        }
     }
 }
