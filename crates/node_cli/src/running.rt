@@ -1,6 +1,6 @@
 //! Serving clients beside the link to the partner, and the journal that comes of it.
 
-ghost use Rattle.std.specs.Prelude.{◌≡◌, ◌≤◌, ◌+◌, length};
+ghost use Rattle.std.specs.Prelude.{◌≡◌, ◌≤◌, ◌+◌, length, IfSome};
 
 use crate::fault::Fault;
 use crate::linking::keep_link;
@@ -8,8 +8,8 @@ use binding_rules::ServerState;
 use journal_text::write;
 use locked_book::{BookName, Pass, SharedBook};
 use node_threads::{
-    Clock, Datagrams, NodeError, NodeSettings, Partner, SystemClock, Turns, UdpDatagrams,
-    leave_seats, seats_of, serve_seats,
+    Clock, NodeError, NodeSettings, Partner, SystemClock, Turns, UdpMailbox, leave_seats, seats_of,
+    serve_seats,
 };
 use server_book::{Book, Order};
 use std::alloc::Global;
@@ -36,27 +36,33 @@ pub struct Run {
 
 /// The parts that the workers of a node and its end of the link have in common.
 #[derive(Drop)]
-struct Node<'a, R, D, C, P> {
+struct Node<'a, R, C, P> {
     rt: &'a R,
     alloc: Global,
     settings: &'a NodeSettings,
     partner: Partner,
-    datagrams: &'a D,
+    socket: &'a UdpSocket,
     clock: &'a C,
     turns: &'a Turns,
     notes: &'a P,
 }
 
-impl<
-    R: Threads + Wait + Sync + Net + Handle,
-    D: Datagrams + Sync,
-    C: Clock + Sync,
-    P: Print + Sync,
-> Node<'_, R, D, C, P>
+impl<R: Threads + Wait + Sync + Net + Handle, C: Clock + Sync, P: Print + Sync> Node<'_, R, C, P>
 where
     R::Stream: Send + Drop,
     R::Listener: Send + Drop,
 {
+    /// A mailbox at the socket for each of so many workers.
+    fn mailboxes(&self, workers: usize) -> Option<Vec<UdpMailbox<'_>>>
+        ensures { IfSome result (λ mailboxes. length mailboxes.items ≡ workers) }
+    {
+        let mut mailboxes = Vec::with_capacity(self.alloc, workers).ok()?;
+        for _ in 0..workers {
+            mailboxes.push(UdpMailbox::new(self.socket)).ok()?;
+        }
+        Some(mailboxes)
+    }
+
     /// Lets a worker for each pass answer datagrams while there are turns. `None` where a growth was refused, before
     /// any did: what they leave has its room already, and room for the link's pass.
     fn by_workers<N: BookName + Send + Sync>(
@@ -65,14 +71,14 @@ where
         passes: Vec<Pass<N>>,
     ) -> Option<Done<N>> {
         let mut left = Vec::with_capacity(self.alloc, passes.len() + 1).ok()?;
-        let mut seats = seats_of(self.alloc, passes).ok()?;
+        let mailboxes = self.mailboxes(passes.len())?;
+        let mut seats = seats_of(self.alloc, passes, mailboxes).ok()?;
         serve_seats(
             self.rt,
             self.alloc,
             shared,
             &mut seats,
             self.settings.server.duid(),
-            self.datagrams,
             self.clock,
             self.turns,
             self.partner,
@@ -216,7 +222,6 @@ where
         return Err(Fault::Net);
     };
     let _ = println!(notes; "node: listens for clients and relays at {listen}");
-    let datagrams = UdpDatagrams::new(socket);
     let clock = SystemClock::new(rt);
     let turns = Turns::new(count);
     let book = opened(alloc, settings, partner, &clock)?;
@@ -226,7 +231,7 @@ where
         alloc,
         settings,
         partner,
-        datagrams: &datagrams,
+        socket: &socket,
         clock: &clock,
         turns: &turns,
         notes,

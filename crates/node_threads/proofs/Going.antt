@@ -1,6 +1,5 @@
 -- Receipts that are added.
-use Rattle.std.specs.Prelude.{◌≡◌, ◌<◌, ◌≤◌, ◌+◌, ◌-◌, ℕ, ⊤, List, [], ◌∷◌, ◌++◌, Result, Ok, Err, IfOk, OnErr, refl}
-use Rattle.std.specs.Prelude.{Option, Some, None, IfSome, option_map, slice_get}
+use Rattle.std.specs.Prelude.{◌≡◌, ◌<◌, ◌≤◌, ◌+◌, ◌-◌, ℕ, List, [], ◌∷◌, ◌++◌, Result, Ok, Err, IfOk, OnErr, refl}
 use Rattle.std.proofs.Common.{ap, sym, ◌∙◌, subst, append_assoc, append-nil, length, take, get_or, suc, arith}
 use Rattle.std.proofs.Math.Seq.{take-suc}
 use Rattle.binding_rules.specs.declared.message.PartnerMessage.{PartnerMessage}
@@ -8,8 +7,6 @@ use Rattle.dhcp6_pd.specs.declared.message.ClientKind.{ClientKind}
 use Rattle.dhcp6_pd.specs.declared.message.ClientKind.TheVariants.{Solicit, Request as RequestKind, Renew as RenewKind}
 use Rattle.dhcp6_pd.specs.declared.message.ClientKind.TheVariants.{Rebind}
 use Rattle.dhcp6_pd.specs.declared.message.ClientKind.TheVariants.{Release as ReleaseKind}
-use Rattle.dhcp6_pd.specs.declared.message.ClientMessage.{ClientMessage}
-use Rattle.dhcp6_pd.specs.declared.message.IaPd.{IaPd}
 use Rattle.journal_lines.specs.declared.event.Event.{Event}
 use Rattle.journal_lines.specs.declared.event.Event.TheVariants.{Take as TakeLine}
 use Rattle.journal_lines.specs.declared.line.Journal.{Journal}
@@ -19,7 +16,7 @@ use Rattle.order_book.specs.declared.order.Order.TheVariants.{Request, Renew, Re
 use Rattle.order_book.specs.declared.order.Order.TheVariants.{SendUpdate, SendReply, SendContact, Take, State, Restart}
 use Rattle.order_book.specs.declared.order.Order.TheVariants.{Close}
 use Rattle.order_book.specs.declared.order.Asked.{Asked}
-use Rattle.server_book.specs.Messages.{order_by, order_of, asked_in}
+use Rattle.server_book.specs.Messages.{order_by}
 use Rattle.order_book.specs.Named.{IsNamed}
 use Rattle.order_book.specs.Replayed.{IsLegal, state_of}
 use Rattle.locked_book.specs.declared.error.ServeError.{ServeError}
@@ -54,7 +51,8 @@ goes_on a b c h k =
 
 -- ---- orders
 
-other_newer : (b : BookState) (now : ℕ) (order : Order) (e : Event) (last : ℕ) → IsOther order → IsNamed b now order e
+pub other_newer : (b : BookState) (now : ℕ) (order : Order) (e : Event) (last : ℕ) → IsOther order
+    → IsNamed b now order e
     → IsNewer last e
 other_newer b now (Request a) e last _ h = subst (λ x. IsNewer last x) (sym h.2) tt
 other_newer b now (Renew a) e last _ h = subst (λ x. IsNewer last x) (sym h.2) tt
@@ -71,7 +69,7 @@ other_newer b now (State word) e last _ h = subst (λ x. IsNewer last x) (sym h)
 other_newer b now Restart e last _ h = subst (λ x. IsNewer last x) (sym h) tt
 other_newer b now Close e last _ h = subst (λ x. IsNewer last x) (sym h) tt
 
-one_goes : (old new : List Receipt) (r : Receipt) → new ≡ old ++ r ∷ [] → IsNewer (last_taken old) r.line.event
+pub one_goes : (old new : List Receipt) (r : Receipt) → new ≡ old ++ r ∷ [] → IsNewer (last_taken old) r.line.event
     → Goes old new
 one_goes old new r all newer = record { added = r ∷ []; all = all; newer = (newer, tt) }
 
@@ -99,20 +97,12 @@ take_goes old new now m (Err e) served accepted refused newer =
 
 -- ---- clients' orders
 
-by_kind : (kind : ClientKind) (a : Asked) → IsOther (order_by kind a)
+pub by_kind : (kind : ClientKind) (a : Asked) → IsOther (order_by kind a)
 by_kind Solicit a = tt
 by_kind RequestKind a = tt
 by_kind RenewKind a = tt
 by_kind Rebind a = tt
 by_kind ReleaseKind a = tt
-
-in_found : (m : ClientMessage) (found : Option IaPd) (o : Order)
-    → option_map (λ ia. order_by m.kind (asked_in m.client ia)) found ≡ Some o → IsOther o
-in_found m None o is = absurd cc
-in_found m (Some ia) o is = subst (λ x. IfSome x IsOther) is (by_kind m.kind (asked_in m.client ia))
-
-pub client_other : (m : ClientMessage) (i : ℕ) (o : Order) → Some o ≡ order_of m i → IsOther o
-client_other m i o is = in_found m (slice_get m.ias i) o (sym is)
 
 -- ---- the last message that was taken
 

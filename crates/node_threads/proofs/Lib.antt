@@ -1,1 +1,4 @@
 pub mod Going
+pub mod Told
+pub mod Turning
+pub mod Replying

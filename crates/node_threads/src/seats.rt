@@ -4,40 +4,54 @@ ghost use Rattle.std.specs.Prelude.{◌≡◌, ◌<◌, ◌≤◌, ◌+◌, ◌+
 ghost use Rattle.std.specs.Prelude.{vec_len, vec_capacity, Ok, IfOk, IsOk};
 ghost use Rattle.node_threads.specs.Receipts.{Goes};
 ghost use Rattle.node_threads.specs.Seats.{with_next, received_after};
+ghost use Rattle.node_threads.specs.Sending.{IsServed};
 
 use crate::clock::Clock;
-use crate::datagrams::Datagrams;
 use crate::error::NodeError;
-use crate::partner::Partner;
+use crate::mailbox::Mailbox;
 use crate::turns::Turns;
 use crate::workers::serve_datagrams;
 use client_id::Duid;
+use client_service::Partner;
 use locked_book::{BookName, Pass, SharedBook};
 use std::alloc::{AllocError, Global};
 use std::sync::Wait;
 use std::thread;
 use std::thread::Threads;
 
-/// A worker's seat: its pass, and what came of its work.
+/// A worker's seat: its pass and its mailbox, and what came of its work.
 #[derive(Drop)]
-pub struct Seat<N: BookName> {
+pub struct Seat<N: BookName, M> {
     /// The worker's pass.
     pub pass: Pass<N>,
+    /// The worker's mailbox.
+    pub mailbox: M,
     /// How many datagrams it received, or why it ended. Before it begins: none.
     pub received: Result<u32, NodeError>,
 }
 
-/// A seat for each pass, in their order; an error where memory was refused.
-pub fn seats_of<N: BookName>(
+/// A seat for each pass and its mailbox, in their order; an error where memory was refused.
+pub fn seats_of<N: BookName, M: Drop>(
     alloc: Global,
     passes: Vec<Pass<N>>,
-) -> Result<Vec<Seat<N>>, AllocError>
-    ensures { IfOk result (λ seats. map (λ seat. seat.pass) seats.items ≡ passes.items) }
+    mailboxes: Vec<M>,
+) -> Result<Vec<Seat<N, M>>, AllocError>
+    requires { vec_len passes ≡ vec_len mailboxes }
+    ensures passes { IfOk result (λ seats. map (λ seat. seat.pass) seats.items ≡ passes.items) }
+    ensures mailboxes { IfOk result (λ seats. map (λ seat. seat.mailbox) seats.items ≡ mailboxes.items) }
 {
     let mut seats = Vec::with_capacity(alloc, passes.len())?;
+    let mut mailboxes = mailboxes.into_iter();
     for pass in passes {
+        let Some(mailbox) = mailboxes.next() else {
+            unreachable!()
+        };
         let received = Ok(0);
-        seats.push(Seat { pass, received })?;
+        seats.push(Seat {
+            pass,
+            mailbox,
+            received,
+        })?;
     }
     Ok(seats)
 }
@@ -48,15 +62,14 @@ pub fn seats_of<N: BookName>(
 pub fn serve_seats<
     N: BookName + Send + Sync,
     R: Threads + Wait + Sync,
-    D: Datagrams + Sync,
+    M: Mailbox + Send,
     C: Clock + Sync,
 >(
     rt: &R,
     alloc: Global,
     shared: &SharedBook<N>,
-    seats: &mut [Seat<N>],
+    seats: &mut [Seat<N, M>],
     own: &Duid,
-    datagrams: &D,
     clock: &C,
     turns: &Turns,
     partner: Partner,
@@ -66,11 +79,17 @@ pub fn serve_seats<
         → Goes (slice_index_or seats.old k d).pass.receipts (slice_index_or seats.new k d).pass.receipts }
     ensures few { (k d : _) → k < length seats.old
         → IfOk (slice_index_or seats.new k d).received (λ received. received ≤ 1000000) }
+    ensures served { (k d : _) → k < length seats.old
+        → IsServed M.receives M.sends M.fails partner own.now (slice_index_or seats.old k d).mailbox
+        (slice_index_or seats.new k d).mailbox (slice_index_or seats.old k d).pass.receipts
+        (slice_index_or seats.new k d).pass.receipts (slice_index_or seats.new k d).received }
 {
     let workers = seats.len().max(1);
-    let work = |_place: usize, seat: &mut Seat<N>|
+    let work = |_place: usize, seat: &mut Seat<N, M>|
         ensures { Goes seat.entry.now.pass.receipts seat.exit.now.pass.receipts
-            × IfOk seat.exit.now.received (λ received. received ≤ 1000000) }
+            × (IfOk seat.exit.now.received (λ received. received ≤ 1000000)
+            × IsServed M.receives M.sends M.fails partner own.exit.now seat.entry.now.mailbox seat.exit.now.mailbox
+            seat.entry.now.pass.receipts seat.exit.now.pass.receipts seat.exit.now.received) }
     {
         seat.received = serve_datagrams(
             rt,
@@ -78,7 +97,7 @@ pub fn serve_seats<
             shared,
             &mut seat.pass,
             own,
-            datagrams,
+            &mut seat.mailbox,
             clock,
             turns,
             partner,
@@ -100,8 +119,8 @@ fn added(one: Result<u32, NodeError>, other: Result<u32, NodeError>) -> Result<u
 /// Takes the passes out of their seats, behind those that stand in `passes`, and gives how many datagrams were received
 /// in all, or why the first of the workers that failed did. An error where memory was refused: never where `passes` had
 /// room for all.
-pub fn leave_seats<N: BookName>(
-    seats: Vec<Seat<N>>,
+pub fn leave_seats<N: BookName, M: Drop>(
+    seats: Vec<Seat<N, M>>,
     passes: &mut Vec<Pass<N>>,
 ) -> Result<Result<u32, NodeError>, AllocError>
     ensures passes { IfOk result (λ _. passes.new.items ≡ passes.old.items ++ map (λ seat. seat.pass) seats.items) }

@@ -4,12 +4,12 @@ ghost use Rattle.std.specs.Prelude.{◌≡◌, ◌<◌, ◌≤◌, ◌⊎◌, le
 ghost use Rattle.order_book.specs.Replayed.{IsLegal};
 
 use crate::clock::Clock;
-use crate::datagrams::Datagrams;
 use crate::error::NodeError;
-use crate::partner::Partner;
+use crate::mailbox::Mailbox;
 use crate::seats::{leave_seats, seats_of, serve_seats};
 use crate::turns::Turns;
 use client_id::Duid;
+use client_service::Partner;
 use locked_book::{BookName, LockFault, SharedBook};
 use server_book::Book;
 use std::alloc::Global;
@@ -41,36 +41,38 @@ pub enum LeaveError {
     Book,
 }
 
-/// Shares a book among so many workers, each of which answers datagrams while there are turns, and gives it back with
-/// the lines that came of it. A worker that fails doesn't stop the others. It stands in a function over `N`, which its
+/// Shares a book among workers, one for each mailbox, each of which answers datagrams while there are turns, and gives
+/// it back with the lines that came of it. A worker that fails doesn't stop the others. It stands in a function over
+/// `N`, which its
 /// caller calls with `Brand`: `N` names the workers, and the lines that the book has.
 ///
 /// The refusals: `Workers`, `Memory`, and `Book` where the lines aren't what the workers were told.
 pub fn serve_all<
     N: BookName + Send + Sync,
     R: Threads + Wait + Sync,
-    D: Datagrams + Sync,
+    M: Mailbox + Drop + Send,
     C: Clock + Sync,
 >(
     rt: &R,
     alloc: Global,
     blank: Blank,
     book: Book,
-    workers: usize,
+    mailboxes: Vec<M>,
     own: &Duid,
-    datagrams: &D,
     clock: &C,
     turns: &Turns,
     partner: Partner,
 ) -> Result<Left, LeaveError>
     requires name { blank.name ≡ N.name }
-    requires passes { (blank.parts ≡ N.parts) × (N.parts ≡ workers) × (N.passes ≡ workers) }
+    requires parts { (blank.parts ≡ N.parts) × (N.parts ≡ length mailboxes.items) }
+    requires passes { N.passes ≡ length mailboxes.items }
     requires lines { N.opened ≡ length book.lines }
     ensures opening { IfOk result (λ left. take (length book.lines) left.book.lines ≡ book.lines) }
     ensures legal { IfOk result (λ left. IsLegal left.book) }
-    ensures within { IfOk result (λ _. (1 ≤ workers) × (workers ≤ 64)) }
-    ensures outside { IsErrOf result LeaveError.Workers → (workers ≡ 0) ⊎ (64 < workers) }
+    ensures within { IfOk result (λ _. (1 ≤ length mailboxes.items) × (length mailboxes.items ≤ 64)) }
+    ensures outside { IsErrOf result LeaveError.Workers → (length mailboxes.items ≡ 0) ⊎ (64 < length mailboxes.items) }
 {
+    let workers = mailboxes.len();
     let (shared, passes) = match SharedBook::<N>::open(alloc, blank, book, workers) {
         Ok(opened) => opened,
         Err(refused) => {
@@ -83,12 +85,10 @@ pub fn serve_all<
     let Ok(mut left) = Vec::with_capacity(alloc, workers) else {
         return Err(LeaveError::Memory);
     };
-    let Ok(mut seats) = seats_of(alloc, passes) else {
+    let Ok(mut seats) = seats_of(alloc, passes, mailboxes) else {
         return Err(LeaveError::Memory);
     };
-    serve_seats(
-        rt, alloc, &shared, &mut seats, own, datagrams, clock, turns, partner,
-    );
+    serve_seats(rt, alloc, &shared, &mut seats, own, clock, turns, partner);
     let Ok(received) = leave_seats(seats, &mut left) else {
         return Err(LeaveError::Memory);
     };

@@ -1,13 +1,12 @@
 //! What workers answer to datagrams, and the journal that they leave.
 
-use crate::books::{opened, opened_alone, own};
+use crate::books::{opened, own};
 use crate::clocks::Still;
 use crate::meetings::Met;
-use crate::post::Post;
-use client_id::Duid;
+use crate::post::{Datagrams, Post, Slot};
 use journal_text::write;
 use lead_time::Reading;
-use node_threads::{Clock, Datagrams, Left, NodeError, Partner, Turns, serve_all};
+use node_threads::{Clock, Left, NodeError, Partner, Turns, serve_all};
 use server_book::{Book, Order};
 use std::alloc::Global;
 use std::marker::Brand;
@@ -30,10 +29,6 @@ const OFFERED: &[u8] =
 pub const GRANTED: &[u8] =
     b"070a0b0c0001000a000300010200000000010002000a0003000102000000000900190029000000010000070800000b40001a001900000e1000000e103820010db8000000000000000000000000";
 
-/// The status NoPrefixAvail.
-const NONE_GRANTED: &[u8] =
-    b"070a0b0c0001000a000300010200000000010002000a0003000102000000000900190012000000010000000000000000000d00020006";
-
 /// Side A's journal of the lease that lasts an hour.
 const WHOLE_HOUR: &[u8] = b"pd-journal 1 A
 1 9000 open 2000 3600 3600
@@ -41,6 +36,14 @@ const WHOLE_HOUR: &[u8] = b"pd-journal 1 A
 3 10000 grant 00030001020000000001 00000001 2001:0db8:0000:0000:0000:0000:0000:0000/56 3600
 4 3700000 close
 end 4
+";
+
+/// Its journal of no lease.
+const NOTHING: &[u8] = b"pd-journal 1 A
+1 9000 open 2000 3600 3600
+2 9000 pool 2001:0db8:0000:0000:0000:0000:0000:0000/48 56
+3 3700000 close
+end 3
 ";
 
 /// The octets that digits spell.
@@ -70,27 +73,7 @@ pub fn closes(book: &mut Book, now: Reading) -> bool {
     }
 }
 
-/// Returns what workers leave of so many turns.
-pub fn served<D: Datagrams + Sync, C: Clock + Sync>(
-    rt: &(impl Threads + Wait + Sync),
-    alloc: Global,
-    book: Book,
-    workers: usize,
-    own: &Duid,
-    datagrams: &D,
-    clock: &C,
-    turns: u32,
-    partner: Partner,
-) -> Option<Left> {
-    let turns = Turns::new(turns);
-    let blank = Blank::new(workers as u64);
-    serve_all::<Brand, _, _, _>(
-        rt, alloc, blank, book, workers, own, datagrams, clock, &turns, partner,
-    )
-    .ok()
-}
-
-/// Returns what workers of the server leave of so many turns.
+/// Returns what so many workers of the primary leave of so many turns.
 pub fn left<D: Datagrams + Sync, C: Clock + Sync>(
     rt: &(impl Threads + Wait + Sync),
     alloc: Global,
@@ -99,83 +82,134 @@ pub fn left<D: Datagrams + Sync, C: Clock + Sync>(
     datagrams: &D,
     clock: &C,
     turns: u32,
-    partner: Partner,
 ) -> Result<Left, Fail> {
     let own = own()?;
-    match served(
-        rt, alloc, book, workers, &own, datagrams, clock, turns, partner,
+    let turns = Turns::new(turns);
+    let mut slots = Vec::new(alloc);
+    for _ in 0..workers {
+        slots.push(Slot::new(datagrams))?;
+    }
+    let blank = Blank::new(slots.len() as u64);
+    match serve_all::<Brand, _, _, _>(
+        rt,
+        alloc,
+        blank,
+        book,
+        slots,
+        &own,
+        clock,
+        &turns,
+        Partner::Up,
     ) {
-        Some(left) => Ok(left),
-        None => Err(Fail::from("not closed")),
+        Ok(left) => Ok(left),
+        Err(_) => Err(Fail::from("not closed")),
     }
 }
 
-#[test]
-fn one_worker_grants_an_hour(rt: HostRuntime) -> Result<(), Fail> {
-    let datagrams = all_octets(rt.alloc(), &[SOLICIT, REQUEST])?;
-    let answers = all_octets(rt.alloc(), &[OFFERED, GRANTED])?;
-    let post = Post::new(&datagrams, &answers);
-    let clock = Still::new(Reading::new(10_000)?);
-    let Left { mut book, received } = left(
-        &rt,
-        rt.alloc(),
-        opened(rt.alloc())?,
-        1,
-        &post,
-        &clock,
-        2,
-        Partner::Up,
-    )?;
-    assert_eq!(rt; received, Ok(2));
-    assert_eq!(rt; post.sent_well(), Some(2));
-    assert_eq!(rt; clock.asked(), 2);
+/// Datagrams that come to one worker, and what is to come of them.
+#[derive(Drop)]
+struct Exchange {
+    /// The datagrams and their answers, as digits.
+    datagrams: &'static [&'static [u8]],
+    answers: &'static [&'static [u8]],
+    turns: u32,
+    /// What the clock shows; none where it fails.
+    at: Option<u64>,
+    /// Whether what is sent goes out.
+    sends: bool,
+    received: Result<u32, NodeError>,
+    /// How many answers are sent.
+    sent: usize,
+    /// How often the clock is asked.
+    asked: usize,
+    journal: &'static [u8],
+}
+
+/// The worked SOLICIT and REQUEST.
+const WORKED: Exchange = Exchange {
+    datagrams: &[SOLICIT, REQUEST],
+    answers: &[OFFERED, GRANTED],
+    turns: 2,
+    at: Some(10_000),
+    sends: true,
+    received: Ok(2),
+    sent: 2,
+    asked: 2,
+    journal: WHOLE_HOUR,
+};
+
+/// What one worker does: what is no message asks no clock, and a call that fails ends it.
+const EXCHANGES: [Exchange; 5] = [
+    WORKED,
+    Exchange {
+        datagrams: &[b"010a0b"],
+        answers: &[],
+        turns: 1,
+        received: Ok(1),
+        sent: 0,
+        asked: 0,
+        journal: NOTHING,
+        ..WORKED
+    },
+    // Nothing comes any more.
+    Exchange {
+        datagrams: &[REQUEST],
+        answers: &[GRANTED],
+        received: Err(NodeError::Net),
+        sent: 1,
+        asked: 1,
+        ..WORKED
+    },
+    Exchange {
+        datagrams: &[REQUEST, REQUEST],
+        answers: &[],
+        sends: false,
+        received: Err(NodeError::Net),
+        sent: 0,
+        asked: 1,
+        ..WORKED
+    },
+    Exchange {
+        datagrams: &[REQUEST, REQUEST],
+        answers: &[],
+        at: None,
+        received: Err(NodeError::Net),
+        sent: 0,
+        asked: 1,
+        journal: NOTHING,
+        ..WORKED
+    },
+];
+
+/// That all comes of an exchange which is to come of it.
+fn check(
+    rt: &(impl Abort + Threads + Wait + Sync),
+    alloc: Global,
+    exchange: &Exchange,
+) -> Result<(), Fail> {
+    let datagrams = all_octets(alloc, exchange.datagrams)?;
+    let answers = all_octets(alloc, exchange.answers)?;
+    let post = Post::new(&datagrams, &answers, exchange.sends);
+    let clock = Still::new(match exchange.at {
+        Some(at) => Some(Reading::new(at)?),
+        None => None,
+    });
+    let book = opened(alloc)?;
+    let Left { mut book, received } = left(rt, alloc, book, 1, &post, &clock, exchange.turns)?;
+    assert_eq!(rt; received, exchange.received);
+    assert_eq!(rt; post.sent_well(), Some(exchange.sent));
+    assert_eq!(rt; clock.asked(), exchange.asked);
     assert!(rt; closes(&mut book, Reading::new(3_700_000)?));
-    let text = write(rt.alloc(), book.role(), book.head(), book.journal())?;
-    assert_eq!(rt; text.as_slice(), WHOLE_HOUR);
+    let text = write(alloc, book.role(), book.head(), book.journal())?;
+    assert_eq!(rt; text.as_slice(), exchange.journal);
     Ok(())
 }
 
 #[test]
-fn what_is_no_message_asks_no_clock(rt: HostRuntime) -> Result<(), Fail> {
-    let datagrams = all_octets(rt.alloc(), &[b"010a0b"])?;
-    let post = Post::new(&datagrams, &[]);
-    let clock = Still::new(Reading::new(10_000)?);
-    let Left { book, received } = left(
-        &rt,
-        rt.alloc(),
-        opened(rt.alloc())?,
-        1,
-        &post,
-        &clock,
-        1,
-        Partner::Up,
-    )?;
-    assert_eq!(rt; received, Ok(1));
-    assert_eq!(rt; post.sent_well(), Some(0));
-    assert_eq!(rt; clock.asked(), 0);
-    assert_eq!(rt; book.journal().len(), 2);
-    Ok(())
-}
-
-#[test]
-fn a_failing_receive_ends_a_worker(rt: HostRuntime) -> Result<(), Fail> {
-    let datagrams = all_octets(rt.alloc(), &[REQUEST])?;
-    let answers = all_octets(rt.alloc(), &[GRANTED])?;
-    let post = Post::new(&datagrams, &answers);
-    let clock = Still::new(Reading::new(10_000)?);
-    let Left { book, received } = left(
-        &rt,
-        rt.alloc(),
-        opened(rt.alloc())?,
-        1,
-        &post,
-        &clock,
-        2,
-        Partner::Up,
-    )?;
-    assert_eq!(rt; received, Err(NodeError::Net));
-    assert_eq!(rt; post.sent_well(), Some(1));
-    assert_eq!(rt; book.journal().len(), 3);
+fn one_worker_answers(rt: HostRuntime) -> Result<(), Fail> {
+    for exchange in &EXCHANGES {
+        check(&rt, rt.alloc(), exchange)?;
+    }
     Ok(())
 }
 
@@ -183,19 +217,11 @@ fn a_failing_receive_ends_a_worker(rt: HostRuntime) -> Result<(), Fail> {
 fn two_workers_receive_ask_and_send_at_once(rt: HostRuntime) -> Result<(), Fail> {
     let datagrams = all_octets(rt.alloc(), &[SOLICIT, REQUEST])?;
     let answers = all_octets(rt.alloc(), &[OFFERED, GRANTED])?;
-    let post = Post::new(&datagrams, &answers);
-    let clock = Still::new(Reading::new(10_000)?);
+    let post = Post::new(&datagrams, &answers, true);
+    let clock = Still::new(Some(Reading::new(10_000)?));
     let met = Met::new(&post, &clock);
-    let Left { book, received } = left(
-        &rt,
-        rt.alloc(),
-        opened(rt.alloc())?,
-        2,
-        &met,
-        &met,
-        2,
-        Partner::Up,
-    )?;
+    let book = opened(rt.alloc())?;
+    let Left { book, received } = left(&rt, rt.alloc(), book, 2, &met, &met, 2)?;
     assert_eq!(rt; received, Ok(2));
     assert_eq!(rt; post.sent_well(), Some(2));
     assert!(rt; met.receiving.saw_it());
@@ -203,39 +229,4 @@ fn two_workers_receive_ask_and_send_at_once(rt: HostRuntime) -> Result<(), Fail>
     assert!(rt; met.sending.saw_it());
     assert_eq!(rt; book.journal().len(), 3);
     Ok(())
-}
-
-/// A secondary whose partner is down since 9000, at this reading, and what it answers to a REQUEST.
-fn check_alone(
-    rt: &(impl Abort + Threads + Wait + Sync),
-    alloc: Global,
-    reading: u64,
-    answer: &[u8],
-    lines: usize,
-) -> Result<(), Fail> {
-    let datagrams = all_octets(alloc, &[REQUEST])?;
-    let answers = all_octets(alloc, &[answer])?;
-    let post = Post::new(&datagrams, &answers);
-    let clock = Still::new(Reading::new(reading)?);
-    let Left { book, received } = left(
-        rt,
-        alloc,
-        opened_alone(rt, alloc)?,
-        1,
-        &post,
-        &clock,
-        1,
-        Partner::Down,
-    )?;
-    assert_eq!(rt; received, Ok(1));
-    assert_eq!(rt; post.sent_well(), Some(1));
-    assert_eq!(rt; book.journal().len(), lines);
-    Ok(())
-}
-
-// No lease of the partner's can last past 9000 + 3600 s + 2 x 2000 ms.
-#[test]
-fn a_unit_is_taken_over_once_no_lease_can_last(rt: HostRuntime) -> Result<(), Fail> {
-    check_alone(&rt, rt.alloc(), 3_612_999, NONE_GRANTED, 3)?;
-    check_alone(&rt, rt.alloc(), 3_613_000, GRANTED, 5)
 }

@@ -1,11 +1,10 @@
 //! A server's book that workers serve out of.
 
-use binding_rules::{Role, ServerState};
+use binding_rules::Role;
 use client_id::Duid;
 use lead_time::Reading;
-use server_book::{Book, Order, Settings, read_settings};
+use server_book::{Book, Settings, read_settings};
 use std::alloc::Global;
-use std::process::Abort;
 use std::test::Fail;
 
 /// Which server it is.
@@ -46,15 +45,6 @@ pub fn opened_by(alloc: Global, settings: &Settings) -> Result<Book, Fail> {
 /// The primary's book, opened at 9000.
 pub fn opened(alloc: Global) -> Result<Book, Fail> {
     opened_by(alloc, &settings_of(alloc, Role::Primary, WHOLE)?)
-}
-
-/// A secondary's book, opened at 9000, whose partner is down since then: it has three lines, and no unit of its own.
-pub fn opened_alone(rt: &impl Abort, alloc: Global) -> Result<Book, Fail> {
-    let now = Reading::new(9000)?;
-    let settings = settings_of(alloc, Role::Secondary, WHOLE)?;
-    let mut book = opened_by(alloc, &settings)?;
-    assert!(rt; book.apply(now, &Order::State(ServerState::Down)).is_ok());
-    Ok(book)
 }
 
 /// The server's own identifier.

@@ -4,15 +4,15 @@ use lead_time::Reading;
 use node_threads::{Clock, NetFault};
 use std::sync::atomic::{AtomicUsize, Ordering};
 
-/// A clock that always shows this reading, and counts who asks.
+/// A clock that always shows this reading, or none and fails, and counts who asks.
 #[derive(Drop)]
 pub struct Still {
-    reading: Reading,
+    reading: Option<Reading>,
     asked: AtomicUsize,
 }
 
 impl Still {
-    pub fn new(reading: Reading) -> Still {
+    pub fn new(reading: Option<Reading>) -> Still {
         Still {
             reading,
             asked: AtomicUsize::new(0),
@@ -28,6 +28,9 @@ impl Still {
 impl Clock for Still {
     fn now(&self) -> Result<Reading, NetFault> {
         self.asked.fetch_add(1, Ordering::SeqCst);
-        Ok(self.reading)
+        match self.reading {
+            Some(reading) => Ok(reading),
+            None => Err(NetFault),
+        }
     }
 }

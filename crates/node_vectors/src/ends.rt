@@ -3,7 +3,7 @@
 ghost use Rattle.std.specs.Prelude.{◌≡◌, length};
 
 use crate::answers::{closes, octets};
-use crate::books::{WHOLE, opened_by, settings_of};
+use crate::books::{opened_by, settings_of};
 use crate::clocks::Still;
 use crate::scripts::Script;
 use binding_rules::{Role, ServerState};
@@ -11,7 +11,7 @@ use client_id::{Duid, Iaid};
 use journal_text::write;
 use lead_time::Reading;
 use locked_book::{BookName, SharedBook};
-use node_threads::{Clock, NodeError, Turns, serve_link};
+use node_threads::{NodeError, Turns, serve_link};
 use prefix_range::read_text;
 use server_book::{Asked, Book, Order, Settings};
 use std::alloc::Global;
@@ -79,7 +79,7 @@ pub struct Done {
 }
 
 /// Returns what becomes of a link's end over one wire after another.
-fn by_link<N: BookName, R: Wait, C: Clock>(
+fn by_link<N: BookName, R: Wait>(
     rt: &R,
     alloc: Global,
     blank: Blank,
@@ -87,7 +87,7 @@ fn by_link<N: BookName, R: Wait, C: Clock>(
     settings: &Settings,
     first: &[Option<Order>],
     turns: &Turns,
-    clock: &C,
+    clock: &Still,
     wire: &mut Script<'_>,
     second: &mut Script<'_>,
 ) -> Option<Done>
@@ -126,56 +126,33 @@ fn by_link<N: BookName, R: Wait, C: Clock>(
 
 /// A link's end, what it hears, and what is to come of it.
 #[derive(Drop)]
-pub struct Case<'a> {
+pub struct Case {
     pub role: Role,
     /// The pool in its settings.
-    pub pool: &'a [u8],
+    pub pool: &'static [u8],
     pub first: First,
-    /// What its clock shows.
     pub at: u64,
+    /// Whether its clock shows that; else it fails.
+    pub shows: bool,
     /// Whether the workers have ended before.
     pub is_over: bool,
     /// What comes over the wire.
-    pub heard: &'a [&'a [u8]],
+    pub heard: &'static [&'static [u8]],
     /// How many octets a read brings, at most.
     pub step: usize,
-    /// How many reads bring octets of the last wire.
-    pub reads: usize,
     /// What comes over a second wire, if there is one.
-    pub again: &'a [&'a [u8]],
-    pub written: &'a [&'a [u8]],
-    pub written_again: &'a [&'a [u8]],
+    pub again: &'static [&'static [u8]],
+    pub written: &'static [&'static [u8]],
+    pub written_again: &'static [&'static [u8]],
     pub ended: Result<(), NodeError>,
-    pub journal: &'a [u8],
+    pub journal: &'static [u8],
+    /// Whether each read and each write of the last wire is let fail in turn, and how many reads of it bring octets.
+    pub cut: Option<usize>,
 }
 
-impl<'a> Case<'a> {
-    /// Returns what an end writes that hears these frames, and its journal.
-    pub fn new(
-        role: Role,
-        heard: &'a [&'a [u8]],
-        written: &'a [&'a [u8]],
-        journal: &'a [u8],
-    ) -> Case<'a> {
-        Case {
-            role,
-            pool: WHOLE,
-            first: First::Nothing,
-            at: 10_000,
-            is_over: false,
-            heard,
-            step: 4096,
-            reads: 1,
-            again: &[],
-            written,
-            written_again: &[],
-            ended: Ok(()),
-            journal,
-        }
-    }
-
+impl Case {
     /// Returns what is to be written to the last wire.
-    fn last_written(&self) -> &'a [&'a [u8]] {
+    fn last_written(&self) -> &'static [&'static [u8]] {
         if self.again.is_empty() {
             self.written
         } else {
@@ -208,44 +185,31 @@ pub fn joined(alloc: Global, frames: &[&[u8]]) -> Result<Vec<u8>, Fail> {
     front(alloc, frames, frames.len())
 }
 
-/// Lets an end live its case over these wires and by this clock, out of a book.
-pub fn live_by<C: Clock>(
+/// Lets an end live its case over these wires, out of a book.
+pub fn live(
     rt: &impl Wait,
     alloc: Global,
-    case: &Case<'_>,
+    case: &Case,
     settings: &Settings,
     book: Book,
-    clock: &C,
     wire: &mut Script<'_>,
     second: &mut Script<'_>,
 ) -> Option<Done> {
+    let at = Reading::new(case.at).ok()?;
+    let clock = Still::new(if case.shows { Some(at) } else { None });
     let turns = Turns::new(0);
     if case.is_over {
         turns.end(rt);
     }
     let first = orders_of(case.first);
     let blank = Blank::new(1);
-    by_link::<Brand, _, _>(
-        rt, alloc, blank, book, settings, &first, &turns, clock, wire, second,
+    by_link::<Brand, _>(
+        rt, alloc, blank, book, settings, &first, &turns, &clock, wire, second,
     )
 }
 
-/// The same, by a clock that shows what the case says.
-pub fn live(
-    rt: &impl Wait,
-    alloc: Global,
-    case: &Case<'_>,
-    settings: &Settings,
-    book: Book,
-    wire: &mut Script<'_>,
-    second: &mut Script<'_>,
-) -> Option<Done> {
-    let clock = Still::new(Reading::new(case.at).ok()?);
-    live_by(rt, alloc, case, settings, book, &clock, wire, second)
-}
-
 /// That all comes of a case which is to come of it.
-pub fn check(rt: &(impl Abort + Wait), alloc: Global, case: &Case<'_>) -> Result<(), Fail> {
+fn check_whole(rt: &(impl Abort + Wait), alloc: Global, case: &Case) -> Result<(), Fail> {
     let settings = case.settings(alloc)?;
     let book = opened_by(alloc, &settings)?;
     let heard = joined(alloc, case.heard)?;
@@ -290,7 +254,7 @@ fn check_front(
 fn check_cut(
     rt: &(impl Abort + Wait),
     alloc: Global,
-    case: &Case<'_>,
+    case: &Case,
     reads: usize,
     writes: usize,
     why: NodeError,
@@ -322,19 +286,18 @@ fn check_cut(
     Ok(())
 }
 
-/// That each write of a case's last wire which fails ends it, and each read.
-fn check_cuts(rt: &(impl Abort + Wait), alloc: Global, case: &Case<'_>) -> Result<(), Fail> {
+/// That all comes of a case which is to come of it, and, where it is said so, that each write of its last wire which
+/// fails ends it, and each read.
+pub fn check(rt: &(impl Abort + Wait), alloc: Global, case: &Case) -> Result<(), Fail> {
+    check_whole(rt, alloc, case)?;
+    let Some(reads) = case.cut else {
+        return Ok(());
+    };
     for writes in 0..case.last_written().len() {
         check_cut(rt, alloc, case, usize::MAX, writes, NodeError::Write)?;
     }
-    for reads in 0..case.reads {
+    for reads in 0..reads {
         check_cut(rt, alloc, case, reads, usize::MAX, NodeError::Read)?;
     }
     Ok(())
-}
-
-/// That all comes of a case which is to come of it, and that it ends where a read or a write of its last wire fails.
-pub fn check_whole(rt: &(impl Abort + Wait), alloc: Global, case: &Case<'_>) -> Result<(), Fail> {
-    check(rt, alloc, case)?;
-    check_cuts(rt, alloc, case)
 }

@@ -5,12 +5,13 @@ use crate::books::{WHOLE, opened_by, settings_of};
 use crate::clocks::Still;
 use crate::ends::{Case, Done, joined, live};
 use crate::frames::{CONNECT, CONNECT_REPLY, CONTACT};
+use crate::links::OF_PRIMARY;
 use crate::post::Post;
 use crate::scripts::Script;
 use binding_rules::Role;
 use lead_time::Reading;
 use locked_book::ServeError;
-use node_threads::{Left, NodeError, Partner};
+use node_threads::{Left, NodeError};
 use server_book::{Book, BookError, Order, Settings};
 use std::alloc::Global;
 use std::process::Abort;
@@ -47,10 +48,11 @@ fn check_link(
     settings: &Settings,
     book: Book,
 ) -> Result<(), Fail> {
-    let heard: &[&[u8]] = &[CONNECT_REPLY, CONTACT];
+    let heard: &'static [&'static [u8]] = &[CONNECT_REPLY, CONTACT];
     let case = Case {
+        heard,
         again: heard,
-        ..Case::new(Role::Primary, heard, &[CONNECT], b"")
+        ..OF_PRIMARY
     };
     let lines = book.journal().len();
     let octets = joined(alloc, heard)?;
@@ -76,10 +78,10 @@ fn workers_go_on_where_there_is_no_room_and_the_link_ends(rt: HostRuntime) -> Re
     let alloc = rt.alloc();
     let settings = settings_of(alloc, Role::Primary, WHOLE)?;
     let datagrams = all_octets(alloc, &[REQUEST, REQUEST])?;
-    let post = Post::new(&datagrams, &[]);
-    let clock = Still::new(Reading::new(10_000)?);
+    let post = Post::new(&datagrams, &[], true);
+    let clock = Still::new(Some(Reading::new(10_000)?));
     let full = full(alloc, &settings)?;
-    let Left { book, received } = left(&rt, alloc, full, 1, &post, &clock, 2, Partner::Up)?;
+    let Left { book, received } = left(&rt, alloc, full, 1, &post, &clock, 2)?;
     assert_eq!(rt; received, Ok(2));
     assert_eq!(rt; post.sent_well(), Some(0));
     assert_eq!(rt; book.journal().len(), MOST_LINES + 1);

@@ -1,10 +1,10 @@
 //! Datagrams that come once a server knows enough.
 
 use crate::moments::{Moment, wait_until};
-use crate::post::Post;
+use crate::post::{Datagrams, Post};
 use binding_rules::{Counter, Status, Unit};
 use locked_book::{BookName, Look, Pass, SharedBook};
-use node_threads::{Clock, Datagrams, NetFault};
+use node_threads::{Clock, NetFault};
 use prefix_range::Prefix;
 use std::sync::atomic::{AtomicUsize, Ordering};
 use std::sync::{Mutex, Wait};
@@ -105,8 +105,6 @@ impl<'a, N: BookName, R: Wait + Handle> Letters<'a, N, R> {
 }
 
 impl<N: BookName, R: Wait + Handle> Datagrams for Letters<'_, N, R> {
-    type Peer = usize;
-
     fn receive(&self, buffer: &mut [u8]) -> Result<(usize, usize), NetFault> {
         let number = self.received.fetch_add(1, Ordering::SeqCst);
         let (when, at) = match self.letters.get(number) {
@@ -122,9 +120,9 @@ impl<N: BookName, R: Wait + Handle> Datagrams for Letters<'_, N, R> {
     }
 
     // Once it is answered, time goes on.
-    fn send(&self, peer: &usize, octets: &[u8]) -> Result<(), NetFault> {
-        self.post.send(peer, octets)?;
-        if let Some(letter) = self.letters.get(*peer) {
+    fn send(&self, number: usize, octets: &[u8]) -> Result<(), NetFault> {
+        self.post.send(number, octets)?;
+        if let Some(letter) = self.letters.get(number) {
             self.moment.move_to(letter.at.saturating_add(1));
         }
         Ok(())

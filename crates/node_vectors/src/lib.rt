@@ -14,8 +14,6 @@ mod ends;
 #[cfg(test)]
 mod evidence;
 #[cfg(test)]
-mod faults;
-#[cfg(test)]
 mod frames;
 #[cfg(test)]
 mod full_books;
@@ -31,10 +29,6 @@ mod moments;
 mod node_settings;
 #[cfg(test)]
 mod nodes;
-#[cfg(test)]
-mod over_tcp;
-#[cfg(test)]
-mod over_udp;
 #[cfg(test)]
 mod pairs;
 #[cfg(test)]

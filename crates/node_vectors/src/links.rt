@@ -1,405 +1,388 @@
 //! What one end of the link writes to a wire in memory, and the journal that it leaves.
 
-use crate::books::{SINGLE, opened_by};
-use crate::ends::{Case, Done, First, check, check_whole, joined, live};
+use crate::books::{SINGLE, WHOLE, opened_by};
+use crate::ends::{Case, Done, First, check, joined, live};
 use crate::frames::*;
 use crate::scripts::Script;
 use binding_rules::Role;
 use node_threads::NodeError;
-use std::alloc::Global;
-use std::process::Abort;
-use std::sync::Wait;
 use std::test::Fail;
 
-#[test]
-fn the_secondary_answers_connect_and_takes_a_contact(rt: HostRuntime) -> Result<(), Fail> {
-    let heard: &[&[u8]] = &[CONNECT, CONTACT];
-    let case = Case::new(
-        Role::Secondary,
-        heard,
-        &[CONNECT_REPLY, POOL_REQUEST],
-        B_CONTACT,
-    );
-    check(&rt, rt.alloc(), &case)?;
-    check(&rt, rt.alloc(), &Case { step: 1, ..case })
-}
+/// The primary's end that hears its partner join, and has nothing to tell.
+pub const OF_PRIMARY: Case = Case {
+    role: Role::Primary,
+    pool: WHOLE,
+    first: First::Nothing,
+    at: 10_000,
+    shows: true,
+    is_over: false,
+    heard: &[CONNECT_REPLY],
+    step: 4096,
+    again: &[],
+    written: &[CONNECT],
+    written_again: &[],
+    ended: Ok(()),
+    journal: A_OPENED,
+    cut: None,
+};
 
-#[test]
-fn a_frame_is_taken_once(rt: HostRuntime) -> Result<(), Fail> {
-    let heard: &[&[u8]] = &[CONNECT, CONTACT, CONTACT];
-    let case = Case::new(
-        Role::Secondary,
-        heard,
-        &[CONNECT_REPLY, POOL_REQUEST],
-        B_CONTACT,
-    );
-    check(&rt, rt.alloc(), &case)
-}
+/// The secondary's, which asks for units.
+const OF_SECONDARY: Case = Case {
+    role: Role::Secondary,
+    heard: &[CONNECT],
+    written: &[CONNECT_REPLY, POOL_REQUEST],
+    journal: B_OPENED,
+    ..OF_PRIMARY
+};
+
+// Joining, going, and what comes out of its place: nothing of that is taken.
+
+// The secondary answers CONNECT and takes a CONTACT, whatever a read brings; and a frame once.
+const TAKES_A_CONTACT: Case = Case {
+    heard: &[CONNECT, CONTACT],
+    journal: B_CONTACT,
+    ..OF_SECONDARY
+};
+
+const TAKES_IT_BY_OCTETS: Case = Case {
+    heard: &[CONNECT, CONTACT],
+    journal: B_CONTACT,
+    step: 1,
+    ..OF_SECONDARY
+};
+
+const TAKES_IT_ONCE: Case = Case {
+    heard: &[CONNECT, CONTACT, CONTACT],
+    journal: B_CONTACT,
+    ..OF_SECONDARY
+};
+
+// An end says that it goes, and hears it.
+const SAYS_THAT_IT_GOES: Case = Case {
+    heard: &[],
+    written: &[CONNECT, DISCONNECT],
+    is_over: true,
+    cut: Some(0),
+    ..OF_PRIMARY
+};
+
+const HEARS_A_DISCONNECT: Case = Case {
+    heard: &[CONNECT, DISCONNECT, CONTACT],
+    ..OF_SECONDARY
+};
+
+// A clock that fails ends it.
+const HAS_NO_CLOCK: Case = Case {
+    shows: false,
+    written: &[CONNECT_REPLY],
+    ended: Err(NodeError::Net),
+    ..OF_SECONDARY
+};
+
+// What doesn't come there is refused.
+const HEARS_A_CONTACT_FIRST: Case = Case {
+    heard: &[CONTACT],
+    written: &[],
+    ended: Err(NodeError::Read),
+    ..OF_SECONDARY
+};
+
+const HEARS_ITS_OWN_ROLE: Case = Case {
+    heard: &[CONNECT_OF_SECONDARY],
+    written: &[],
+    ended: Err(NodeError::Read),
+    ..OF_SECONDARY
+};
+
+const HEARS_OF_WHAT_IT_NEVER_SENT: Case = Case {
+    heard: &[CONNECT_OF_ONE],
+    written: &[CONNECT_REPLY],
+    ended: Err(NodeError::Read),
+    ..OF_SECONDARY
+};
+
+const HEARS_NO_FRAME: Case = Case {
+    heard: &[b"0000000c"],
+    written: &[],
+    ended: Err(NodeError::Read),
+    ..OF_SECONDARY
+};
+
+const HEARS_A_CONNECT_FOR_A_REPLY: Case = Case {
+    heard: &[CONNECT],
+    ended: Err(NodeError::Read),
+    ..OF_PRIMARY
+};
+
+const HEARS_A_SECOND_CONNECT: Case = Case {
+    heard: &[CONNECT, CONNECT, CONTACT],
+    ended: Err(NodeError::Read),
+    ..OF_SECONDARY
+};
+
+// A state is passed over.
+const HEARS_OF_STATES: Case = Case {
+    heard: &[CONNECT, STATE_DOWN, CONTACT, STATE_NORMAL],
+    journal: B_CONTACT,
+    ..OF_SECONDARY
+};
+
+// Updates, their replies, and what is told again.
 
 // The update's 74 octets take three reads behind CONNECT's one.
+const REPLIES: Case = Case {
+    heard: &[CONNECT, UPDATE],
+    written: &[CONNECT_REPLY, POOL_REQUEST, REPLY],
+    journal: B_ANSWERED,
+    ..OF_SECONDARY
+};
+
+const REPLIES_SLOWLY: Case = Case {
+    heard: &[CONNECT, UPDATE],
+    written: &[CONNECT_REPLY, POOL_REQUEST, REPLY],
+    journal: B_ANSWERED,
+    step: 26,
+    cut: Some(4),
+    ..OF_SECONDARY
+};
+
+// A lease is told once; where that wasn't taken, over the next wire again.
+const TELLS_ONCE: Case = Case {
+    first: First::Lease,
+    written: &[CONNECT, UPDATE],
+    journal: A_TOLD,
+    ..OF_PRIMARY
+};
+
+const TELLS_AGAIN: Case = Case {
+    first: First::Lease,
+    written: &[CONNECT, UPDATE],
+    again: &[CONNECT_REPLY, REPLY],
+    written_again: &[CONNECT, UPDATE],
+    journal: A_ANSWERED,
+    cut: Some(1),
+    ..OF_PRIMARY
+};
+
+// A partner that lost its journal is refused.
+const REFUSES_A_NEW_JOURNAL: Case = Case {
+    first: First::Lease,
+    heard: &[CONNECT_REPLY, REPLY],
+    step: 26,
+    written: &[CONNECT, UPDATE],
+    again: &[CONNECT_REPLY],
+    written_again: &[CONNECT_OF_ONE],
+    ended: Err(NodeError::Read),
+    journal: A_ANSWERED,
+    ..OF_PRIMARY
+};
+
+// An update without a reply hides none.
+const TELLS_OF_TWO: Case = Case {
+    first: First::Leases,
+    written: &[CONNECT, UPDATE, SECOND_UPDATE],
+    journal: A_TOLD_TWICE,
+    ..OF_PRIMARY
+};
+
+// What is due is told again where it is asked for, and a reply answers the first sending.
+const IS_ASKED_AGAIN: Case = Case {
+    first: First::Lease,
+    heard: &[CONNECT_REPLY, UPDREQ],
+    step: 26,
+    written: &[CONNECT, UPDATE, UPDATE_AGAIN, UPDDONE],
+    journal: A_TOLD_AGAIN,
+    cut: Some(2),
+    ..OF_PRIMARY
+};
+
+const IS_ANSWERED_ONCE: Case = Case {
+    first: First::Lease,
+    heard: &[CONNECT_REPLY, UPDREQ, REPLY],
+    step: 26,
+    written: &[CONNECT, UPDATE, UPDATE_AGAIN, UPDDONE],
+    again: &[CONNECT_REPLY_OF_ONE],
+    written_again: &[CONNECT_OF_ONE, UPDATE_AGAIN],
+    journal: A_TOLD_AGAIN_ANSWERED,
+    ..OF_PRIMARY
+};
+
+// A server that isn't down tells all.
+const TELLS_ALL: Case = Case {
+    first: First::Lease,
+    heard: &[CONNECT_REPLY, UPDREQALL],
+    written: &[CONNECT, CONTACT, UPDATE_AGAIN, UPDDONE],
+    journal: A_WELCOMING,
+    cut: Some(1),
+    ..OF_PRIMARY
+};
+
+// What was told in a term before is told again.
+const TELLS_IN_ITS_NEW_TERM: Case = Case {
+    first: First::MovedAndRestarted,
+    heard: &[CONNECT_REPLY, A_CONTACT],
+    step: 26,
+    written: &[CONNECT, UPDREQALL, MOVE, ASKING_LATER, MOVE_AGAIN],
+    journal: A_MOVED_AGAIN,
+    ..OF_PRIMARY
+};
+
+// A lease has ended once the clock shows 10000 + 3600 s + 2 x 2000 ms: that is written and told in one turn.
+const ENDS_A_LEASE: Case = Case {
+    first: First::Lease,
+    at: 3_614_000,
+    written: &[CONNECT, EXPIRED],
+    journal: A_EXPIRED,
+    ..OF_PRIMARY
+};
+
+// Units that move, and those that were seized.
+
+// A unit whose move is rejected is asked back.
+const ASKS_BACK: Case = Case {
+    first: First::Move,
+    heard: &[CONNECT_REPLY, REJECTION],
+    step: 26,
+    written: &[CONNECT, MOVE, RETURN],
+    journal: A_ASKED_BACK,
+    ..OF_PRIMARY
+};
+
+// A server without units asks again, and a primary without units moves none.
+const ASKS_AGAIN: Case = Case {
+    heard: &[CONNECT, POOL_RESPONSE],
+    written: &[CONNECT_REPLY, POOL_REQUEST, POOL_REQUEST],
+    cut: Some(1),
+    ..OF_SECONDARY
+};
+
+const HAS_NONE_TO_MOVE: Case = Case {
+    pool: SINGLE,
+    first: First::Lease,
+    heard: &[CONNECT_REPLY, POOL_REQUEST],
+    written: &[CONNECT, POOL_RESPONSE, UPDATE],
+    journal: A_SMALL,
+    cut: Some(1),
+    ..OF_PRIMARY
+};
+
+// A seized unit comes back, at the one and at the server that waits.
+const TAKES_BACK: Case = Case {
+    first: First::Seized,
+    heard: &[CONNECT_REPLY, UPDREQALL, ASKING, SEIZED_REPLY],
+    step: 43,
+    written: &[CONNECT, A_CONTACT, SEIZED, UPDDONE, ANSWERING],
+    journal: A_RETURNED,
+    cut: Some(4),
+    ..OF_PRIMARY
+};
+
+const COMES_BACK: Case = Case {
+    first: First::Restarted,
+    heard: &[CONNECT, A_CONTACT, SEIZED, UPDDONE, ANSWERING],
+    written: &[CONNECT_REPLY, UPDREQALL, POOL_REQUEST, ASKING, SEIZED_REPLY],
+    journal: B_RETURNED,
+    cut: Some(1),
+    ..OF_SECONDARY
+};
+
+// A mark is told again where it is asked for: UPDDONE follows an UPDREQ at once, and an UPDREQALL only once the mark
+// is gone. What comes in a term before is no cause to tell it again.
+const KEEPS_A_MARK: Case = Case {
+    first: First::Seized,
+    heard: &[CONNECT_REPLY, UPDREQALL, UPDREQ, UPDREQ],
+    written: &[CONNECT, A_CONTACT, SEIZED],
+    journal: A_SEIZED,
+    ..OF_PRIMARY
+};
+
+const TELLS_A_MARK_AGAIN: Case = Case {
+    first: First::Seized,
+    heard: &[CONNECT_REPLY, UPDREQALL, UPDREQ, UPDREQ],
+    step: 43,
+    written: &[CONNECT, A_CONTACT, SEIZED, SEIZED_AGAIN, UPDDONE],
+    journal: A_SEIZED_AGAIN,
+    ..OF_PRIMARY
+};
+
+const HEARS_OF_AN_EARLIER_TERM: Case = Case {
+    first: First::Seized,
+    heard: &[CONNECT_REPLY, UPDREQALL, CONTACT],
+    step: 43,
+    written: &[CONNECT, A_CONTACT, SEIZED],
+    journal: A_SEIZED_BEFORE,
+    ..OF_PRIMARY
+};
+
 #[test]
-fn the_secondary_replies_to_an_update(rt: HostRuntime) -> Result<(), Fail> {
-    let heard: &[&[u8]] = &[CONNECT, UPDATE];
-    let written: &[&[u8]] = &[CONNECT_REPLY, POOL_REQUEST, REPLY];
-    let case = Case::new(Role::Secondary, heard, written, B_ANSWERED);
-    check(&rt, rt.alloc(), &case)?;
-    let slow = Case {
-        step: 26,
-        reads: 4,
-        ..case
-    };
-    check_whole(&rt, rt.alloc(), &slow)
+fn an_end_joins_and_goes(rt: HostRuntime) -> Result<(), Fail> {
+    let cases = [
+        TAKES_A_CONTACT,
+        TAKES_IT_BY_OCTETS,
+        TAKES_IT_ONCE,
+        SAYS_THAT_IT_GOES,
+        HEARS_A_DISCONNECT,
+        HAS_NO_CLOCK,
+        HEARS_A_CONTACT_FIRST,
+        HEARS_ITS_OWN_ROLE,
+        HEARS_OF_WHAT_IT_NEVER_SENT,
+        HEARS_NO_FRAME,
+        HEARS_A_CONNECT_FOR_A_REPLY,
+        HEARS_A_SECOND_CONNECT,
+        HEARS_OF_STATES,
+    ];
+    for case in &cases {
+        check(&rt, rt.alloc(), case)?;
+    }
+    Ok(())
 }
 
 #[test]
-fn the_primary_tells_of_a_lease_once(rt: HostRuntime) -> Result<(), Fail> {
-    let told = Case::new(Role::Primary, &[CONNECT_REPLY], &[CONNECT, UPDATE], A_TOLD);
-    check(
-        &rt,
-        rt.alloc(),
-        &Case {
-            first: First::Lease,
-            ..told
-        },
-    )
+fn an_end_tells_and_replies(rt: HostRuntime) -> Result<(), Fail> {
+    let cases = [
+        REPLIES,
+        REPLIES_SLOWLY,
+        TELLS_ONCE,
+        TELLS_AGAIN,
+        REFUSES_A_NEW_JOURNAL,
+        TELLS_OF_TWO,
+        IS_ASKED_AGAIN,
+        IS_ANSWERED_ONCE,
+        TELLS_ALL,
+        TELLS_IN_ITS_NEW_TERM,
+        ENDS_A_LEASE,
+    ];
+    for case in &cases {
+        check(&rt, rt.alloc(), case)?;
+    }
+    Ok(())
 }
 
 #[test]
-fn what_was_not_taken_is_sent_again(rt: HostRuntime) -> Result<(), Fail> {
-    let told = Case::new(
-        Role::Primary,
-        &[CONNECT_REPLY],
-        &[CONNECT, UPDATE],
-        A_ANSWERED,
-    );
-    let again: &[&[u8]] = &[CONNECT_REPLY, REPLY];
-    let written_again: &[&[u8]] = &[CONNECT, UPDATE];
-    let case = Case {
-        first: First::Lease,
-        again,
-        written_again,
-        ..told
-    };
-    check_whole(&rt, rt.alloc(), &case)
-}
-
-#[test]
-fn a_partner_that_lost_its_journal_is_refused(rt: HostRuntime) -> Result<(), Fail> {
-    let heard: &[&[u8]] = &[CONNECT_REPLY, REPLY];
-    let told = Case::new(Role::Primary, heard, &[CONNECT, UPDATE], A_ANSWERED);
-    let case = Case {
-        first: First::Lease,
-        step: 26,
-        again: &[CONNECT_REPLY],
-        written_again: &[CONNECT_OF_ONE],
-        ended: Err(NodeError::Read),
-        ..told
-    };
-    check(&rt, rt.alloc(), &case)
-}
-
-#[test]
-fn a_unit_whose_move_is_rejected_is_asked_back(rt: HostRuntime) -> Result<(), Fail> {
-    let heard: &[&[u8]] = &[CONNECT_REPLY, REJECTION];
-    let case = Case::new(Role::Primary, heard, &[CONNECT, MOVE, RETURN], A_ASKED_BACK);
-    check(
-        &rt,
-        rt.alloc(),
-        &Case {
-            first: First::Move,
-            step: 26,
-            ..case
-        },
-    )
-}
-
-#[test]
-fn an_end_says_that_it_goes(rt: HostRuntime) -> Result<(), Fail> {
-    let primary = Case::new(Role::Primary, &[], &[CONNECT, DISCONNECT], A_OPENED);
-    check_whole(
-        &rt,
-        rt.alloc(),
-        &Case {
-            is_over: true,
-            reads: 0,
-            ..primary
-        },
-    )?;
-    let heard: &[&[u8]] = &[CONNECT, DISCONNECT, CONTACT];
-    let written: &[&[u8]] = &[CONNECT_REPLY, POOL_REQUEST];
-    let secondary = Case::new(Role::Secondary, heard, written, B_OPENED);
-    check(&rt, rt.alloc(), &secondary)
-}
-
-/// Refuses these frames after these are written, with nothing taken.
-fn check_refused(
-    rt: &(impl Abort + Wait),
-    alloc: Global,
-    role: Role,
-    heard: &[&[u8]],
-    written: &[&[u8]],
-    journal: &[u8],
-) -> Result<(), Fail> {
-    let case = Case::new(role, heard, written, journal);
-    check(
-        rt,
-        alloc,
-        &Case {
-            ended: Err(NodeError::Read),
-            ..case
-        },
-    )
-}
-
-#[test]
-fn what_does_not_come_there_is_refused(rt: HostRuntime) -> Result<(), Fail> {
-    let alloc = rt.alloc();
-    check_refused(&rt, alloc, Role::Secondary, &[CONTACT], &[], B_OPENED)?;
-    check_refused(
-        &rt,
-        alloc,
-        Role::Secondary,
-        &[CONNECT_OF_SECONDARY],
-        &[],
-        B_OPENED,
-    )?;
-    check_refused(
-        &rt,
-        alloc,
-        Role::Secondary,
-        &[CONNECT_OF_ONE],
-        &[CONNECT_REPLY],
-        B_OPENED,
-    )?;
-    check_refused(&rt, alloc, Role::Secondary, &[b"0000000c"], &[], B_OPENED)?;
-    check_refused(&rt, alloc, Role::Primary, &[CONNECT], &[CONNECT], A_OPENED)
-}
-
-#[test]
-fn a_second_connect_is_refused(rt: HostRuntime) -> Result<(), Fail> {
-    let written: &[&[u8]] = &[CONNECT_REPLY, POOL_REQUEST];
-    let heard: &[&[u8]] = &[CONNECT, CONNECT, CONTACT];
-    check_refused(&rt, rt.alloc(), Role::Secondary, heard, written, B_OPENED)
-}
-
-#[test]
-fn an_unanswered_update_hides_none(rt: HostRuntime) -> Result<(), Fail> {
-    let told = Case::new(
-        Role::Primary,
-        &[CONNECT_REPLY],
-        &[CONNECT, UPDATE, SECOND_UPDATE],
-        A_TOLD_TWICE,
-    );
-    check(
-        &rt,
-        rt.alloc(),
-        &Case {
-            first: First::Leases,
-            ..told
-        },
-    )
-}
-
-#[test]
-fn what_is_due_is_told_again(rt: HostRuntime) -> Result<(), Fail> {
-    let told = Case::new(
-        Role::Primary,
-        &[CONNECT_REPLY, UPDREQ],
-        &[CONNECT, UPDATE, UPDATE_AGAIN, UPDDONE],
-        A_TOLD_AGAIN,
-    );
-    check_whole(
-        &rt,
-        rt.alloc(),
-        &Case {
-            first: First::Lease,
-            step: 26,
-            reads: 2,
-            ..told
-        },
-    )
-}
-
-#[test]
-fn a_reply_answers_the_first_sending(rt: HostRuntime) -> Result<(), Fail> {
-    let told = Case::new(
-        Role::Primary,
-        &[CONNECT_REPLY, UPDREQ, REPLY],
-        &[CONNECT, UPDATE, UPDATE_AGAIN, UPDDONE],
-        A_TOLD_AGAIN_ANSWERED,
-    );
-    let again: &[&[u8]] = &[CONNECT_REPLY_OF_ONE];
-    let written_again: &[&[u8]] = &[CONNECT_OF_ONE, UPDATE_AGAIN];
-    check(
-        &rt,
-        rt.alloc(),
-        &Case {
-            first: First::Lease,
-            step: 26,
-            again,
-            written_again,
-            ..told
-        },
-    )
-}
-
-#[test]
-fn a_seized_unit_comes_back(rt: HostRuntime) -> Result<(), Fail> {
-    let heard: &[&[u8]] = &[CONNECT_REPLY, UPDREQALL, ASKING, SEIZED_REPLY];
-    let written: &[&[u8]] = &[CONNECT, A_CONTACT, SEIZED, UPDDONE, ANSWERING];
-    let told = Case::new(Role::Primary, heard, written, A_RETURNED);
-    check_whole(
-        &rt,
-        rt.alloc(),
-        &Case {
-            first: First::Seized,
-            step: 43,
-            reads: 4,
-            ..told
-        },
-    )
-}
-
-#[test]
-fn a_server_that_waits_comes_back(rt: HostRuntime) -> Result<(), Fail> {
-    let heard: &[&[u8]] = &[CONNECT, A_CONTACT, SEIZED, UPDDONE, ANSWERING];
-    let written: &[&[u8]] = &[CONNECT_REPLY, UPDREQALL, POOL_REQUEST, ASKING, SEIZED_REPLY];
-    let told = Case::new(Role::Secondary, heard, written, B_RETURNED);
-    check_whole(
-        &rt,
-        rt.alloc(),
-        &Case {
-            first: First::Restarted,
-            ..told
-        },
-    )
-}
-
-#[test]
-fn a_server_without_units_asks_again(rt: HostRuntime) -> Result<(), Fail> {
-    let heard: &[&[u8]] = &[CONNECT, POOL_RESPONSE];
-    let written: &[&[u8]] = &[CONNECT_REPLY, POOL_REQUEST, POOL_REQUEST];
-    check_whole(
-        &rt,
-        rt.alloc(),
-        &Case::new(Role::Secondary, heard, written, B_OPENED),
-    )
-}
-
-#[test]
-fn what_was_told_in_a_term_before_is_told_again(rt: HostRuntime) -> Result<(), Fail> {
-    let heard: &[&[u8]] = &[CONNECT_REPLY, A_CONTACT];
-    let written: &[&[u8]] = &[CONNECT, UPDREQALL, MOVE, ASKING_LATER, MOVE_AGAIN];
-    let case = Case::new(Role::Primary, heard, written, A_MOVED_AGAIN);
-    check(
-        &rt,
-        rt.alloc(),
-        &Case {
-            first: First::MovedAndRestarted,
-            step: 26,
-            ..case
-        },
-    )
-}
-
-#[test]
-fn a_server_that_is_not_down_tells_all(rt: HostRuntime) -> Result<(), Fail> {
-    let heard: &[&[u8]] = &[CONNECT_REPLY, UPDREQALL];
-    let written: &[&[u8]] = &[CONNECT, CONTACT, UPDATE_AGAIN, UPDDONE];
-    let case = Case::new(Role::Primary, heard, written, A_WELCOMING);
-    check_whole(
-        &rt,
-        rt.alloc(),
-        &Case {
-            first: First::Lease,
-            ..case
-        },
-    )
-}
-
-// UPDDONE follows an UPDREQ at once, and an UPDREQALL only once the mark is gone.
-#[test]
-fn a_mark_is_told_again_where_it_is_asked_for(rt: HostRuntime) -> Result<(), Fail> {
-    let heard: &[&[u8]] = &[CONNECT_REPLY, UPDREQALL, UPDREQ, UPDREQ];
-    let once: &[&[u8]] = &[CONNECT, A_CONTACT, SEIZED];
-    let twice: &[&[u8]] = &[CONNECT, A_CONTACT, SEIZED, SEIZED_AGAIN, UPDDONE];
-    let at_once = Case {
-        first: First::Seized,
-        ..Case::new(Role::Primary, heard, once, A_SEIZED)
-    };
-    check(&rt, rt.alloc(), &at_once)?;
-    let later = Case {
-        first: First::Seized,
-        step: 43,
-        ..Case::new(Role::Primary, heard, twice, A_SEIZED_AGAIN)
-    };
-    check(&rt, rt.alloc(), &later)
-}
-
-#[test]
-fn what_comes_in_a_term_before_is_no_cause_to_tell_again(rt: HostRuntime) -> Result<(), Fail> {
-    let heard: &[&[u8]] = &[CONNECT_REPLY, UPDREQALL, CONTACT];
-    let written: &[&[u8]] = &[CONNECT, A_CONTACT, SEIZED];
-    let case = Case::new(Role::Primary, heard, written, A_SEIZED_BEFORE);
-    check(
-        &rt,
-        rt.alloc(),
-        &Case {
-            first: First::Seized,
-            step: 43,
-            ..case
-        },
-    )
-}
-
-// The lease has ended once the clock shows 10000 + 3600 s + 2 x 2000 ms.
-#[test]
-fn a_lease_is_ended_and_told_in_one_turn(rt: HostRuntime) -> Result<(), Fail> {
-    let case = Case::new(
-        Role::Primary,
-        &[CONNECT_REPLY],
-        &[CONNECT, EXPIRED],
-        A_EXPIRED,
-    );
-    check(
-        &rt,
-        rt.alloc(),
-        &Case {
-            first: First::Lease,
-            at: 3_614_000,
-            ..case
-        },
-    )
-}
-
-#[test]
-fn a_primary_without_units_moves_none(rt: HostRuntime) -> Result<(), Fail> {
-    let heard: &[&[u8]] = &[CONNECT_REPLY, POOL_REQUEST];
-    let written: &[&[u8]] = &[CONNECT, POOL_RESPONSE, UPDATE];
-    let case = Case::new(Role::Primary, heard, written, A_SMALL);
-    check_whole(
-        &rt,
-        rt.alloc(),
-        &Case {
-            pool: SINGLE,
-            first: First::Lease,
-            ..case
-        },
-    )
-}
-
-#[test]
-fn a_state_is_passed_over(rt: HostRuntime) -> Result<(), Fail> {
-    let heard: &[&[u8]] = &[CONNECT, STATE_DOWN, CONTACT, STATE_NORMAL];
-    let written: &[&[u8]] = &[CONNECT_REPLY, POOL_REQUEST];
-    let case = Case::new(Role::Secondary, heard, written, B_CONTACT);
-    check(&rt, rt.alloc(), &case)
+fn an_end_moves_units(rt: HostRuntime) -> Result<(), Fail> {
+    let cases = [
+        ASKS_BACK,
+        ASKS_AGAIN,
+        HAS_NONE_TO_MOVE,
+        TAKES_BACK,
+        COMES_BACK,
+        KEEPS_A_MARK,
+        TELLS_A_MARK_AGAIN,
+        HEARS_OF_AN_EARLIER_TERM,
+    ];
+    for case in &cases {
+        check(&rt, rt.alloc(), case)?;
+    }
+    Ok(())
 }
 
 #[test]
 fn the_primary_moves_half(rt: HostRuntime) -> Result<(), Fail> {
     let alloc = rt.alloc();
-    let case = Case::new(Role::Primary, &[CONNECT_REPLY, POOL_REQUEST], &[], &[]);
+    let case = Case {
+        heard: &[CONNECT_REPLY, POOL_REQUEST],
+        ..OF_PRIMARY
+    };
     let settings = case.settings(alloc)?;
     let book = opened_by(alloc, &settings)?;
     let heard = joined(alloc, case.heard)?;

@@ -1,7 +1,8 @@
 //! Calls that wait for each other.
 
+use crate::post::Datagrams;
 use lead_time::Reading;
-use node_threads::{Clock, Datagrams, NetFault};
+use node_threads::{Clock, NetFault};
 use std::sync::atomic::{AtomicBool, AtomicUsize, Ordering};
 use std::thread;
 
@@ -65,16 +66,14 @@ impl<'a, D: Datagrams, C: Clock> Met<'a, D, C> {
 }
 
 impl<D: Datagrams, C: Clock> Datagrams for Met<'_, D, C> {
-    type Peer = D::Peer;
-
-    fn receive(&self, buffer: &mut [u8]) -> Result<(usize, D::Peer), NetFault> {
+    fn receive(&self, buffer: &mut [u8]) -> Result<(usize, usize), NetFault> {
         self.receiving.begin();
         self.datagrams.receive(buffer)
     }
 
-    fn send(&self, peer: &D::Peer, octets: &[u8]) -> Result<(), NetFault> {
+    fn send(&self, number: usize, octets: &[u8]) -> Result<(), NetFault> {
         self.sending.begin();
-        self.datagrams.send(peer, octets)
+        self.datagrams.send(number, octets)
     }
 }
 

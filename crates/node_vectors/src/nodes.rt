@@ -4,7 +4,7 @@ ghost use Rattle.std.specs.Prelude.{◌≡◌, length};
 
 use crate::letters::{Letter, Letters};
 use crate::moments::{Moment, wait_until};
-use crate::post::Post;
+use crate::post::{Post, Slot};
 use locked_book::{BookName, Pass, SharedBook};
 use node_threads::{NodeError, Partner, Turns, Wire, serve_datagrams, serve_link};
 use prefix_range::Prefix;
@@ -91,7 +91,7 @@ fn worked<N: BookName, R: Wait + Handle>(
         shared,
         &mut pass,
         own,
-        &datagrams,
+        &mut Slot::new(&datagrams),
         moment,
         turns,
         Partner::Up,

@@ -92,7 +92,7 @@ pub fn live<R: Threads + Wait + Handle + Sync, W: Wire + Drop + Send>(
         unit,
         joined,
     } = begin;
-    let post = Post::new(&datagrams, &answers);
+    let post = Post::new(&datagrams, &answers, true);
     let turns = Turns::new(u32::try_from(letters.len()).ok()?);
     let blank = Blank::new(3);
     by_node::<Brand, _, _>(
