@@ -8,7 +8,6 @@ use Rattle.journal_text.specs.Faults.{journal_of_side}
 use Rattle.desk_intake.specs.declared.error.DeskError.{DeskError}
 use Rattle.desk_intake.specs.Input.{first_text, text_behind}
 use Rattle.attribution_desk.specs.Timeline.{IsTimelineOf, IsTimeline}
-use Rattle.attribution_desk.specs.Telling.{TellsText}
 use Rattle.std.specs.Io.KnownBytes.{Appends}
 use Rattle.attribution_desk.specs.Running.{IsWritten}
 
@@ -25,22 +24,6 @@ pub of_known : (says : List ℕ → Type 0) (given : Option (List ℕ)) (input :
     → says input → IfSome given says
 of_known says None input is h = tt
 of_known says (Some all) input is h = subst says (sym is) h
-
--- the timeline of what the texts of an input are
-pub timeline_of : (input : List ℕ) (a b : Result Journal JournalFault) (text : List ℕ) (status : ℕ)
-    → a ≡ journal_of_side Primary (first_text input) → b ≡ journal_of_side Secondary (text_behind input)
-    → IsTimelineOf a b text status → IsTimeline input text status
-timeline_of input a b text status ea eb h =
-    subst (λ x. IsTimelineOf (journal_of_side Primary (first_text input)) x text status) eb
-    (subst (λ x. IsTimelineOf x b text status) ea h)
-
-pub timeline_written : (given held now : Option (List ℕ)) (input : List ℕ) (a b : Result Journal JournalFault)
-    (r : Result ℕ DeskError) → IfSome given (λ all. all ≡ input) → a ≡ journal_of_side Primary (first_text input)
-    → b ≡ journal_of_side Secondary (text_behind input)
-    → IfOk r (TellsText (IsTimelineOf a b) held now) → IfOk r (IsWritten IsTimeline given held now)
-timeline_written given held now input a b (Err e) is ea eb h = tt
-timeline_written given held now input a b (Ok status) is ea eb (text, of, appended) =
-    written IsTimeline given held now input text status is (timeline_of input a b text status ea eb of) appended
 
 -- what is so of what the texts of an input were read to is so of the input
 pub of_input : (P : Result Journal JournalFault → Result Journal JournalFault → List ℕ

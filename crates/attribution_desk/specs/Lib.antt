@@ -5,7 +5,6 @@ pub mod Timeline
 pub mod Running
 pub mod Headline
 pub mod Warnings
-pub mod Telling
 pub mod Claims
 pub mod Find
 pub mod Clocks

@@ -7,16 +7,18 @@ use Rattle.attribution_desk.specs.Answer.{IsDeskAnswer}
 use Rattle.attribution_desk.specs.Batch.{IsBatch}
 use Rattle.attribution_desk.specs.Timeline.{IsTimeline}
 use Rattle.attribution_desk.specs.Clocks.{IsClocks}
-use Rattle.attribution_desk.specs.Searching.{IsFind, IsWho}
+use Rattle.attribution_desk.specs.declared.searching.Search.TheVariants.{Find as FindEvidence, Who as FindHolder}
+use Rattle.attribution_desk.specs.Searching.{IsSearchTold}
 
--- the text and the status with which a command answers this input
-abbrev pub Answers : Command → List ℕ → List ℕ → ℕ → Type 0
-Answers (Audit skew transit) input text status = IsDeskAnswer input skew transit text status
-Answers (Batch skew transit workers) input text status = IsBatch input skew transit text status
-Answers Timeline input text status = IsTimeline input text status
-Answers Clocks input text status = IsClocks input text status
-Answers (Find query) input text status = IsFind input query text status
-Answers (Who query settings) input text status = IsWho input query settings text status
+-- the text and the status with which a command answers this input; a search's warnings belong to its answer
+abbrev pub Answers : Command → List ℕ → List ℕ → List ℕ → ℕ → Type 0
+Answers (Audit skew transit) input warnings text status = IsDeskAnswer input skew transit text status
+Answers (Batch skew transit workers) input warnings text status = IsBatch input skew transit text status
+Answers Timeline input warnings text status = IsTimeline input text status
+Answers Clocks input warnings text status = IsClocks input text status
+Answers (Find query) input warnings text status = IsSearchTold input (FindEvidence query) warnings text status
+Answers (Who query settings) input warnings text status =
+    IsSearchTold input (FindHolder query settings) warnings text status
 
 -- where it is known what the reader had to give, the answer to all of that was written, behind what the writer held
 abbrev pub IsWritten :

@@ -1,5 +1,5 @@
 -- What a search of two journals answers: what refuses them first, then what forbids to name a client over them.
-use Rattle.std.specs.Prelude.{◌⊎◌, ⊤, ℕ, List, Result, Ok, Err}
+use Rattle.std.specs.Prelude.{◌≡◌, ◌⊎◌, ◌++◌, ⊤, ℕ, List, [], Result, Ok, Err}
 use Rattle.binding_rules.specs.declared.role.Role.TheVariants.{Primary, Secondary}
 use Rattle.journal_lines.specs.declared.line.Journal.{Journal}
 use Rattle.journal_lines.specs.declared.fault.JournalFault.{JournalFault}
@@ -19,6 +19,7 @@ use Rattle.attribution_desk.specs.declared.searching.Search.TheVariants.{Find, W
 use Rattle.desk_intake.specs.Input.{first_text, text_behind}
 use Rattle.attribution_desk.specs.Find.{IsRulingText, IsFinding}
 use Rattle.attribution_desk.specs.Who.{IsHolding}
+use Rattle.attribution_desk.specs.Warnings.{IsSearchWarning}
 
 -- the skew that is asked with
 abbrev pub skew_of : Search → ℕ
@@ -37,32 +38,37 @@ Allows (Who q MayDiffer) a b = ⊤
 Allows (Find q) a b = ⊤
 
 -- what is found in the journals
-abbrev pub Answered : Search → Journals → List ℕ → ℕ → Type 0
-Answered (Find q) js text status = IsFinding js q text status
-Answered (Who q settings) js text status = IsHolding js q text status
+abbrev pub Answered : Search → Journals → List ℕ → ℕ → List ℕ → Type 0
+Answered (Find q) js text status note = IsFinding js q text status note
+Answered (Who q settings) js text status note = IsHolding js q text status note
+
+-- a ruling is said, and nothing beside it
+abbrev pub IsSaid : Ruling → List ℕ → ℕ → List ℕ → Type 0
+IsSaid r text status note = IsRulingText r text status × (note ≡ [])
 
 -- what stands against the two journals, or else against asking this of them, or else what is found
-abbrev pub IsSearchOn : Journal → Journal → Search → List ℕ → ℕ → Type 0
-IsSearchOn a b q text status =
-    ((r : Ruling) × IsRuledOut a b (skew_of q) r × IsRulingText r text status)
+abbrev pub IsSearchOn : Journal → Journal → Search → List ℕ → ℕ → List ℕ → Type 0
+IsSearchOn a b q text status note =
+    ((r : Ruling) × IsRuledOut a b (skew_of q) r × IsSaid r text status note)
     ⊎ (IsFit a b (skew_of q)
-    × (((r : Ruling) × Forbids q a b r × IsRulingText r text status)
-    ⊎ (Allows q a b × Answered q (journals_of a b) text status)))
+    × (((r : Ruling) × Forbids q a b r × IsSaid r text status note)
+    ⊎ (Allows q a b × Answered q (journals_of a b) text status note)))
 
 -- a fault of A's text before one of B's
-abbrev pub IsSearchOf : Result Journal JournalFault → Result Journal JournalFault → Search → List ℕ → ℕ → Type 0
-IsSearchOf (Err fault) b q text status = IsRulingText (Verdict (JournalVerdict Primary fault)) text status
-IsSearchOf (Ok a) (Err fault) q text status = IsRulingText (Verdict (JournalVerdict Secondary fault)) text status
-IsSearchOf (Ok a) (Ok b) q text status = IsSearchOn a b q text status
+abbrev pub IsSearchOf : Result Journal JournalFault → Result Journal JournalFault → Search → List ℕ → ℕ → List ℕ
+    → Type 0
+IsSearchOf (Err fault) b q text status note = IsSaid (Verdict (JournalVerdict Primary fault)) text status note
+IsSearchOf (Ok a) (Err fault) q text status note = IsSaid (Verdict (JournalVerdict Secondary fault)) text status note
+IsSearchOf (Ok a) (Ok b) q text status note = IsSearchOn a b q text status note
 
 -- of an input: journal A, and journal B, which is all that follows
-abbrev pub IsSearch : List ℕ → Search → List ℕ → ℕ → Type 0
-IsSearch input q text status =
+abbrev pub IsSearch : List ℕ → Search → List ℕ → ℕ → List ℕ → Type 0
+IsSearch input q text status note =
     IsSearchOf (journal_of_side Primary (first_text input)) (journal_of_side Secondary (text_behind input))
-    q text status
+    q text status note
 
-abbrev pub IsFind : List ℕ → Query → List ℕ → ℕ → Type 0
-IsFind input q text status = IsSearch input (Find q) text status
-
-abbrev pub IsWho : List ℕ → HolderQuery → Settings → List ℕ → ℕ → Type 0
-IsWho input q settings text status = IsSearch input (Who q settings) text status
+-- with warnings: those on the journals, and behind them what is noted of what was found
+abbrev pub IsSearchTold : List ℕ → Search → List ℕ → List ℕ → ℕ → Type 0
+IsSearchTold input q warnings text status =
+    (note : List ℕ) × IsSearch input q text status note
+    × ((front : List ℕ) × IsSearchWarning q input front × (warnings ≡ front ++ note))

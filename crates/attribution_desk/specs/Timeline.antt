@@ -40,13 +40,15 @@ IsOrderText js (Err (SentOtherwise take)) text status = IsRefusal (Differs take)
 IsOrderText js (Err InACircle) text status = IsRefusal Circular text status
 IsOrderText js (Err Memory) text status = ⊥
 
+-- the order of two journals' lines, or why there is none
+abbrev pub TellsOrder : Journals → List ℕ → ℕ → Type 0
+TellsOrder js text status = (merged : Result Merged MergeError) × IsMerge js merged × IsOrderText js merged text status
+
 -- a fault of A's text before one of B's; no rule is asked
 abbrev pub IsTimelineOf : Result Journal JournalFault → Result Journal JournalFault → List ℕ → ℕ → Type 0
 IsTimelineOf (Err fault) b text status = IsRefusal (JournalVerdict Primary fault) text status
 IsTimelineOf (Ok a) (Err fault) text status = IsRefusal (JournalVerdict Secondary fault) text status
-IsTimelineOf (Ok a) (Ok b) text status =
-    (merged : Result Merged MergeError) × IsMerge (journals_of a b) merged
-    × IsOrderText (journals_of a b) merged text status
+IsTimelineOf (Ok a) (Ok b) text status = TellsOrder (journals_of a b) text status
 
 -- of an input: journal A, and journal B, which is all that follows
 abbrev pub IsTimeline : List ℕ → List ℕ → ℕ → Type 0

@@ -1,5 +1,5 @@
 -- What the desk warns of: that nothing ties the two journals together (K2), or them and the question (K3).
-use Rattle.std.specs.Prelude.{◌≡◌, ℕ, List, [], Result, Ok, Err}
+use Rattle.std.specs.Prelude.{◌≡◌, ⊤, ℕ, List, [], Result, Ok, Err}
 use Rattle.binding_rules.specs.declared.role.Role.TheVariants.{Primary, Secondary}
 use Rattle.journal_lines.specs.declared.line.Journal.{Journal}
 use Rattle.journal_lines.specs.declared.fault.JournalFault.{JournalFault}
@@ -35,11 +35,11 @@ abbrev pub IsSearchWarning : Search → List ℕ → List ℕ → Type 0
 IsSearchWarning search input text =
     WarnsOf search (journal_of_side Primary (first_text input)) (journal_of_side Secondary (text_behind input)) text
 
--- what a command warns of
+-- what a command warns of; of a search's warnings its answer says more
 abbrev pub Warns : Command → List ℕ → List ℕ → Type 0
 Warns (Audit skew transit) input text = IsJudgingWarning input skew transit text
 Warns (Batch skew transit workers) input text = IsJudgingWarning input skew transit text
 Warns Timeline input text = text ≡ []
 Warns Clocks input text = text ≡ []
-Warns (Find query) input text = IsSearchWarning (FindEvidence query) input text
-Warns (Who query settings) input text = IsSearchWarning (FindHolder query settings) input text
+Warns (Find query) input text = ⊤
+Warns (Who query settings) input text = ⊤

@@ -1,12 +1,14 @@
 -- What the desk answers where it is asked who held a prefix at a moment.
-use Rattle.std.specs.Prelude.{◌≡◌, ◌⊎◌, ℕ, List, [], ◌∷◌, ◌++◌, codes}
+use Rattle.std.specs.Prelude.{◌≡◌, ◌⊎◌, ℕ, List, [], ◌∷◌, ◌++◌, Ok, codes}
 use Rattle.text_fields.specs.Cuts.{with_stops}
 use Rattle.time_text.specs.Time.{IsTimeText}
 use Rattle.causal_order.specs.Journals.{Journals}
 use Rattle.claims.specs.declared.certificate.Certificate.{Certificate}
 use Rattle.certificate.specs.Spelling.{line_text, holder_words, interval_words, certificate_text}
+use Rattle.certificate.specs.Faults.{certificate_of}
 use Rattle.plain_search.specs.declared.query.HolderQuery.{HolderQuery}
 use Rattle.evidence_search.specs.Claim.{IsRound, IsAcceptedOf, IsWidest, HasNoPlainHolder}
+use Rattle.attribution_desk.specs.Find.{IsOverLimits, over_limits}
 
 -- the interval as clocks show its ends
 abbrev pub times_words : (from to : List ℕ) → List (List ℕ)
@@ -25,20 +27,35 @@ pub record IsHeldText (c : Certificate) (text : List ℕ) : Type 0 where
   pub to_is : IsTimeText c.to to
   pub spelled : text ≡ with_stops 10 (held_lines c from to) ++ certificate_text c
 
--- a certificate of the prefix round the moment that an auditor accepts, and the widest that plain evidence shows
-pub record IsHeld (js : Journals) (q : HolderQuery) (text : List ℕ) (status : ℕ) : Type 0 where
+-- a certificate of the prefix round the moment that an auditor accepts, and the widest that plain evidence shows; it is
+-- what its text is read as
+pub record IsHeld (js : Journals) (q : HolderQuery) (text : List ℕ) (status : ℕ) (note : List ℕ) : Type 0 where
   pub certificate : Certificate
   pub round : IsRound q certificate
   pub shown : IsAcceptedOf js q certificate
   pub widest : IsWidest js q certificate
+  pub read : certificate_of (certificate_text certificate) ≡ Ok certificate
   pub spelled : IsHeldText certificate text
   pub found : status ≡ 0
+  pub quiet : note ≡ []
 
 -- `none`, where no plain one of any client's is accepted
-pub record IsNoneHeld (js : Journals) (q : HolderQuery) (text : List ℕ) (status : ℕ) : Type 0 where
+pub record IsNoneHeld (js : Journals) (q : HolderQuery) (text : List ℕ) (status : ℕ) (note : List ℕ) : Type 0 where
   pub none : HasNoPlainHolder js q
   pub word : text ≡ codes "none\n"
   pub missed : status ≡ 1
+  pub quiet : note ≡ []
 
-abbrev pub IsHolding : Journals → HolderQuery → List ℕ → ℕ → Type 0
-IsHolding js q text status = IsHeld js q text status ⊎ IsNoneHeld js q text status
+-- `none` too, and a line for a person, where one is accepted whose text is over the limits
+pub record IsNotNamed (js : Journals) (q : HolderQuery) (text : List ℕ) (status : ℕ) (note : List ℕ) : Type 0 where
+  pub certificate : Certificate
+  pub round : IsRound q certificate
+  pub shown : IsAcceptedOf js q certificate
+  pub over : IsOverLimits js q.skew q.transit certificate
+  pub word : text ≡ codes "none\n"
+  pub missed : status ≡ 1
+  pub says : note ≡ over_limits
+
+abbrev pub IsHolding : Journals → HolderQuery → List ℕ → ℕ → List ℕ → Type 0
+IsHolding js q text status note =
+    IsHeld js q text status note ⊎ (IsNoneHeld js q text status note ⊎ IsNotNamed js q text status note)

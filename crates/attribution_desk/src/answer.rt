@@ -2,7 +2,9 @@
 
 ghost use Rattle.std.specs.Prelude.{◌≡◌, IfOk, IfErr};
 ghost use Rattle.pair_ruling.specs.Ruling.{ruling_line as line_of, status_of};
+ghost use Rattle.attribution_desk.specs.Timeline.{IsRefusal};
 
+use attribution::{Verdict, verdict_line};
 use desk_intake::DeskError;
 use pair_ruling::{Ruling, ruling_line, status_of};
 use std::alloc::Global;
@@ -28,5 +30,14 @@ impl Answer {
             line,
             status: status_of(ruling),
         })
+    }
+
+    /// The answer that says a verdict which refuses; `Memory` where a growth was refused.
+    pub(crate) fn refusing(alloc: Global, verdict: &Verdict) -> Result<Answer, DeskError>
+        ensures said { IfOk result (λ answer. IsRefusal verdict.now answer.line.items answer.status) }
+        ensures refused { IfErr result (λ e. e ≡ DeskError.Memory) }
+    {
+        let line = verdict_line(alloc, verdict)?;
+        Ok(Answer { line, status: 1 })
     }
 }

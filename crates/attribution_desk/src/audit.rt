@@ -1,6 +1,6 @@
 //! Answering one certificate over two journals.
 
-ghost use Rattle.std.specs.Prelude.{◌≡◌, ◌⊎◌, true, IfOk, IfSome, IfErr, IsErrOf};
+ghost use Rattle.std.specs.Prelude.{◌≡◌, ◌≢◌, ◌⊎◌, true, IfOk, IfSome, IfErr, IsErrOf};
 ghost use Rattle.std.specs.Result.{ForOk};
 ghost use Rattle.journal_text.specs.Closed.{IsClosed};
 ghost use Rattle.attribution_desk.specs.Answer.{IsAnswerOf, IsDeskAnswer};
@@ -79,6 +79,7 @@ pub(crate) fn audit_input<T: Threads + Sync, R: Read, W: Write>(
         (λ input. IsJudgingWarning input skew transit outcome.warnings.items)) }
     ensures read { IsErrOf result DeskError.Read → (reader.new.failed ≡ true) ⊎ (reader.new.turns ≡ 0) }
     ensures write { IsErrOf result DeskError.Write → writer.new.failed ≡ true }
+    ensures kept { IfErr result (λ e. e ≢ DeskError.Write → writer.new ≡ writer.old) }
 {
     let intake = take_all(rt, alloc, reader, Intake::new(alloc))?;
     let input = intake.finish();

@@ -19,6 +19,7 @@ mod clocks;
 mod holding;
 mod judging;
 mod outcome;
+mod reading_again;
 mod running;
 mod searching;
 mod timelines;

@@ -1,6 +1,6 @@
 //! Carrying out commands.
 
-ghost use Rattle.std.specs.Prelude.{◌≡◌, ◌⊎◌, true, IfOk, IfSome, IsErrOf};
+ghost use Rattle.std.specs.Prelude.{◌≡◌, ◌≢◌, ◌⊎◌, true, IfOk, IfSome, IsErrOf, IfErr};
 ghost use Rattle.attribution_desk.specs.Running.{Answers, IsWritten};
 ghost use Rattle.attribution_desk.specs.Headline.{SaysTrue};
 ghost use Rattle.attribution_desk.specs.Warnings.{Warns};
@@ -29,7 +29,8 @@ pub fn run<T: Threads + Wait + Sync, R: Read, W: Write>(
     reader: &mut Watched<R>,
     writer: &mut Watched<W>,
 ) -> Result<Outcome, DeskError>
-    ensures written { IfOk result (λ outcome. IsWritten (Answers command.now) (R.remaining reader.old.device)
+    ensures written { IfOk result (λ outcome.
+        IsWritten (λ input. Answers command.now input outcome.warnings.items) (R.remaining reader.old.device)
         (W.contents writer.old.device) (W.contents writer.new.device) outcome.status) }
     ensures warned { IfOk result (λ outcome. IfSome (R.remaining reader.old.device)
         (λ input. Warns command.now input outcome.warnings.items)) }
@@ -40,6 +41,8 @@ pub fn run<T: Threads + Wait + Sync, R: Read, W: Write>(
     // A reader that is well and has turns left isn't blamed, nor is a writer that is well.
     ensures read { IsErrOf result DeskError.Read → (reader.new.failed ≡ true) ⊎ (reader.new.turns ≡ 0) }
     ensures write { IsErrOf result DeskError.Write → writer.new.failed ≡ true }
+    // Nothing was written but by a write that failed.
+    ensures kept { IfErr result (λ e. e ≢ DeskError.Write → writer.new ≡ writer.old) }
 {
     accepted_texts_are_true();
     match command {

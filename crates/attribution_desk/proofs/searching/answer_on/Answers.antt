@@ -44,7 +44,8 @@ returns-clause-answer g c =
       subst (IsFit c.args.primary.now c.args.secondary.now) c.skew.ensures fit.0,
       inr (
         allowed,
-        subst (λ js. Answered c.args.search.now js answer.line.items answer.status) c.in_ok-index.ensures
+        subst (λ js. Answered c.args.search.now js answer.line.items answer.status
+            answer.note.items) c.in_ok-index.ensures
             c.in_ok-answer-2.ensures.answer,
       ),
     )
