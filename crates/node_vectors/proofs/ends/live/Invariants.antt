@@ -1,5 +1,5 @@
 use Rattle.std.proofs.Common.{length}
-use Rattle.node_vectors.proofs.ends.live_by.Given as goal
+use Rattle.node_vectors.proofs.ends.live.Given as goal
 
 abbrev pub ghosts-by_link-N-Ledger : goal.ghosts-by_link-N-Ledger
 ghosts-by_link-N-Ledger g a = record { name = a.blank.name; parts = a.blank.parts }
