@@ -29,19 +29,23 @@ fn refused<N: BookName>(
     }
 }
 
-#[test]
-fn no_pass_is_too_few(rt: HostRuntime) -> Result<(), Fail> {
-    let book = opened(rt.alloc())?;
-    let found = refused::<Brand>(rt.alloc(), Blank::new(0), book, 0);
-    assert_eq!(rt; found, Some((LockFault::Passes, 2)));
-    Ok(())
-}
+/// How many passes there may be, and why not where there may not.
+const PASSES: [(usize, Option<(LockFault, usize)>); 6] = [
+    (0, Some((LockFault::Passes, 2))),
+    (1, None),
+    (33, None),
+    (63, None),
+    (64, None),
+    (65, Some((LockFault::Passes, 2))),
+];
 
 #[test]
-fn sixty_five_passes_are_too_many(rt: HostRuntime) -> Result<(), Fail> {
-    let book = opened(rt.alloc())?;
-    let found = refused::<Brand>(rt.alloc(), Blank::new(65), book, 65);
-    assert_eq!(rt; found, Some((LockFault::Passes, 2)));
+fn one_to_sixty_four_passes_share_a_book(rt: HostRuntime) -> Result<(), Fail> {
+    for (passes, wanted) in PASSES {
+        let book = opened(rt.alloc())?;
+        let found = refused::<Brand>(rt.alloc(), Blank::new(passes as u64), book, passes);
+        assert_eq!(rt; found, wanted);
+    }
     Ok(())
 }
 

@@ -31,6 +31,6 @@ pub fn verdict_at<S: LineSource, G: Gate>(batch: &Batch<S>, gate: &G, index: usi
         batch.skew,
         batch.transit,
     );
-    gate.after(index);
+    gate.after(index, &verdict);
     verdict
 }

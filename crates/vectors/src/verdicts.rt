@@ -70,3 +70,36 @@ fn says_verdicts(rt: HostRuntime) -> Result<(), Fail> {
     }
     Ok(())
 }
+
+/// The rules in the order of their numbers, from 1.
+const RULES: [Rule; 20] = [
+    Rule::Sequence,
+    Rule::Opening,
+    Rule::Pools,
+    Rule::Unit,
+    Rule::Waiting,
+    Rule::Grant,
+    Rule::Lifetime,
+    Rule::Release,
+    Rule::Expiry,
+    Rule::Backup,
+    Rule::Reclaim,
+    Rule::Serial,
+    Rule::Update,
+    Rule::Reply,
+    Rule::Contact,
+    Rule::Down,
+    Rule::Restart,
+    Rule::Head,
+    Rule::Transit,
+    Rule::Seize,
+];
+
+#[test]
+fn a_rule_is_printed_as_its_number(rt: HostRuntime) -> Result<(), Fail> {
+    for (before, rule) in RULES.iter().enumerate() {
+        let number = format!(in rt.alloc(); "{}", before + 1)?;
+        assert_eq!(rt; format!(in rt.alloc(); "{rule}")?, number);
+    }
+    Ok(())
+}
