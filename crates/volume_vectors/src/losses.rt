@@ -1,7 +1,7 @@
 //! Losses of power while three volumes are written.
 
 use crate::story::{Written, three_volumes};
-use crate::writing::{Lost, lose};
+use crate::writing::{Told, write_volumes};
 use binding_rules::Role;
 use folder_recovery::{FolderBook, NextStep, recover_folder};
 use journal_file::extent_of;
@@ -9,7 +9,7 @@ use order_book::Book;
 use std::alloc::Global;
 use std::process::Abort;
 use std::test::Fail;
-use test_files::Contents;
+use test_files::{Contents, TestFile, TestFolder};
 
 /// More calls than writing the volumes takes: six to begin the first one, eight for each roll, and two for each of 18
 /// batches.
@@ -17,6 +17,30 @@ const CALLS: usize = 60;
 
 /// How many contents are drawn for each call that fails.
 const SEEDS: u64 = 200;
+
+/// A folder whose server has lost its power, its files, and how far it had told.
+#[derive(Drop)]
+struct Lost {
+    folder: TestFolder,
+    files: Vec<TestFile>,
+    told: Told,
+}
+
+/// Writes the volumes to an empty folder, of whose calls, and of whose files', so many are answered. Where a file
+/// couldn't be made it may still be there, empty.
+fn lose(alloc: Global, volumes: &[Written], calls: usize) -> Result<Lost, Fail> {
+    let mut folder = TestFolder::new(alloc, 0, calls)?;
+    let mut told = Told::none();
+    let mut reached = write_volumes(alloc, &mut folder, volumes, &mut told)?;
+    if reached.is_unmade {
+        reached.files.push(TestFile::new(alloc, &[], 0)?)?;
+    }
+    Ok(Lost {
+        folder,
+        files: reached.files,
+        told,
+    })
+}
 
 /// Draws what a loss of power leaves: the volumes as they were written, in order, each whole but the last, which has
 /// its first lines, and no fewer than were told of.
@@ -96,5 +120,31 @@ fn what_was_told_of_is_found(rt: HostRuntime) -> Result<(), Fail> {
             goes_on(&rt, rt.alloc(), &volumes, &lost, &contents)?;
         }
     }
+    assert_eq!(rt;
+        lose(rt.alloc(), &volumes, CALLS)?.told.volumes,
+        volumes.len()
+    );
+    Ok(())
+}
+
+/// So many calls are answered where the first batch of the last volume is written and its sync fails: six, and eight
+/// for each roll, and two for each of 12 batches, and one.
+const TO_A_SYNC: usize = 47;
+
+#[test]
+fn a_loss_leaves_now_more_and_now_less(rt: HostRuntime) -> Result<(), Fail> {
+    let volumes = three_volumes(rt.alloc())?;
+    let lost = lose(rt.alloc(), &volumes, TO_A_SYNC)?;
+    assert!(rt; lost.told.volumes == 3 && lost.told.is_head);
+    let mut lengths = Vec::new(rt.alloc());
+    let mut has_zeros = false;
+    for seed in 0..SEEDS {
+        let contents = left_of(&rt, &volumes, &lost, seed)?;
+        let last = contents.as_slice().last().ok_or("no file")?;
+        lengths.push(last.len())?;
+        has_zeros = has_zeros || last.contains(&0);
+    }
+    assert!(rt; lengths.iter().min() < lengths.iter().max());
+    assert!(rt; has_zeros);
     Ok(())
 }

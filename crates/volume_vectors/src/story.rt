@@ -1,6 +1,6 @@
 //! A book of a thousand orders, in three volumes.
 
-use crate::texts::VolumeText;
+use crate::texts::split_lines;
 use client_id::{Duid, Iaid};
 use journal_lines::Line;
 use journal_text::write;
@@ -9,8 +9,15 @@ use server_book::{Asked, Book, Order, read_settings};
 use std::alloc::Global;
 use std::test::Fail;
 
-const PRIMARY: &[u8] =
-    b"role = \"primary\"\nduid = \"00030001020000000009\"\nskew_ms = 2000\nmclt = 3600\nlife = 3600\n[[pool]]\nprefix = \"2001:db8::/48\"\nunit = 56\n";
+const PRIMARY: &[u8] = b"role = \"primary\"
+duid = \"00030001020000000009\"
+skew_ms = 2000
+mclt = 3600
+life = 3600
+[[pool]]
+prefix = \"2001:db8::/48\"
+unit = 56
+";
 
 /// How many orders each volume has behind its head.
 const ORDERS: [u64; 3] = [334, 333, 333];
@@ -18,12 +25,25 @@ const ORDERS: [u64; 3] = [334, 333, 333];
 /// How many clients ask in turn.
 const CLIENTS: u64 = 12;
 
-/// A volume as it is to be found again: its lines and its text.
+/// A volume as it is to be found again: its lines and its text; and the text's parts that are written at once.
 #[derive(Drop)]
 pub(crate) struct Written {
     pub lines: Vec<Line>,
     pub text: Vec<u8>,
-    pub parts: VolumeText,
+    /// The first line and the head lines.
+    pub head: Vec<u8>,
+    /// How many head lines there are.
+    heads: usize,
+    /// The close line and the end line.
+    pub end: Vec<u8>,
+}
+
+impl Written {
+    /// Returns the lines between the head lines and the close line.
+    pub(crate) fn between(&self) -> &[Line] {
+        let end = self.lines.len().saturating_sub(1);
+        &self.lines[self.heads.min(end)..end]
+    }
 }
 
 /// A Request of one of the clients.
@@ -63,12 +83,16 @@ fn serve(book: &mut Book, begin: u64, orders: u64) -> Result<u64, Fail> {
     Ok(now)
 }
 
-/// What a closed book was written as, which began with so many lines.
+/// What a closed book was written as, which began with so many head lines.
 fn closed(alloc: Global, book: &Book, heads: usize) -> Result<Written, Fail> {
     let text = write(alloc, book.role(), book.head(), book.journal())?;
+    let (head, _) = split_lines(&text, heads.saturating_add(1));
+    let (_, end) = split_lines(&text, book.journal().len());
     Ok(Written {
         lines: book.journal().to_vec(alloc)?,
-        parts: VolumeText::new(alloc, &text, heads.saturating_add(1))?,
+        head: head.to_vec(alloc)?,
+        heads,
+        end: end.to_vec(alloc)?,
         text,
     })
 }
