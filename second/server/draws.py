@@ -118,8 +118,11 @@ class Draws:
         return found
 
     def client(self):
+        """A client's identifier, at times one that none should have, or the server's own."""
         if self.amiss(0.06):
             return self.octets(self.random.choice(EDGE_LENGTHS))
+        if self.amiss(0.06):
+            return self.own
         return self.random.choice(self.clients)
 
     def client_message(self):

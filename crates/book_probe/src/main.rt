@@ -14,6 +14,7 @@
 
 mod datagrams;
 mod fault;
+mod links;
 mod orders;
 mod questions;
 mod replies;
@@ -67,6 +68,9 @@ impl Probe {
             "open" => {
                 volumes::add_opened(alloc, &mut self.shelf, self.settings.as_str(), words, out)
             }
+            "link" => {
+                links::add_begun(alloc, &mut self.shelf, self.settings.as_str(), words, out)
+            }
             "replay" => {
                 volumes::add_replayed(alloc, &mut self.shelf, self.journal.as_str(), words, out)
             }
@@ -90,6 +94,12 @@ impl Probe {
             "told" => datagrams::add_told(alloc, &mut self.shelf, words, out),
             "copy" => volumes::add_copied(alloc, &mut self.shelf, words, out),
             "next" => volumes::add_next(alloc, &mut self.shelf, words, out),
+            "quiet" => links::add_quiet(alloc, &mut self.shelf, words, out),
+            "over" => links::add_over(alloc, &mut self.shelf, words, out),
+            "hear" => links::add_heard(alloc, &mut self.shelf, words, out),
+            "carry" => links::add_carried(alloc, &mut self.shelf, words, out),
+            "front" => links::add_front(alloc, &mut self.shelf, words, out),
+            "lose" => links::add_lost(alloc, &mut self.shelf, words, out),
             "visits" => visits::add_visits(&mut self.shelf, words, out),
             "same" => visits::add_same(alloc, &self.shelf, words, out),
             call => self.begin(alloc, call, words, out),

@@ -1,14 +1,24 @@
 //! The books that lines speak of.
 
 use crate::fault::Fault;
-use server_book::Book;
+use link_talk::{OwnBook, Talk};
+use server_book::{Book, Settings};
 use std::alloc::Global;
 
-/// A book and the letter that names it.
+/// An end of the link: its server's settings, its talk, and the octets that it handed out.
 #[derive(Drop)]
-struct Named {
+pub struct LinkEnd {
+    pub settings: Settings,
+    pub talk: Talk,
+    pub written: Vec<u8>,
+}
+
+/// A book and the letter that names it, and its end of the link, if it has one.
+#[derive(Drop)]
+pub struct Named {
     letter: u8,
-    book: Book,
+    pub own: OwnBook,
+    pub end: Option<LinkEnd>,
 }
 
 /// The books that were begun.
@@ -38,7 +48,7 @@ impl Shelf {
     pub fn book(&self, letter: u8) -> Result<&Book, Fault> {
         for named in self.books.iter() {
             if named.letter == letter {
-                return Ok(&named.book);
+                return Ok(&named.own.book);
             }
         }
         Err(Fault::NoBook)
@@ -46,18 +56,24 @@ impl Shelf {
 
     /// The book of a letter, to be ordered something.
     pub fn book_mut(&mut self, letter: u8) -> Result<&mut Book, Fault> {
+        Ok(&mut self.named_mut(letter)?.own.book)
+    }
+
+    /// What has a letter.
+    pub fn named_mut(&mut self, letter: u8) -> Result<&mut Named, Fault> {
         let Some(place) = self.place(letter) else {
             return Err(Fault::NoBook);
         };
-        match self.books.get_mut(place) {
-            Some(named) => Ok(&mut named.book),
-            None => Err(Fault::NoBook),
-        }
+        self.books.get_mut(place).ok_or(Fault::NoBook)
     }
 
     /// Puts a book in its place, where one of its letter stood before.
-    pub fn put(&mut self, letter: u8, book: Book) -> Result<(), Fault> {
-        let named = Named { letter, book };
+    pub fn put(&mut self, alloc: Global, letter: u8, book: Book) -> Result<(), Fault> {
+        let named = Named {
+            letter,
+            own: OwnBook::new(alloc, book),
+            end: None,
+        };
         match self.place(letter) {
             Some(place) => {
                 if place < self.books.len() {

@@ -27,7 +27,7 @@ pub fn add_opened(
     let letter = words.letter()?;
     match opened(alloc, settings, words) {
         Ok(book) => {
-            shelf.put(letter, book)?;
+            shelf.put(alloc, letter, book)?;
             Ok(add_word(out, b"done")?)
         }
         Err(error) => Ok(add_opening_refusal(out, &error)?),
@@ -71,7 +71,7 @@ fn add_made(
 ) -> Result<(), Fault> {
     match made {
         Ok(book) => {
-            shelf.put(letter, book)?;
+            shelf.put(alloc, letter, book)?;
             Ok(add_word(out, b"done")?)
         }
         Err(error) => Ok(add_refusal(alloc, out, &error)?),

@@ -1,9 +1,9 @@
 //! A connection to the partner, and what became of it.
 
-use node_threads::{Got, NetFault, TcpWire, Wire};
+use node_threads::{Got, NetFault, Pauses, TcpWire, Wire};
 use std::io::{Read, Write};
 use std::net::{OpenListener, OpenStream};
-use std::time::Duration;
+use std::time::{Clock as Handle, Duration};
 
 /// The most seconds that a write waits for a partner that doesn't read.
 const LONGEST_WRITE: u64 = 10;
@@ -21,11 +21,13 @@ const MUCH: u32 = 10;
 /// up where nothing comes over it at first, and where a second one comes after a minute of silence: its other end may
 /// have lost it without a word.
 #[derive(Drop)]
-pub struct Connection<'a, S: Read + Write + OpenStream + Drop, L: OpenListener> {
-    wire: TcpWire<S>,
+pub struct Connection<'a, R: Handle, S: Read + Write + OpenStream + Drop, L: OpenListener> {
+    wire: TcpWire<'a, R, S>,
     listener: Option<&'a L>,
     /// How many reads brought octets.
     heard: u32,
+    /// The pauses that make up the next second without octets.
+    pauses: Pauses,
     /// How many seconds brought none, since the last octet.
     silence: u32,
     has_rested: bool,
@@ -34,18 +36,23 @@ pub struct Connection<'a, S: Read + Write + OpenStream + Drop, L: OpenListener> 
     others: u32,
 }
 
-impl<'a, S: Read + Write + OpenStream + Drop, L: OpenListener> Connection<'a, S, L> {
+impl<'a, R: Handle, S: Read + Write + OpenStream + Drop, L: OpenListener> Connection<'a, R, S, L> {
     /// A connection by a stream, whose partner came to the listener, if there is one. A fault where the stream can't be
     /// told how long to wait.
-    pub fn new(stream: S, listener: Option<&'a L>) -> Result<Connection<'a, S, L>, NetFault> {
+    pub fn new(
+        handle: &'a R,
+        stream: S,
+        listener: Option<&'a L>,
+    ) -> Result<Connection<'a, R, S, L>, NetFault> {
         let longest = Some(Duration::from_secs(LONGEST_WRITE));
         if stream.set_write_timeout(longest).is_err() || stream.set_nodelay(true).is_err() {
             return Err(NetFault);
         }
         Ok(Connection {
-            wire: TcpWire::new(stream)?,
+            wire: TcpWire::new(handle, stream),
             listener,
             heard: 0,
+            pauses: Pauses::new(),
             silence: 0,
             has_rested: false,
             has_ended: false,
@@ -86,8 +93,11 @@ impl<'a, S: Read + Write + OpenStream + Drop, L: OpenListener> Connection<'a, S,
         has_come
     }
 
-    /// Returns whether a second of silence is one too many.
+    /// Returns whether a pause more fills a second of silence that is one too many.
     fn is_given_up(&mut self) -> bool {
+        if !self.pauses.fills_a_second() {
+            return false;
+        }
         self.silence = self.silence.saturating_add(1);
         let has_come = self.turns_away();
         if self.heard == 0 {
@@ -99,11 +109,19 @@ impl<'a, S: Read + Write + OpenStream + Drop, L: OpenListener> Connection<'a, S,
 
     fn hear(&mut self) {
         self.heard = self.heard.saturating_add(1);
+        self.pauses.begin();
         self.silence = 0;
     }
 }
 
-impl<S: Read + Write + OpenStream + Drop, L: OpenListener> Wire for Connection<'_, S, L> {
+impl<R: Handle, S: Read + Write + OpenStream + Drop, L: OpenListener> Wire
+    for Connection<'_, R, S, L> {
+    ghost brings = { λ old octets new. Unit };
+
+    ghost writes = { λ old octets new. Unit };
+
+    ghost fails = { λ old new. Unit };
+
     fn read(&mut self, buffer: &mut [u8]) -> Result<Got, NetFault> {
         let got = self.wire.read(buffer);
         match got {

@@ -90,7 +90,7 @@ fn served<N: BookName, R: Wait + Handle + Net, C: Clock, P: Print>(
     let Ok(peer) = stream.peer_addr() else {
         return (Ending::Lost, false);
     };
-    let Ok(mut connection) = Connection::new(stream, door.listener()) else {
+    let Ok(mut connection) = Connection::new(rt, stream, door.listener()) else {
         return (Ending::Lost, false);
     };
     let _ = println!(notes; "node: connected with {peer}");

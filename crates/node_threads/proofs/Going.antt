@@ -1,14 +1,11 @@
 -- Receipts that are added.
-use Rattle.std.specs.Prelude.{◌≡◌, ◌<◌, ◌≤◌, ◌+◌, ◌-◌, ℕ, List, [], ◌∷◌, ◌++◌, Result, Ok, Err, IfOk, OnErr, refl}
-use Rattle.std.proofs.Common.{ap, sym, ◌∙◌, subst, append_assoc, append-nil, length, take, get_or, suc, arith}
-use Rattle.std.proofs.Math.Seq.{take-suc}
-use Rattle.binding_rules.specs.declared.message.PartnerMessage.{PartnerMessage}
+use Rattle.std.specs.Prelude.{◌≡◌, ◌+◌, ℕ, List, [], ◌∷◌, ◌++◌, Result, Ok, Err, IfOk, OnErr, refl}
+use Rattle.std.proofs.Common.{ap, sym, ◌∙◌, subst, append_assoc, append-nil}
 use Rattle.dhcp6_pd.specs.declared.message.ClientKind.{ClientKind}
 use Rattle.dhcp6_pd.specs.declared.message.ClientKind.TheVariants.{Solicit, Request as RequestKind, Renew as RenewKind}
 use Rattle.dhcp6_pd.specs.declared.message.ClientKind.TheVariants.{Rebind}
 use Rattle.dhcp6_pd.specs.declared.message.ClientKind.TheVariants.{Release as ReleaseKind}
 use Rattle.journal_lines.specs.declared.event.Event.{Event}
-use Rattle.journal_lines.specs.declared.event.Event.TheVariants.{Take as TakeLine}
 use Rattle.journal_lines.specs.declared.line.Journal.{Journal}
 use Rattle.book_state.specs.Book.{BookState}
 use Rattle.order_book.specs.declared.order.Order.{Order}
@@ -22,7 +19,7 @@ use Rattle.order_book.specs.Replayed.{IsLegal, state_of}
 use Rattle.locked_book.specs.declared.error.ServeError.{ServeError}
 use Rattle.locked_book.specs.declared.receipt.Receipt.{Receipt}
 use Rattle.locked_book.specs.Serving.{PassState, IsPassServed, last_receipt}
-use Rattle.node_threads.specs.Receipts.{taken_by, taken_after, last_taken, IsNewer, AreNewer, Goes, IsOther}
+use Rattle.link_talk.specs.Receipts.{taken_by, taken_after, last_taken, IsNewer, AreNewer, Goes, IsOther}
 
 -- ---- lists
 
@@ -84,17 +81,6 @@ other_goes old new now order (Ok r) served accepted refused other =
 other_goes old new now order (Err e) served accepted refused other =
     goes_nowhere old.receipts new.receipts (ap (λ p. p.receipts) refused)
 
--- what a take does of a newer message
-pub take_goes : (old new : PassState) (now : ℕ) (m : PartnerMessage) (result : Result Receipt ServeError)
-    → ((j : Journal) × IsLegal j × IsPassServed j (last_receipt old.receipts) now (Take m) result)
-    → IfOk result (λ r. (new.receipts ≡ old.receipts ++ r ∷ []) × (new.share ≡ old.share + 1))
-    → OnErr result (new ≡ old) → last_taken old.receipts < m.serial → Goes old.receipts new.receipts
-take_goes old new now m (Ok r) served accepted refused newer =
-    one_goes old.receipts new.receipts r accepted.0
-    (subst (λ x. IsNewer (last_taken old.receipts) x) (sym served.2.1.line.named) newer)
-take_goes old new now m (Err e) served accepted refused newer =
-    goes_nowhere old.receipts new.receipts (ap (λ p. p.receipts) refused)
-
 -- ---- clients' orders
 
 pub by_kind : (kind : ClientKind) (a : Asked) → IsOther (order_by kind a)
@@ -103,29 +89,3 @@ by_kind RequestKind a = tt
 by_kind RenewKind a = tt
 by_kind Rebind a = tt
 by_kind ReleaseKind a = tt
-
--- ---- the last message that was taken
-
-one_more : (rs : List Receipt) (i : ℕ) (d : Receipt) → i < length rs
-    → last_taken (take (suc i) rs) ≡ taken_by (last_taken (take i rs)) (get_or rs i d).line.event
-one_more rs i d within =
-    ap (λ xs. taken_after 0 xs) (take-suc rs i d within) ∙ taken_after-append 0 (take i rs) (get_or rs i d ∷ [])
-
-by_other : (last : ℕ) (e : Event) → ((m : PartnerMessage) → e ≡ TakeLine m → ⊥) → taken_by last e ≡ last
-by_other last (TakeLine m) other = absurd (other m refl)
-by_other last _ other = refl
-
-module _ (rs : List Receipt) (i : ℕ) (d : Receipt) (some : 0 < i) (within : i ≤ length rs)
-    (all : last_taken (take i rs) ≡ last_taken rs) where
-  one_back : last_taken (take i rs) ≡ taken_by (last_taken (take (i - 1) rs)) (get_or rs (i - 1) d).line.event
-  one_back =
-      let before : suc (i - 1) ≡ i = omega (arith, some) in
-      ap (λ k. last_taken (take k rs)) (sym before) ∙ one_more rs (i - 1) d (omega (arith, some, within))
-
-  pub found : (m : PartnerMessage) → (get_or rs (i - 1) d).line.event ≡ TakeLine m → m.serial ≡ last_taken rs
-  found m takes = sym (ap (λ e. taken_by (last_taken (take (i - 1) rs)) e) takes) ∙ (sym one_back ∙ all)
-
-  pub passed : ((m : PartnerMessage) → (get_or rs (i - 1) d).line.event ≡ TakeLine m → ⊥)
-      → last_taken (take (i - 1) rs) ≡ last_taken rs
-  passed other =
-      sym (by_other (last_taken (take (i - 1) rs)) (get_or rs (i - 1) d).line.event other) ∙ (sym one_back ∙ all)

@@ -25,7 +25,7 @@ use Rattle.client_service.specs.declared.silence.Silence.TheVariants.{NothingAsk
 use Rattle.client_service.specs.Serving.{IsOrderServed}
 use Rattle.client_service.specs.Telling.{ByLine, IsServedAs, IsOfferedAs, EndsAtOnce, Ends}
 use Rattle.client_service.specs.Answering.{order_for, AreTold, IsTold, IsSilent}
-use Rattle.node_threads.specs.Receipts.{last_taken, Goes, IsOther}
+use Rattle.link_talk.specs.Receipts.{last_taken, Goes, IsOther}
 use Rattle.node_threads.proofs.Going.{other_newer, one_goes, goes_nowhere, goes_on, by_kind}
 
 -- no receipt more

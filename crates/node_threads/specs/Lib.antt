@@ -1,5 +1,5 @@
-pub mod Messages
-pub mod Receipts
+pub mod Ending
 pub mod Seats
 pub mod Sending
 pub mod Answered
+pub mod Writing

@@ -2,7 +2,9 @@
 
 ghost use Rattle.std.specs.Prelude.{◌≡◌};
 ghost use Rattle.node_threads.specs.declared.error.NodeError.TheVariants.{Net, Memory};
+ghost use Rattle.node_threads.specs.Ending.{fault_of};
 
+use link_talk::TalkError;
 use locked_book::ServeError;
 use std::alloc::{AllocError, AllocFailed};
 use thiserror::Error;
@@ -53,5 +55,17 @@ impl<T: Drop> From<AllocFailed<T>> for NodeError {
 
     fn from(_error: AllocFailed<T>) -> NodeError {
         NodeError::Memory
+    }
+}
+
+impl From<TalkError> for NodeError {
+    ghost from_gives = { λ error e. e ≡ fault_of error };
+
+    fn from(error: TalkError) -> NodeError {
+        match error {
+            TalkError::Frame => NodeError::Read,
+            TalkError::Serve(refusal) => NodeError::Serve(refusal),
+            TalkError::Memory => NodeError::Memory,
+        }
     }
 }

@@ -1,15 +1,21 @@
-//! What one end of the link does.
+//! What one end of the link does: it reads, has its talk, and writes.
 
-ghost use Rattle.node_threads.specs.Receipts.{Goes};
+ghost use Rattle.std.specs.Prelude.{◌≡◌, ◌≤◌, ◌∷◌, [], ℕ, length, Option, None, OnOk};
+ghost use Rattle.failover_message.specs.Frames.{frame_octets};
+ghost use Rattle.link_talk.specs.Handed.{messages_of};
+ghost use Rattle.link_talk.specs.Receipts.{Goes};
+ghost use Rattle.link_talk.specs.Talking.{named_at};
+ghost use Rattle.link_talk.specs.declared.stage.Stage.TheVariants.{Greeting};
+ghost use Rattle.node_threads.specs.Writing.{Carried, Tells, HasTold, HandsOut, SaysWords, HasHeard, IsWritten};
 
 use crate::clock::Clock;
-use crate::error::NodeError;
-use crate::link_end::LinkEnd;
-use crate::messages::write_word;
-use crate::talk::{Phase, Talk};
+use crate::error::{NetFault, NodeError};
+use crate::pauses::{PAUSES_A_SECOND, Pauses};
 use crate::turns::Turns;
 use crate::wire::{Got, Wire};
-use failover_message::{Feed, Frame, FrameKind, LinkError};
+use binding_rules::Counter;
+use failover_message::{Frame, FrameKind, encode};
+use link_talk::{Came, Handed, LockedBook, Talk};
 use locked_book::{BookName, Pass, SharedBook};
 use server_book::Settings;
 use std::alloc::Global;
@@ -18,81 +24,218 @@ use std::sync::Wait;
 /// How many octets are read at once, at most.
 const READ_SIZE: usize = 4096;
 
-/// How often an end that goes reads on, at most.
+/// How often an end that goes hears octets, at most.
 const LAST_READS: u32 = 1000;
 
-/// The frames that these octets complete.
-fn fed(feed: &mut Feed, octets: &[u8]) -> Result<Vec<Frame>, NodeError> {
-    match feed.feed(octets) {
-        Ok(frames) => Ok(frames),
-        Err(LinkError::Memory) => Err(NodeError::Memory),
-        Err(_) => Err(NodeError::Read),
-    }
+/// One end of the link, but for its connection.
+#[derive(Drop)]
+struct LinkEnd<'a, N: BookName, R: Wait, C: Clock> {
+    alloc: Global,
+    book: LockedBook<'a, N, R>,
+    settings: &'a Settings,
+    clock: &'a C,
 }
 
-/// One read, and what came by it.
-fn listen<N: BookName, R: Wait, C: Clock, W: Wire>(
-    end: &LinkEnd<'_, N, R, C>,
-    pass: &mut Pass<N>,
-    talk: &mut Talk,
-    feed: &mut Feed,
-    buffer: &mut [u8],
-    wire: &mut W,
-) -> Result<(), NodeError>
-    ensures { Goes pass.old.receipts pass.new.receipts }
+/// Writes a frame to the wire.
+fn write_frame<W: Wire>(alloc: Global, wire: &mut W, frame: &Frame) -> Result<(), NodeError>
+    ensures { IsWritten W.writes W.fails (frame_octets frame.now) wire.old wire.new result }
 {
-    let Ok(got) = wire.read(buffer) else {
-        return Err(NodeError::Read);
+    let Ok(octets) = encode(alloc, frame) else {
+        return Err(NodeError::Memory);
     };
-    match got {
-        Got::Octets(count) => {
-            let frames = fed(feed, &buffer[..count])?;
-            end.heed_all(pass, talk, &frames, wire)
-        }
-        Got::Idle => end.ask_if_needed(pass, talk, wire),
-        Got::End => {
-            talk.phase = Phase::Ended;
-            Ok(())
-        }
+    match wire.write(octets.as_slice()) {
+        Ok(()) => Ok(()),
+        Err(_) => Err(NodeError::Write),
     }
 }
 
-/// One read, what came by it, and then what is to be sent.
-#[tactic(auto, using(crate::proofs::Going::goes_on))]
-fn turn<N: BookName, R: Wait, C: Clock, W: Wire>(
-    end: &LinkEnd<'_, N, R, C>,
-    pass: &mut Pass<N>,
-    talk: &mut Talk,
-    feed: &mut Feed,
-    buffer: &mut [u8],
-    wire: &mut W,
-) -> Result<(), NodeError>
-    ensures { Goes pass.old.receipts pass.new.receipts }
+/// Writes frames, in their order.
+fn write_all<W: Wire>(alloc: Global, wire: &mut W, frames: &[Handed]) -> Result<(), NodeError>
+    ensures out { HandsOut W.brings W.writes W.fails frames.now wire.old wire.new result }
+    ensures whole { OnOk result (Carried W.brings W.writes wire.old frames.now wire.new) }
 {
-    listen(end, pass, talk, feed, buffer, wire)?;
-    if talk.phase != Phase::Joined {
-        return Ok(());
-    }
-    end.send_all(pass, talk, wire)
-}
-
-/// Says DISCONNECT, and reads on until the other end has closed or is quiet. What still comes isn't taken: but a
-/// connection that is closed with octets unread may lose what was written last.
-fn disconnect<W: Wire>(alloc: Global, buffer: &mut [u8], wire: &mut W) -> Result<(), NodeError> {
-    write_word(alloc, wire, FrameKind::Disconnect)?;
-    for _ in 0..LAST_READS {
-        match wire.read(buffer) {
-            Ok(Got::Octets(_)) => {}
-            Ok(Got::Idle | Got::End) | Err(_) => break,
+    for handed in frames {
+        match write_frame(alloc, wire, &handed.frame) {
+            Ok(()) => {}
+            Err(error) => return Err(error),
         }
     }
     Ok(())
 }
 
+/// Writes what a talk hands out: the one place where a message leaves.
+fn write_out<W: Wire>(alloc: Global, wire: &mut W, talk: &mut Talk) -> Result<(), NodeError>
+    ensures out { HandsOut W.brings W.writes W.fails talk.old.handed wire.old wire.new result }
+    ensures whole { OnOk result (Carried W.brings W.writes wire.old talk.old.handed wire.new) }
+    ensures none { talk.new.handed ≡ [] }
+    ensures stage { talk.new.stage ≡ talk.old.stage }
+{
+    let frames = talk.hand_out();
+    write_all(alloc, wire, &frames)
+}
+
+/// Returns what a read brought. When pauses have filled a second, nothing came; before, no octets yet.
+fn came<'a>(got: Got, buffer: &'a [u8], pauses: &mut Pauses) -> Came<'a>
+    requires { (count : ℕ) → got ≡ Got.Octets count → count ≤ length buffer.now }
+{
+    match got {
+        Got::Octets(count) => Came::Octets(&buffer[..count]),
+        Got::Idle => {
+            if pauses.fills_a_second() {
+                Came::Nothing
+            } else {
+                Came::Octets(&[])
+            }
+        }
+        Got::End => Came::End,
+    }
+}
+
+impl<'a, N: BookName, R: Wait, C: Clock> LinkEnd<'a, N, R, C> {
+    /// The talk's turn, and what it hands out, which is written also where the talk ends.
+    fn tell<W: Wire>(
+        &self,
+        pass: &mut Pass<N>,
+        talk: &mut Talk,
+        came: &Came<'_>,
+        wire: &mut W,
+    ) -> Result<(), NodeError>
+        requires { talk.old.handed ≡ [] }
+        ensures told { Tells W.brings W.writes W.fails (named_at talk.old.stage) (named_at talk.new.stage)
+            pass.old.receipts pass.new.receipts wire.old wire.new result }
+        ensures whole { OnOk result (HasTold W.brings W.writes (named_at talk.old.stage) (named_at talk.new.stage)
+            pass.old.receipts pass.new.receipts wire.old wire.new) }
+        ensures none { OnOk result (talk.new.handed ≡ []) }
+        ensures goes { Goes pass.old.receipts pass.new.receipts }
+    {
+        let Ok(now) = self.clock.now() else {
+            return Err(NodeError::Net);
+        };
+        let done = talk.turn(&self.book, pass, self.settings, now, came);
+        match write_out(self.alloc, wire, talk) {
+            Ok(()) => {}
+            Err(error) => return Err(error),
+        }
+        match done {
+            Ok(()) => Ok(()),
+            Err(error) => Err(NodeError::from(error)),
+        }
+    }
+
+    /// One read, and what follows from it.
+    fn turn<W: Wire>(
+        &self,
+        pass: &mut Pass<N>,
+        talk: &mut Talk,
+        pauses: &mut Pauses,
+        buffer: &mut [u8],
+        wire: &mut W,
+    ) -> Result<(), NodeError>
+        requires { talk.old.handed ≡ [] }
+        ensures told { Tells W.brings W.writes W.fails (named_at talk.old.stage) (named_at talk.new.stage)
+            pass.old.receipts pass.new.receipts wire.old wire.new result }
+        ensures whole { OnOk result (HasTold W.brings W.writes (named_at talk.old.stage) (named_at talk.new.stage)
+            pass.old.receipts pass.new.receipts wire.old wire.new) }
+        ensures none { OnOk result (talk.new.handed ≡ []) }
+        ensures goes { Goes pass.old.receipts pass.new.receipts }
+    {
+        let Ok(got) = wire.read(buffer) else {
+            return Err(NodeError::Read);
+        };
+        let came = came(got, buffer, pauses);
+        self.tell(pass, talk, &came, wire)
+    }
+
+    /// Has one more turn, so that the last answers are told, and says DISCONNECT.
+    fn leave<W: Wire>(
+        &self,
+        pass: &mut Pass<N>,
+        talk: &mut Talk,
+        buffer: &mut [u8],
+        wire: &mut W,
+    ) -> Result<(), NodeError>
+        requires { talk.old.handed ≡ [] }
+        ensures told { Tells W.brings W.writes W.fails (named_at talk.old.stage) (named_at talk.new.stage)
+            pass.old.receipts pass.new.receipts wire.old wire.new result }
+        ensures goes { Goes pass.old.receipts pass.new.receipts }
+    {
+        match self.tell(pass, talk, &Came::Octets(&[]), wire) {
+            Ok(()) => disconnect(self.alloc, buffer, wire),
+            Err(error) => Err(error),
+        }
+    }
+
+    /// Says what the primary says first.
+    fn greet<W: Wire>(&self, pass: &Pass<N>, talk: &mut Talk, wire: &mut W) -> Result<(), NodeError>
+        requires handed { talk.old.handed ≡ [] }
+        requires stage { talk.old.stage ≡ Greeting }
+        ensures said { SaysWords W.brings W.writes W.fails wire.old wire.new result }
+        ensures whole { OnOk result (HasTold W.brings W.writes None (named_at talk.new.stage) pass.now.receipts
+            pass.now.receipts wire.old wire.new) }
+        ensures none { OnOk result (talk.new.handed ≡ []) }
+    {
+        match talk.greet(pass, self.settings) {
+            Ok(()) => write_out(self.alloc, wire, talk),
+            Err(error) => Err(NodeError::from(error)),
+        }
+    }
+}
+
+/// Waits for octets, at most a second.
+fn hear_in_a_second<W: Wire>(buffer: &mut [u8], wire: &mut W) -> Result<Got, NetFault>
+    ensures heard { OnOk result (Carried W.brings W.writes wire.old [] wire.new) }
+    ensures ended { HasHeard W.brings W.writes W.fails wire.old wire.new }
+{
+    for _ in 0..PAUSES_A_SECOND {
+        match wire.read(buffer) {
+            Ok(Got::Idle) => {}
+            Ok(got) => return Ok(got),
+            Err(fault) => return Err(fault),
+        }
+    }
+    Ok(Got::Idle)
+}
+
+/// Reads on until the other end has closed or is quiet for a second.
+fn hear_out<W: Wire>(buffer: &mut [u8], wire: &mut W)
+    ensures { HasHeard W.brings W.writes W.fails wire.old wire.new }
+{
+    for _ in 0..LAST_READS {
+        match hear_in_a_second(buffer, wire) {
+            Ok(Got::Octets(_)) => {}
+            Ok(Got::Idle | Got::End) | Err(_) => return,
+        }
+    }
+}
+
+/// Says DISCONNECT, and reads on until the other end has closed or is quiet for a second. What still comes isn't taken:
+/// but a connection that is closed with octets unread may lose what was written last.
+fn disconnect<W: Wire>(alloc: Global, buffer: &mut [u8], wire: &mut W) -> Result<(), NodeError>
+    ensures { SaysWords W.brings W.writes W.fails wire.old wire.new result }
+{
+    let frame = Frame {
+        term: 0,
+        serial: Counter::ZERO,
+        kind: FrameKind::Disconnect,
+    };
+    match write_frame(alloc, wire, &frame) {
+        Ok(()) => {
+            hear_out(buffer, wire);
+            Ok(())
+        }
+        Err(error) => Err(error),
+    }
+}
+
 /// Joins the other end of the link and tells it of this one's book, until the wire's end, a DISCONNECT, or a turn after
-/// `Turns::end`, at which it says DISCONNECT itself. What it sent and took it knows by the receipts of its pass, which
-/// is the same for each connection. However it ends, receipts were added to the pass and none changed, and each message
-/// that was taken has a higher serial than those before.
+/// `Turns::end`, at which it has one more turn and says DISCONNECT itself. What is new in the book it tells at the
+/// next pause of the wire. What it sent and took it knows by the receipts of its pass, which is the same for each
+/// connection.
+///
+/// However it ends, receipts were added to the pass and none changed, and each message that was taken has a higher
+/// serial than those before. What it wrote are frames, and each message in them is one that a receipt says was sent:
+/// first what was sent above the serial that the partner named, then what the added receipts say, in their order; none
+/// is left out, but for the rest of them where a write failed or memory lacked.
 ///
 /// It ends sooner where the clock fails (`Net`), a read fails or brings what is no frame or not the frame that comes
 /// there (`Read`), a write fails (`Write`), a growth is refused (`Memory`), or the pass is a stranger to the book or
@@ -108,25 +251,32 @@ pub fn serve_link<N: BookName, R: Wait, C: Clock, W: Wire>(
     turns: &Turns,
     wire: &mut W,
 ) -> Result<(), NodeError>
-    ensures { Goes pass.old.receipts pass.new.receipts }
+    ensures told { (named : Option ℕ) × Tells W.brings W.writes W.fails None named pass.old.receipts pass.new.receipts
+        wire.old wire.new result }
+    ensures goes { Goes pass.old.receipts pass.new.receipts }
 {
     let end = LinkEnd {
-        rt,
         alloc,
-        shared,
+        book: LockedBook { rt, shared },
         settings,
         clock,
     };
     let mut buffer = vec![in alloc; 0u8; READ_SIZE]?;
-    let mut feed = Feed::new(alloc);
     let mut talk = Talk::new(alloc);
-    end.greet(pass, &mut talk, wire)?;
+    let mut pauses = Pauses::new();
+    match end.greet(pass, &mut talk, wire) {
+        Ok(()) => {}
+        Err(error) => return Err(error),
+    }
     for _ in rt.forever() {
         if turns.has_ended(rt) {
-            return disconnect(alloc, &mut buffer, wire);
+            return end.leave(pass, &mut talk, &mut buffer, wire);
         }
-        turn(&end, pass, &mut talk, &mut feed, &mut buffer, wire)?;
-        if talk.phase == Phase::Ended {
+        match end.turn(pass, &mut talk, &mut pauses, &mut buffer, wire) {
+            Ok(()) => {}
+            Err(error) => return Err(error),
+        }
+        if talk.stage().has_ended() {
             return Ok(());
         }
     }

@@ -2,7 +2,7 @@
 
 ghost use Rattle.std.specs.Prelude.{◌≡◌, ◌<◌, ◌≤◌, ◌+◌, ◌++◌, length, map, slice_index_or};
 ghost use Rattle.std.specs.Prelude.{vec_len, vec_capacity, Ok, IfOk, IsOk};
-ghost use Rattle.node_threads.specs.Receipts.{Goes};
+ghost use Rattle.link_talk.specs.Receipts.{Goes};
 ghost use Rattle.node_threads.specs.Seats.{with_next, received_after};
 ghost use Rattle.node_threads.specs.Sending.{IsServed};
 

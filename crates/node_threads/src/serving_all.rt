@@ -43,8 +43,7 @@ pub enum LeaveError {
 
 /// Shares a book among workers, one for each mailbox, each of which answers datagrams while there are turns, and gives
 /// it back with the lines that came of it. A worker that fails doesn't stop the others. It stands in a function over
-/// `N`, which its
-/// caller calls with `Brand`: `N` names the workers, and the lines that the book has.
+/// `N`, which its caller calls with `Brand`: `N` names the workers, and the lines that the book has.
 ///
 /// The refusals: `Workers`, `Memory`, and `Book` where the lines aren't what the workers were told.
 pub fn serve_all<

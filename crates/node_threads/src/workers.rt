@@ -1,7 +1,7 @@
 //! What a worker does.
 
 ghost use Rattle.std.specs.Prelude.{◌≡◌, ◌≤◌, List, length, take, IfOk};
-ghost use Rattle.node_threads.specs.Receipts.{Goes};
+ghost use Rattle.link_talk.specs.Receipts.{Goes};
 ghost use Rattle.node_threads.specs.Sending.{IsHeard, IsTurn, IsServed};
 ghost use Rattle.node_threads.specs.Answered.{unanswered, refused, IsSent, IsReplied};
 

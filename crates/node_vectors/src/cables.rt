@@ -10,8 +10,9 @@ use std::sync::{Mutex, Wait};
 use std::thread;
 use std::time::{Clock as Handle, Duration};
 
-/// How often a read looks for octets before it is idle, with a tenth of a millisecond between.
-const LOOKS: u32 = 20;
+/// How often a read looks for octets before it is idle, with a twentieth of a millisecond between: a second of a cable
+/// is short.
+const LOOKS: u32 = 2;
 
 /// What is under way from one end to the other.
 #[derive(Drop)]
@@ -110,6 +111,12 @@ impl<'a, R: Wait + Handle> CableEnd<'a, R> {
 }
 
 impl<R: Wait + Handle> Wire for CableEnd<'_, R> {
+    ghost brings = { λ old octets new. Unit };
+
+    ghost writes = { λ old octets new. Unit };
+
+    ghost fails = { λ old new. Unit };
+
     fn read(&mut self, buffer: &mut [u8]) -> Result<Got, NetFault> {
         for _ in 0..LOOKS {
             if self.cable.is_cut() {
@@ -119,7 +126,7 @@ impl<R: Wait + Handle> Wire for CableEnd<'_, R> {
             if count > 0 {
                 return Ok(Got::Octets(count));
             }
-            thread::sleep(self.handle, Duration::from_micros(100));
+            thread::sleep(self.handle, Duration::from_micros(50));
         }
         Ok(Got::Idle)
     }

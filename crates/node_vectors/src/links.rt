@@ -71,10 +71,10 @@ const HEARS_A_DISCONNECT: Case = Case {
     ..OF_SECONDARY
 };
 
-// A clock that fails ends it.
+// A clock that fails ends it before anything is said.
 const HAS_NO_CLOCK: Case = Case {
     shows: false,
-    written: &[CONNECT_REPLY],
+    written: &[],
     ended: Err(NodeError::Net),
     ..OF_SECONDARY
 };

@@ -1,29 +1,29 @@
 //! A wire in memory.
 
-use node_threads::{Got, NetFault, Wire};
+use node_threads::{Got, NetFault, PAUSES_A_SECOND, Wire};
 use std::alloc::Global;
 
-/// A wire that brings octets, so many a read at most, then is idle, and then ends. It keeps what is written. So many
-/// reads and so many writes succeed.
+/// A wire that brings octets, so many a read at most, then is idle for two seconds, and then ends. It keeps what is
+/// written. So many reads and so many writes succeed.
 #[derive(Drop)]
 pub struct Script<'a> {
     octets: &'a [u8],
     place: usize,
     step: usize,
-    idles: usize,
+    idles: u32,
     reads: usize,
     writes: usize,
     written: Vec<u8>,
 }
 
 impl<'a> Script<'a> {
-    /// A wire whose reads bring `step` octets at most, and which is idle twice. No call fails.
+    /// A wire whose reads bring `step` octets at most, and which is idle for two seconds. No call fails.
     pub fn new(alloc: Global, octets: &'a [u8], step: usize) -> Script<'a> {
         Script {
             octets,
             place: 0,
             step,
-            idles: 2,
+            idles: 2 * PAUSES_A_SECOND,
             reads: usize::MAX,
             writes: usize::MAX,
             written: Vec::new(alloc),
@@ -58,6 +58,12 @@ impl<'a> Script<'a> {
 }
 
 impl Wire for Script<'_> {
+    ghost brings = { λ old octets new. Unit };
+
+    ghost writes = { λ old octets new. Unit };
+
+    ghost fails = { λ old new. Unit };
+
     fn read(&mut self, buffer: &mut [u8]) -> Result<Got, NetFault> {
         let Some(left) = self.reads.checked_sub(1) else {
             return Err(NetFault);

@@ -1,0 +1,94 @@
+-- What one turn of a talk does, out of what its parts do.
+use Rattle.std.specs.Prelude.{◌≡◌, ℕ, Option, Some, Result, Ok, Err, OnOk, List, [], ◌++◌, refl}
+use Rattle.std.proofs.Common.{ap, sym, subst, append-nil, inl, inr, Bor}
+use Rattle.binding_rules.specs.declared.message.PartnerMessage.{PartnerMessage}
+use Rattle.failover_message.specs.declared.frame.Frame.{Frame}
+use Rattle.failover_message.specs.Stream.{Splits}
+use Rattle.locked_book.specs.declared.receipt.Receipt.{Receipt}
+use Rattle.link_talk.specs.declared.came.Came.{Came}
+use Rattle.link_talk.specs.declared.came.Came.TheVariants.{Octets, Nothing}
+use Rattle.link_talk.specs.declared.outbox.Handed.{Handed}
+use Rattle.link_talk.specs.Receipts.{last_taken, Goes}
+use Rattle.link_talk.specs.Handed.{messages_of}
+use Rattle.link_talk.specs.Talking.{Says, Hears, HearsFront, messages_in}
+use Rattle.link_talk.specs.Turning.{Carries, AreMessages, IsTurn, IsWholeTurn}
+use Rattle.link_talk.proofs.Hearing.{hears_of, hears_on, hears_nothing}
+use Rattle.link_talk.proofs.Front.{none_of}
+use Rattle.link_talk.proofs.Taken.{are_newer}
+
+module _ (came : Came) (held : List ℕ) (x y : Option ℕ) (a b : List Receipt) (o p : List Handed) where
+  -- no message was heard
+  pub turn_silent : Hears [] x y a b o p → IsTurn came held x y a b o p
+  turn_silent h = ([], inl refl, none_of x y a b o p [] h)
+
+  pub whole_silent : AreMessages came held held [] → Hears [] x y a b o p → IsWholeTurn came held held x y a b o p
+  whole_silent none h = ([], none, h)
+
+-- what was refused
+pub turn_refused : (came : Came) (held : List ℕ) (x : Option ℕ) (a b : List Receipt) (o p : List Handed) → b ≡ a → p ≡ o
+    → IsTurn came held x x a b o p
+turn_refused came held x a b o p same out =
+    turn_silent came held x x a b o p (hears_nothing x a b o p same (ap (λ fs. messages_of fs) out))
+
+-- frames came, and a front of them was heard, or all
+module _ (came : Came) (held rest : List ℕ) (frames : List Frame) (x y : Option ℕ) (a b : List Receipt)
+    (o p : List Handed) (are : AreMessages came held rest (messages_in frames)) where
+  pub turn_heard : HearsFront (messages_in frames) x y a b o p → IsTurn came held x y a b o p
+  turn_heard h = (messages_in frames, inr (rest, are), h)
+
+  pub whole_heard : Hears (messages_in frames) x y a b o p → IsWholeTurn came held rest x y a b o p
+  whole_heard h = (messages_in frames, are, h)
+
+pub octets_carry : (held octets rest : List ℕ) (frames : List Frame) → Splits (held ++ octets) frames rest
+    → Carries held octets rest (messages_in frames)
+octets_carry held octets rest frames split = record { frames = frames; split = split; carried = refl }
+
+-- the messages that came, by what came
+pub octets_are : (came : Came) (octets : Bor (List ℕ)) (held rest : List ℕ) (frames : List Frame)
+    → came ≡ Octets octets → Splits (held ++ octets.now) frames rest
+    → AreMessages came held rest (messages_in frames)
+octets_are came octets held rest frames is split =
+    subst (λ c. AreMessages c held rest (messages_in frames)) (sym is)
+    (octets_carry held octets.now rest frames split)
+
+pub nothing_are : (came : Came) (held : List ℕ) → came ≡ Nothing → AreMessages came held held []
+nothing_are came held is = subst (λ c. AreMessages c held held []) (sym is) (refl, refl)
+
+-- a promise of what is done holds where it is done
+pub if_done : {T E P : Type 0} (result : Result T E) → P → OnOk result P
+if_done (Ok v) its = its
+if_done (Err e) its = tt
+
+-- ---- and then something was said
+
+module _ (came : Came) (held : List ℕ) (x y : Option ℕ) (last : ℕ) (named : y ≡ Some last) (a b c : List Receipt)
+    (o p q : List Handed) (says : Says b c p q) where
+  then_says : (heard : List PartnerMessage) → Hears heard x y a b o p → Hears heard x y a c o q
+  then_says heard h =
+      let more : Hears [] y y b c p q =
+      subst (λ z. Hears [] z z b c p q) (sym named) (hears_of last [] b c p q says) in
+      subst (λ ms. Hears ms x y a c o q) (append-nil heard) (hears_on x y y a b c o p q heard [] h more)
+
+  pub turn_on : IsTurn came held x y a b o p → IsTurn came held x y a c o q
+  turn_on h =
+      let front = h.2 in
+      (h.0, h.1, (front.0, front.1, front.2, then_says front.0 front.3))
+
+  pub whole_on : (rest : List ℕ) → IsWholeTurn came held rest x y a b o p → IsWholeTurn came held rest x y a c o q
+  whole_on rest h = (h.0, h.1, then_says h.0 h.2)
+
+-- ---- no message was taken twice
+
+pub turn_goes : (came : Came) (held : List ℕ) (x y : Option ℕ) (a b : List Receipt) (o p : List Handed)
+    → IsTurn came held x y a b o p → Goes a b
+turn_goes came held x y a b o p turn =
+    let heard = turn.2.3 in
+    record {
+      added = heard.added;
+      all = heard.all;
+      newer = are_newer (last_taken a) turn.2.0 heard.added heard.takes;
+    }
+
+pub ruleset parts = (turn_refused, turn_silent, turn_heard, whole_silent, whole_heard, hears_nothing)
+
+pub ruleset then = (turn_on, whole_on)

@@ -1,0 +1,66 @@
+-- What the receipts of an end tell: the messages of the partner's that were taken, and that none was taken twice.
+use Rattle.std.specs.Prelude.{◌≡◌, ◌<◌, nat_lt, ℕ, ⊤, Option, Some, None, List, [], ◌∷◌, ◌++◌, if◌then◌else◌}
+use Rattle.std.specs.List.{filter_map}
+use Rattle.binding_rules.specs.declared.message.PartnerMessage.{PartnerMessage}
+use Rattle.journal_lines.specs.declared.event.Event.{Event}
+use Rattle.journal_lines.specs.declared.event.Event.TheVariants.{Take}
+use Rattle.journal_lines.specs.declared.line.Line.{Line}
+use Rattle.book_state.specs.Book.{BookState}
+use Rattle.locked_book.specs.declared.receipt.Receipt.{Receipt}
+use Rattle.order_book.specs.declared.order.Order.{Order}
+use Rattle.order_book.specs.declared.order.Order.TheVariants.{Take as TakeOrder}
+use Rattle.order_book.specs.Named.{IsNamed}
+
+-- the serial of the last message that was taken, where before the event it was `last`
+abbrev pub taken_by : ℕ → Event → ℕ
+taken_by last (Take message) = message.serial
+taken_by last _ = last
+
+abbrev pub taken_after : ℕ → List Receipt → ℕ
+taken_after last [] = last
+taken_after last (r ∷ rs) = taken_after (taken_by last r.line.event) rs
+
+-- 0 where none was taken: serials are counted from 1
+abbrev pub last_taken : List Receipt → ℕ
+last_taken receipts = taken_after 0 receipts
+
+-- if the event takes a message, it is newer than the last one
+abbrev pub IsNewer : ℕ → Event → Type 0
+IsNewer last (Take message) = last < message.serial
+IsNewer last _ = ⊤
+
+abbrev pub AreNewer : ℕ → List Receipt → Type 0
+AreNewer last [] = ⊤
+AreNewer last (r ∷ rs) = IsNewer last r.line.event × AreNewer (taken_by last r.line.event) rs
+
+-- receipts were added and no other changed, and each message that was taken is newer than those before
+pub record Goes (old new : List Receipt) : Type 0 where
+  pub added : List Receipt
+  pub all : new ≡ old ++ added
+  pub newer : AreNewer (last_taken old) added
+
+-- any order but that a message is taken
+abbrev pub IsOther : Order → Type 0
+IsOther (TakeOrder message) = ⊥
+IsOther _ = ⊤
+
+-- the line is one that the order names at some state of a book
+abbrev pub IsNamedBy : Order → Line → Type 0
+IsNamedBy order l = (b : BookState) × IsNamed b l.reading order l.event
+
+-- ---- the messages that were taken
+
+abbrev pub take_in : Event → Option PartnerMessage
+take_in (Take message) = Some message
+take_in _ = None
+
+abbrev pub taken_in : Receipt → Option PartnerMessage
+taken_in r = take_in r.line.event
+
+abbrev pub takes_of : List Receipt → List PartnerMessage
+takes_of receipts = filter_map taken_in receipts
+
+-- of messages that come, in their order, those that are newer than all before
+abbrev pub newer_from : ℕ → List PartnerMessage → List PartnerMessage
+newer_from last [] = []
+newer_from last (m ∷ ms) = if nat_lt last m.serial then m ∷ newer_from m.serial ms else newer_from last ms

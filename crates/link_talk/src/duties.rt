@@ -1,0 +1,145 @@
+//! What an end still owes the other, and what it hands out.
+
+ghost use Rattle.std.specs.Prelude.{◌≡◌, ◌<◌, ◌++◌, ◌∷◌, [], vec_len, vec_capacity};
+ghost use Rattle.link_talk.specs.Handed.{IsWord, messages_of, sends_of};
+
+use crate::memory::Told;
+use crate::messages::word;
+use crate::outbox::Handed;
+use failover_message::FrameKind;
+use locked_book::{Receipt, Work};
+use std::alloc::{AllocError, Global};
+
+/// The updates that the partner asked to be told again (RFC 8156, section 5: UPDREQ, UPDREQALL).
+#[derive(Clone, Copy, PartialEq, Eq)]
+pub(crate) enum Again {
+    Nothing,
+    /// Each update that is due.
+    Due,
+    /// Each update that is due, by a partner that waits after a restart.
+    All,
+}
+
+/// How many lines the book had: those of other passes, and those of this one.
+#[derive(Clone, Copy, PartialEq, Eq)]
+pub(crate) struct LineCount {
+    pub others: usize,
+    pub own: usize,
+}
+
+/// The matters that there may be to tell of a unit by an update.
+#[derive(Clone, Copy)]
+pub(crate) enum Matter {
+    /// That it was seized.
+    Mark,
+    /// What became of it.
+    Change,
+}
+
+/// A round over the units of which there is something to tell: it may go on in a later turn.
+#[derive(Clone, Copy)]
+pub(crate) struct Round {
+    /// The lines at which it began, and those that it has sent since.
+    pub lines: LineCount,
+    pub matter: Matter,
+    /// The address from which on it goes on.
+    pub from: u128,
+}
+
+/// What an end owes in one connection, and the frames that are to be written.
+#[derive(Drop)]
+pub(crate) struct Duties {
+    pub out: Vec<Handed>,
+    /// What the receipts of the end's pass tell.
+    pub told: Told,
+    pub again: Again,
+    /// Whether UPDDONE is to be sent once no unit is marked.
+    pub owes_done: bool,
+    /// Whether a contact is to be sent once no unit is marked, since the partner's last one asks.
+    pub owes_contact: bool,
+    /// Whether a POOLREQ is unanswered.
+    pub awaits_units: bool,
+    /// The round that isn't at its end.
+    pub round: Option<Round>,
+    /// Where no line was added since then, there is nothing to be told.
+    pub settled: Option<LineCount>,
+    /// How many updates were sent of which no reply came yet.
+    pub in_flight: usize,
+}
+
+/// Returns how many lines other passes and this one have added, where this one has so many receipts.
+pub(crate) fn lines_at(work: &Work, receipts: usize) -> LineCount {
+    LineCount {
+        others: work.lines.saturating_sub(receipts),
+        own: receipts,
+    }
+}
+
+/// Puts a frame behind the others, where there is room.
+fn put(out: &mut Vec<Handed>, handed: &Handed)
+    requires { vec_len out.old < vec_capacity out.old }
+    ensures { out.new.items ≡ out.old.items ++ handed.now ∷ [] }
+{
+    let _in_place = out.extend_from_slice(&[*handed]);
+}
+
+impl Duties {
+    /// Those of a connection that begins.
+    pub(crate) fn new(alloc: Global) -> Duties
+        ensures { result.out.items ≡ [] }
+    {
+        Duties {
+            out: Vec::new(alloc),
+            told: Told::nothing(alloc),
+            again: Again::Nothing,
+            owes_done: false,
+            owes_contact: false,
+            awaits_units: false,
+            round: None,
+            settled: None,
+            in_flight: 0,
+        }
+    }
+
+    /// Hands out a frame that has no line in a journal.
+    #[tactic(auto, using(crate::proofs::Saying::word_said))]
+    pub(crate) fn say(&mut self, kind: FrameKind) -> Result<(), AllocError>
+        requires { IsWord kind }
+        ensures { messages_of self.new.out.items ≡ messages_of self.old.out.items }
+    {
+        let handed = Handed {
+            frame: word(kind),
+            number: None,
+        };
+        self.out.extend_from_slice(&[handed])?;
+        Ok(())
+    }
+
+    /// Hands out what a line sends, if it sends anything.
+    #[tactic(auto, using(crate::proofs::Saying::one_more))]
+    pub(crate) fn send(&mut self, receipt: &Receipt)
+        requires { vec_len self.old.out < vec_capacity self.old.out }
+        ensures { messages_of self.new.out.items ≡ messages_of self.old.out.items ++ sends_of (receipt.now ∷ []) }
+    {
+        match Handed::of(receipt) {
+            Some(handed) => put(&mut self.out, &handed),
+            None => {}
+        }
+    }
+
+    /// Begins to tell what was asked for again.
+    pub(crate) fn begin_again(&mut self, again: Again)
+        ensures { self.new.out.items ≡ self.old.out.items }
+    {
+        self.again = again;
+        self.round = None;
+    }
+
+    /// Returns whether all was told at these lines.
+    pub(crate) fn is_settled(&self, lines: &LineCount) -> bool {
+        match &self.settled {
+            Some(settled) => self.again == Again::Nothing && *settled == *lines,
+            None => false,
+        }
+    }
+}

@@ -1,0 +1,48 @@
+//! What one end of the partners' link makes of what came, without a wire, a clock or a thread.
+//!
+//! A [`Talk`] is one connection. At each turn it takes what came by a read, at a reading of the clock: it gives orders
+//! to the book, and hands out frames, each frame of a message with the number of the line that sends it. It joins the
+//! two ends, takes the partner's messages, ends leases that have ended, shares units, and sends replies and updates; a
+//! turn costs what there is to do. The book stands behind the trait [`PairBook`], which [`LockedBook`] is by a shared
+//! book, and [`Alone`] by one that nobody else serves.
+//!
+//! The definitions stand in specs/: which messages the lines take and which frames are handed out (Receipts, Handed,
+//! Talking), and both of one turn (Turning). So **each message that was handed out stands in the journal, by the number
+//! that it goes with, and none is left out**: first what was sent above the serial that the partner named, then what
+//! the added lines send, in their order.
+//!
+//! ```text
+//! let mut talk = Talk::new(alloc);
+//! talk.greet(&pass, &settings)?;
+//! loop {
+//!     for handed in talk.hand_out() { write(handed.frame) }
+//!     talk.turn(&book, &mut pass, &settings, now, &Came::Octets(read()))?;
+//! }
+//! ```
+#![tactic(auto)]
+
+mod alone;
+mod book;
+mod came;
+mod duties;
+mod end;
+mod error;
+mod memory;
+mod messages;
+mod outbox;
+mod returning;
+mod sending;
+mod shared;
+mod sharing;
+mod stage;
+mod taking;
+mod talk;
+
+pub use alone::{Alone, OwnBook};
+pub use book::{PairBook, Receipts};
+pub use came::Came;
+pub use error::TalkError;
+pub use outbox::Handed;
+pub use shared::LockedBook;
+pub use stage::Stage;
+pub use talk::Talk;

@@ -1,0 +1,136 @@
+//! What a link's end knows by its pass's receipts.
+
+ghost use Rattle.std.specs.Prelude.{◌≡◌};
+ghost use Rattle.link_talk.specs.Receipts.{last_taken};
+
+use binding_rules::{BindReply, Body, Counter, Outcome, PartnerMessage, Status, Update};
+use journal_lines::Event;
+use locked_book::Receipt;
+use order_book::Reply;
+use prefix_range::Prefix;
+use std::alloc::{AllocError, Global};
+use std::collections::BTreeMap;
+
+/// The serial of the message that was taken last: 0 where none was. It looks at the receipts behind that one alone.
+pub(crate) fn last_taken(receipts: &[Receipt]) -> Counter
+    ensures { result ≡ last_taken receipts.now }
+{
+    for index in (0..receipts.len()).rev() {
+        if let Event::Take(message) = &receipts[index].line.event {
+            return message.serial;
+        }
+    }
+    Counter::ZERO
+}
+
+/// The last update of a unit that was sent.
+#[derive(Clone, Copy)]
+struct Telling {
+    status: Status,
+    /// Which change of the unit it told.
+    mine: Counter,
+    /// The serial under which that change was told first.
+    serial: Counter,
+    /// The term in which it was told last.
+    term: u32,
+}
+
+/// The memory of what the receipts tell, each of which is looked at once.
+#[derive(Drop)]
+pub(crate) struct Told {
+    /// How many of the receipts were looked at.
+    seen: usize,
+    /// The term of the book's messages, as far as the receipts tell.
+    term: u32,
+    /// The serial of the message that was sent last: 0 where none was.
+    pub sent: Counter,
+    /// A serial that the partner has taken: the greatest of an update that it replied to. 0 where there is none.
+    pub answered: Counter,
+    /// By the address at which a unit begins.
+    updates: BTreeMap<u128, Telling>,
+}
+
+impl Told {
+    /// Returns what no receipt tells.
+    pub(crate) fn nothing(alloc: Global) -> Told {
+        Told {
+            seen: 0,
+            term: 0,
+            sent: Counter::ZERO,
+            answered: Counter::ZERO,
+            updates: BTreeMap::new(alloc),
+        }
+    }
+
+    /// An update that was sent. Where its change was told before, the first serial stays.
+    fn note_update(&mut self, message: &PartnerMessage, update: &Update) -> Result<(), AllocError> {
+        let address = update.prefix.first();
+        let mut serial = message.serial;
+        if let Some(before) = self.updates.get(&address) {
+            if before.status == update.status && before.mine == update.mine {
+                serial = before.serial;
+            }
+        }
+        let telling = Telling {
+            status: update.status,
+            mine: update.mine,
+            serial,
+            term: message.term,
+        };
+        self.updates.insert(address, telling)?;
+        Ok(())
+    }
+
+    /// A reply that was taken.
+    fn note_reply(&mut self, reply: &BindReply) {
+        if let Some(telling) = self.updates.get(&reply.prefix.first()) {
+            if telling.mine == reply.of && telling.serial > self.answered {
+                self.answered = telling.serial;
+            }
+        }
+    }
+
+    fn note_sent(&mut self, message: &PartnerMessage) -> Result<(), AllocError> {
+        self.sent = message.serial;
+        self.term = message.term;
+        match &message.body {
+            Body::Update(update) => self.note_update(message, update),
+            Body::Reply(_) | Body::Contact { .. } => Ok(()),
+        }
+    }
+
+    /// A message that was taken. One that wasn't dropped has the book's term.
+    fn note_taken(&mut self, message: &PartnerMessage, reply: &Reply) {
+        if matches!(reply, Reply::Taken(Outcome::Accept | Outcome::Reject)) {
+            self.term = message.term;
+        }
+        if let Body::Reply(reply) = &message.body {
+            self.note_reply(reply);
+        }
+    }
+
+    /// Looks at the receipts that came since the last time. An error where a growth was
+    /// refused.
+    pub(crate) fn catch_up(&mut self, receipts: &[Receipt]) -> Result<(), AllocError> {
+        for index in self.seen..receipts.len() {
+            match &receipts[index].line.event {
+                Event::Send(message) => self.note_sent(message)?,
+                Event::Take(message) => self.note_taken(message, &receipts[index].reply),
+                _ => {}
+            }
+        }
+        self.seen = receipts.len();
+        Ok(())
+    }
+
+    /// Returns whether the last update of a unit told this status and change in the book's term: what was told in a
+    /// term before may have been passed over.
+    pub(crate) fn was_sent(&self, prefix: &Prefix, status: Status, mine: Counter) -> bool {
+        match self.updates.get(&prefix.first()) {
+            Some(telling) => {
+                telling.status == status && telling.mine == mine && telling.term == self.term
+            }
+            None => false,
+        }
+    }
+}

@@ -1,0 +1,307 @@
+//! What an end makes of the frames that come.
+
+ghost use Rattle.std.specs.Prelude.{◌≡◌, ◌∷◌, [], None, Some, OnOk, OnErr};
+ghost use Rattle.link_talk.specs.Messages.{body_in};
+ghost use Rattle.link_talk.specs.Talking.{Says, Takes, TakesFront, Hears, HearsFront, IsGoing, named_at, messages_in};
+
+use crate::book::{PairBook, Receipts};
+use crate::duties::{Again, Duties};
+use crate::end::End;
+use crate::error::TalkError;
+use crate::memory::last_taken;
+use crate::messages::message_in;
+use crate::sending::send_again;
+use crate::stage::Stage;
+use binding_rules::{Acknowledgement, BindReply, Body, Counter, PartnerMessage, Role, Status};
+use failover_message::{Frame, FrameKind};
+use order_book::Order;
+
+/// Whether the talk goes on behind a frame.
+#[derive(Clone, Copy)]
+enum Next {
+    GoesOn,
+    Ends,
+}
+
+impl<'a, B: PairBook> End<'a, B> {
+    /// Hands out again what the other end didn't take, and then what is asked of each connection. Refused where it lost
+    /// its journal: it took what was never sent, or took less than it answered.
+    #[tactic(auto, using(crate::proofs::Hearing::joining))]
+    fn join(
+        &self,
+        pass: &mut B::Pass,
+        duties: &mut Duties,
+        stage: &mut Stage,
+        last: Counter,
+    ) -> Result<(), TalkError>
+        requires { stage.old ≡ Stage.Greeting }
+        ensures { Hears [] None (named_at stage.new) (B.Pass.receipts pass.old) (B.Pass.receipts pass.new)
+            duties.old.out.items duties.new.out.items }
+    {
+        if last > duties.told.sent || last < duties.told.answered {
+            return Err(TalkError::Frame);
+        }
+        send_again(self.alloc, pass.receipts(), last, duties)?;
+        *stage = Stage::Joined { last };
+        self.ask(pass, duties)
+    }
+
+    /// The first frame of the other end: the primary's CONNECT, or the secondary's answer to it.
+    #[tactic(auto, using(crate::proofs::Hearing::meeting))]
+    fn meet(
+        &self,
+        pass: &mut B::Pass,
+        duties: &mut Duties,
+        stage: &mut Stage,
+        kind: &FrameKind,
+    ) -> Result<(), TalkError>
+        requires { stage.old ≡ Stage.Greeting }
+        ensures heard { Hears [] None (named_at stage.new) (B.Pass.receipts pass.old) (B.Pass.receipts pass.new)
+            duties.old.out.items duties.new.out.items }
+        ensures word { OnOk result (body_in kind.now ≡ None) }
+    {
+        match (self.role(), kind) {
+            (
+                Role::Secondary,
+                FrameKind::Connect {
+                    role: Role::Primary,
+                    last,
+                },
+            ) => {
+                let taken = last_taken(pass.receipts());
+                duties.say(FrameKind::ConnectReply {
+                    role: Role::Secondary,
+                    last: taken,
+                })?;
+                self.join(pass, duties, stage, *last)
+            }
+            (
+                Role::Primary,
+                FrameKind::ConnectReply {
+                    role: Role::Secondary,
+                    last,
+                },
+            ) => self.join(pass, duties, stage, *last),
+            (_, FrameKind::Disconnect) => {
+                *stage = Stage::Ended { named: None };
+                Ok(())
+            }
+            _ => Err(TalkError::Frame),
+        }
+    }
+
+    /// Asks for a unit back whose last change was its move to the secondary, where that rejects it.
+    #[tactic(auto, using(crate::proofs::Saying::saying))]
+    fn ask_back(
+        &self,
+        pass: &mut B::Pass,
+        duties: &mut Duties,
+        reply: &BindReply,
+    ) -> Result<(), TalkError>
+        ensures { Says (B.Pass.receipts pass.old) (B.Pass.receipts pass.new) duties.old.out.items duties.new.out.items }
+    {
+        if !matches!(
+            (self.role(), reply.acknowledgement),
+            (Role::Primary, Acknowledgement::Reject)
+        ) {
+            return Ok(());
+        }
+        let look = self.look(pass, &reply.prefix)?;
+        let Some(unit) = &look.unit else {
+            return Ok(());
+        };
+        if unit.due == Some(Status::Backup) && unit.mine == reply.of {
+            self.order(pass, duties, &Order::Reclaim(reply.prefix))?;
+        }
+        Ok(())
+    }
+
+    /// Does what a message asks of the end that was just taken.
+    #[tactic(auto, using(crate::proofs::Saying::saying))]
+    fn follow(
+        &self,
+        pass: &mut B::Pass,
+        duties: &mut Duties,
+        body: &Body,
+        is_accepted: bool,
+    ) -> Result<(), TalkError>
+        ensures { Says (B.Pass.receipts pass.old) (B.Pass.receipts pass.new) duties.old.out.items duties.new.out.items }
+    {
+        match body {
+            Body::Reply(reply) => {
+                duties.in_flight = duties.in_flight.saturating_sub(1);
+                self.ask_back(pass, duties, reply)
+            }
+            Body::Contact { ask, .. } => {
+                if is_accepted && *ask > Counter::ZERO {
+                    duties.owes_contact = true;
+                }
+                self.ask_again(pass, duties)
+            }
+            Body::Update(_) => Ok(()),
+        }
+    }
+
+    /// Takes a message, unless it was taken before.
+    #[tactic(auto, using(crate::proofs::Front::one_message))]
+    fn take(
+        &self,
+        pass: &mut B::Pass,
+        duties: &mut Duties,
+        message: &PartnerMessage,
+    ) -> Result<(), TalkError>
+        ensures front { TakesFront (message.now ∷ []) (B.Pass.receipts pass.old) (B.Pass.receipts pass.new)
+            duties.old.out.items duties.new.out.items }
+        ensures taken { OnOk result (Takes (message.now ∷ []) (B.Pass.receipts pass.old) (B.Pass.receipts pass.new)
+            duties.old.out.items duties.new.out.items) }
+    {
+        if message.serial <= last_taken(pass.receipts()) {
+            return Ok(());
+        }
+        let is_accepted = self.take_in(pass, message)?;
+        self.follow(pass, duties, &message.body, is_accepted)
+    }
+
+    /// A frame between the first and the last that carries no message.
+    #[tactic(auto, using(crate::proofs::Saying::saying))]
+    fn hear(
+        &self,
+        pass: &mut B::Pass,
+        duties: &mut Duties,
+        kind: &FrameKind,
+    ) -> Result<Next, TalkError>
+        ensures { Says (B.Pass.receipts pass.old) (B.Pass.receipts pass.new) duties.old.out.items duties.new.out.items }
+    {
+        match kind {
+            FrameKind::Connect { .. } | FrameKind::ConnectReply { .. } => {
+                return Err(TalkError::Frame);
+            }
+            FrameKind::Disconnect => return Ok(Next::Ends),
+            FrameKind::UpdateRequest => {
+                if duties.again == Again::Nothing {
+                    duties.begin_again(Again::Due);
+                }
+            }
+            FrameKind::UpdateRequestAll => self.welcome(pass, duties)?,
+            FrameKind::PoolRequest => self.share(pass, duties)?,
+            FrameKind::PoolResponse { .. } => duties.awaits_units = false,
+            _ => {}
+        }
+        Ok(Next::GoesOn)
+    }
+
+    /// Nothing came for a while. The secondary asks for units where it has none; and what wasn't answered by now isn't
+    /// waited for.
+    #[tactic(auto, using(crate::proofs::Hearing::quiet))]
+    pub(crate) fn keep_quiet(
+        &self,
+        pass: &mut B::Pass,
+        duties: &mut Duties,
+        stage: &Stage,
+    ) -> Result<(), TalkError>
+        ensures { Hears [] (named_at stage.now) (named_at stage.now) (B.Pass.receipts pass.old)
+            (B.Pass.receipts pass.new) duties.old.out.items duties.new.out.items }
+    {
+        duties.in_flight = 0;
+        match stage {
+            Stage::Joined { .. } => self.ask_if_needed(pass, duties),
+            Stage::Greeting | Stage::Ended { .. } => Ok(()),
+        }
+    }
+
+    /// A frame without a message, at an end that has joined the other.
+    #[tactic(auto, using(crate::proofs::Saying::saying))]
+    fn heed_word(
+        &self,
+        pass: &mut B::Pass,
+        duties: &mut Duties,
+        stage: &mut Stage,
+        last: Counter,
+        kind: &FrameKind,
+    ) -> Result<(), TalkError>
+        requires { stage.old ≡ Stage.Joined last }
+        ensures says { Says (B.Pass.receipts pass.old) (B.Pass.receipts pass.new) duties.old.out.items
+            duties.new.out.items }
+        ensures named { named_at stage.new ≡ Some last }
+    {
+        match self.hear(pass, duties, kind)? {
+            Next::GoesOn => Ok(()),
+            Next::Ends => {
+                *stage = Stage::Ended { named: Some(last) };
+                Ok(())
+            }
+        }
+    }
+
+    /// Does what one frame asks of an end that has joined the other.
+    #[tactic(auto, using(crate::proofs::Front::one_joined))]
+    fn heed_joined(
+        &self,
+        pass: &mut B::Pass,
+        duties: &mut Duties,
+        stage: &mut Stage,
+        last: Counter,
+        frame: &Frame,
+    ) -> Result<(), TalkError>
+        requires { stage.old ≡ Stage.Joined last }
+        ensures front { TakesFront (messages_in (frame.now ∷ [])) (B.Pass.receipts pass.old) (B.Pass.receipts pass.new)
+            duties.old.out.items duties.new.out.items }
+        ensures whole { OnOk result (Takes (messages_in (frame.now ∷ [])) (B.Pass.receipts pass.old)
+            (B.Pass.receipts pass.new) duties.old.out.items duties.new.out.items) }
+        ensures named { named_at stage.new ≡ Some last }
+    {
+        match message_in(frame) {
+            Some(message) => self.take(pass, duties, &message),
+            None => self.heed_word(pass, duties, stage, last, &frame.kind),
+        }
+    }
+
+    /// Does what one frame asks of the end.
+    #[tactic(auto, using(crate::proofs::Front::one_frame))]
+    fn heed(
+        &self,
+        pass: &mut B::Pass,
+        duties: &mut Duties,
+        stage: &mut Stage,
+        frame: &Frame,
+    ) -> Result<(), TalkError>
+        ensures front { HearsFront (messages_in (frame.now ∷ [])) (named_at stage.old) (named_at stage.new)
+            (B.Pass.receipts pass.old) (B.Pass.receipts pass.new) duties.old.out.items duties.new.out.items }
+        ensures whole { OnOk result (IsGoing stage.new → Hears (messages_in (frame.now ∷ [])) (named_at stage.old)
+            (named_at stage.new) (B.Pass.receipts pass.old) (B.Pass.receipts pass.new)
+            duties.old.out.items duties.new.out.items) }
+    {
+        match stage {
+            Stage::Greeting => self.meet(pass, duties, stage, &frame.kind),
+            Stage::Joined { last } => {
+                let last = *last;
+                self.heed_joined(pass, duties, stage, last, frame)
+            }
+            Stage::Ended { .. } => Ok(()),
+        }
+    }
+
+    /// Does what frames ask of the end, in their order, up to one that ends the talk.
+    #[tactic(auto, using(crate::proofs::Front::frames))]
+    pub(crate) fn heed_all(
+        &self,
+        pass: &mut B::Pass,
+        duties: &mut Duties,
+        stage: &mut Stage,
+        frames: &[Frame],
+    ) -> Result<(), TalkError>
+        ensures front { HearsFront (messages_in frames.now) (named_at stage.old) (named_at stage.new)
+            (B.Pass.receipts pass.old) (B.Pass.receipts pass.new) duties.old.out.items duties.new.out.items }
+        ensures whole { OnOk result (IsGoing stage.new → Hears (messages_in frames.now) (named_at stage.old)
+            (named_at stage.new) (B.Pass.receipts pass.old) (B.Pass.receipts pass.new)
+            duties.old.out.items duties.new.out.items) }
+    {
+        for frame in frames {
+            self.heed(pass, duties, stage, frame)?;
+            if stage.has_ended() {
+                return Ok(());
+            }
+        }
+        Ok(())
+    }
+}
