@@ -1,47 +1,49 @@
 -- A front of the messages that came, and frames one behind another.
-use Rattle.std.specs.Prelude.{◌≡◌, ℕ, ◌<◌, Option, Some, None, option_map, List, [], ◌∷◌, ◌++◌, refl, length}
+use Rattle.std.specs.Prelude.{◌≡◌, ℕ, ◌<◌, Some, None, option_map, List, [], ◌∷◌, ◌++◌, refl, length}
 use Rattle.std.specs.List.{cons_option}
 use Rattle.std.proofs.Common.{ap, sym, ◌∙◌, subst, append_assoc, append-nil, take, drop, get_or, suc}
 use Rattle.std.proofs.Math.Seq.{take-suc}
 use Rattle.std.proofs.lemmas.List.{take-append-drop}
 use Rattle.std.proofs.lemmas.List.Elements.{filter_map-append}
 use Rattle.binding_rules.specs.declared.message.PartnerMessage.{PartnerMessage}
+use Rattle.binding_rules.specs.declared.role.Role.{Role}
 use Rattle.failover_message.specs.declared.frame.Frame.{Frame}
 use Rattle.locked_book.specs.declared.receipt.Receipt.{Receipt}
 use Rattle.link_talk.specs.declared.outbox.Handed.{Handed}
-use Rattle.link_talk.specs.Handed.{messages_of}
+use Rattle.link_talk.specs.Handed.{said_of}
 use Rattle.link_talk.specs.Messages.{body_in, message_in}
 use Rattle.link_talk.specs.declared.stage.Stage.{Stage}
-use Rattle.link_talk.specs.declared.stage.Stage.TheVariants.{Greeting, Joined, Ended}
-use Rattle.link_talk.specs.Talking.{Takes, Says, TakesFront, Hears, HearsFront, IsGoing, messages_in}
+use Rattle.link_talk.specs.declared.stage.Stage.TheVariants.{Greeting, Refused as IsRefused, Joined, Ended}
+use Rattle.link_talk.specs.Talking.{Takes, Says, TakesFront, Hears, HearsFront, IsGoing, messages_in, Met, Named}
 use Rattle.link_talk.proofs.Saying.{says_nothing, passed_over, taken_then_says}
 use Rattle.link_talk.proofs.Hearing.{hears_of, hears_on, hears_nothing}
 
-module _ (x y : Option ℕ) (a b : List Receipt) (o p : List Handed) where
-  pub front_of : (heard : List PartnerMessage) → Hears heard x y a b o p → HearsFront heard x y a b o p
+module _ (role : Role) (x y : Met) (a b : List Receipt) (o p : List Handed) where
+  pub front_of : (heard : List PartnerMessage) → Hears role heard x y a b o p → HearsFront role heard x y a b o p
   front_of heard h = (heard, [], sym (append-nil heard), h)
 
-  pub none_of : (came : List PartnerMessage) → Hears [] x y a b o p → HearsFront came x y a b o p
+  pub none_of : (came : List PartnerMessage) → Hears role [] x y a b o p → HearsFront role came x y a b o p
   none_of came h = ([], came, refl, h)
 
-  pub front_more : (came more : List PartnerMessage) → HearsFront came x y a b o p
-      → HearsFront (came ++ more) x y a b o p
+  pub front_more : (came more : List PartnerMessage) → HearsFront role came x y a b o p
+      → HearsFront role (came ++ more) x y a b o p
   front_more came more h =
       (h.0, h.1 ++ more, ap (λ ms. ms ++ more) h.2 ∙ append_assoc h.0 h.1 more, h.3)
 
-pub front_on : (x y z : Option ℕ) (a b c : List Receipt) (o p q : List Handed) (heard came : List PartnerMessage)
-    → Hears heard x y a b o p → HearsFront came y z b c p q → HearsFront (heard ++ came) x z a c o q
-front_on x y z a b c o p q heard came h k = (
+pub front_on : (role : Role) (x y z : Met) (a b c : List Receipt) (o p q : List Handed)
+    (heard came : List PartnerMessage) → Hears role heard x y a b o p → HearsFront role came y z b c p q
+    → HearsFront role (heard ++ came) x z a c o q
+front_on role x y z a b c o p q heard came h k = (
   heard ++ k.0,
   k.1,
   ap (λ ms. heard ++ ms) k.2 ∙ sym (append_assoc heard k.0 k.1),
-  hears_on x y z a b c o p q heard k.0 h k.3,
+  hears_on role x y z a b c o p q heard k.0 h k.3,
 )
 
 -- an end that has joined the other
-pub front_joined : (last : ℕ) (came : List PartnerMessage) (a b : List Receipt) (o p : List Handed)
-    → TakesFront came a b o p → HearsFront came (Some last) (Some last) a b o p
-front_joined last came a b o p h = (h.0, h.1, h.2, hears_of last h.0 a b o p h.3)
+pub front_joined : (role : Role) (last : ℕ) (came : List PartnerMessage) (a b : List Receipt) (o p : List Handed)
+    → TakesFront came a b o p → HearsFront role came (Named last) (Named last) a b o p
+front_joined role last came a b o p h = (h.0, h.1, h.2, hears_of role last h.0 a b o p h.3)
 
 pub takes_front : (came : List PartnerMessage) (a b : List Receipt) (o p : List Handed) → Takes came a b o p
     → TakesFront came a b o p
@@ -54,7 +56,7 @@ takes_no_front came a b o p h = ([], came, refl, h)
 pub refused_front : (came : List PartnerMessage) (a b : List Receipt) (o p : List Handed) → b ≡ a → p ≡ o
     → TakesFront came a b o p
 refused_front came a b o p same out =
-    takes_no_front came a b o p (says_nothing a b o p same (ap (λ fs. messages_of fs) out))
+    takes_no_front came a b o p (says_nothing a b o p same (ap (λ fs. said_of fs) out))
 
 -- ---- one frame
 
@@ -66,12 +68,12 @@ module _ (f : Frame) (a b : List Receipt) (o p : List Handed) where
   pub word_front : message_in f ≡ None → Says a b o p → TakesFront (messages_in (f ∷ [])) a b o p
   word_front none h = takes_no_front (messages_in (f ∷ [])) a b o p h
 
-  pub word_heard : (x y : Option ℕ) → body_in f.kind ≡ None → Hears [] x y a b o p
-      → Hears (messages_in (f ∷ [])) x y a b o p
-  word_heard x y none h =
+  pub word_heard : (role : Role) (x y : Met) → body_in f.kind ≡ None → Hears role [] x y a b o p
+      → Hears role (messages_in (f ∷ [])) x y a b o p
+  word_heard role x y none h =
       let empty : messages_in (f ∷ []) ≡ [] =
       ap (λ k. cons_option (option_map (λ body. record { term = f.term; serial = f.serial; body = body }) k) []) none in
-      subst (λ ms. Hears ms x y a b o p) (sym empty) h
+      subst (λ ms. Hears role ms x y a b o p) (sym empty) h
 
   module _ (m : PartnerMessage) (its : message_in f ≡ Some m) where
     pub its_takes : Takes (m ∷ []) a b o p → Takes (messages_in (f ∷ [])) a b o p
@@ -88,32 +90,33 @@ module _ (fs : List Frame) (i : ℕ) (f : Frame) (within : i < length fs) (its :
       sym (filter_map-append message_in (take i fs) (f ∷ []))
       ∙ ap messages_in (ap (λ g. take i fs ++ g ∷ []) its ∙ sym (take-suc fs i f within))
 
-  module _ (x y z : Option ℕ) (a b c : List Receipt) (o p q : List Handed)
-      (h : Hears (messages_in (take i fs)) x y a b o p) where
+  module _ (role : Role) (x y z : Met) (a b c : List Receipt) (o p q : List Handed)
+      (h : Hears role (messages_in (take i fs)) x y a b o p) where
     -- the frame there was heard
-    pub frame_heard : Hears (messages_in (f ∷ [])) y z b c p q
-        → Hears (messages_in (take (suc i) fs)) x z a c o q
+    pub frame_heard : Hears role (messages_in (f ∷ [])) y z b c p q
+        → Hears role (messages_in (take (suc i) fs)) x z a c o q
     frame_heard k =
-        subst (λ ms. Hears ms x z a c o q) one_frame_more
-        (hears_on x y z a b c o p q (messages_in (take i fs)) (messages_in (f ∷ [])) h k)
+        subst (λ ms. Hears role ms x z a c o q) one_frame_more
+        (hears_on role x y z a b c o p q (messages_in (take i fs)) (messages_in (f ∷ [])) h k)
 
     -- no frame behind it was
-    pub frame_begun : HearsFront (messages_in (f ∷ [])) y z b c p q
-        → HearsFront (messages_in fs) x z a c o q
+    pub frame_begun : HearsFront role (messages_in (f ∷ [])) y z b c p q
+        → HearsFront role (messages_in fs) x z a c o q
     frame_begun k =
-        let here : HearsFront (messages_in (take (suc i) fs)) x z a c o q =
-        subst (λ ms. HearsFront ms x z a c o q) one_frame_more
-        (front_on x y z a b c o p q (messages_in (take i fs)) (messages_in (f ∷ [])) h k) in
+        let here : HearsFront role (messages_in (take (suc i) fs)) x z a c o q =
+        subst (λ ms. HearsFront role ms x z a c o q) one_frame_more
+        (front_on role x y z a b c o p q (messages_in (take i fs)) (messages_in (f ∷ [])) h k) in
         let all : messages_in (take (suc i) fs) ++ messages_in (drop (suc i) fs) ≡ messages_in fs =
         sym (filter_map-append message_in (take (suc i) fs) (drop (suc i) fs))
         ∙ ap messages_in (take-append-drop (suc i) fs) in
-        subst (λ ms. HearsFront ms x z a c o q) all
-        (front_more x z a c o q (messages_in (take (suc i) fs)) (messages_in (drop (suc i) fs)) here)
+        subst (λ ms. HearsFront role ms x z a c o q) all
+        (front_more role x z a c o q (messages_in (take (suc i) fs)) (messages_in (drop (suc i) fs)) here)
 
 -- it goes on where it hasn't ended
 pub goes_on : (s : Stage) → ((IsGoing s → ⊥) → ⊥) → IsGoing s
 goes_on Greeting h = tt
 goes_on (Joined last) h = tt
+goes_on IsRefused h = absurd (h (λ x. x))
 goes_on (Ended named) h = absurd (h (λ x. x))
 
 -- ---- for the functions that hear

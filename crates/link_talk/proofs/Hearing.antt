@@ -1,142 +1,165 @@
--- Messages that are heard, and what is handed out behind a serial that the partner names.
-use Rattle.std.specs.Prelude.{◌≡◌, ℕ, Option, Some, None, IfSome, List, [], ◌++◌, refl}
-use Rattle.std.proofs.Common.{ap, sym, ◌∙◌, append_assoc, append-nil}
+-- Messages that are heard, and what is handed out where the partner is met.
+use Rattle.std.specs.Prelude.{◌≡◌, ℕ, List, [], ◌++◌, refl}
+use Rattle.std.proofs.Common.{ap, sym, ◌∙◌, subst, append_assoc, append-nil}
 use Rattle.std.proofs.lemmas.List.Elements.{filter_map-append}
 use Rattle.binding_rules.specs.declared.message.PartnerMessage.{PartnerMessage}
+use Rattle.binding_rules.specs.declared.role.Role.{Role}
 use Rattle.locked_book.specs.declared.receipt.Receipt.{Receipt}
 use Rattle.link_talk.specs.declared.outbox.Handed.{Handed}
 use Rattle.link_talk.specs.Receipts.{last_taken, takes_of, newer_from}
-use Rattle.link_talk.specs.Handed.{Sending, messages_of, sending_by, sends_of, sends_above}
-use Rattle.link_talk.specs.Talking.{Takes, Says, Hears, first_sends}
+use Rattle.link_talk.specs.Handed.{Said, said_in, said_of, said_by, sends_of, sends_above, answer}
+use Rattle.link_talk.specs.Talking.{Takes, Says, Hears, Met, Unmet, Refused, Named, first_said, Stays, IsUnnamed}
 use Rattle.link_talk.proofs.Taken.{takes_more}
 
-first_same : (x : Option ℕ) (a : List Receipt) → first_sends x x a ≡ []
-first_same None a = refl
-first_same (Some last) a = refl
+module _ (role : Role) where
+  first_same : (x : Met) (a : List Receipt) → first_said role x x a ≡ []
+  first_same Unmet a = refl
+  first_same Refused a = refl
+  first_same (Named last) a = refl
 
-stays_same : (x : Option ℕ) → IfSome x (λ last. x ≡ Some last)
-stays_same None = tt
-stays_same (Some last) = refl
+  stays_same : (x : Met) → Stays x x
+  stays_same Unmet = tt
+  stays_same Refused = refl
+  stays_same (Named last) = refl
 
-pub hears_nothing : (x : Option ℕ) (a b : List Receipt) (o p : List Handed) → b ≡ a → messages_of p ≡ messages_of o
-    → Hears [] x x a b o p
-hears_nothing x a b o p same out =
-    record {
-      added = [];
-      all = same ∙ sym (append-nil a);
-      takes = refl;
-      sends =
-          out
-          ∙ (sym (append-nil (messages_of o))
-          ∙ (sym (append-nil (messages_of o ++ []))
-          ∙ ap (λ xs. (messages_of o ++ xs) ++ []) (sym (first_same x a))));
-      stays = stays_same x;
-      silent = λ _. refl;
-    }
-
--- where the other end had named a serial before
-pub hears_of : (last : ℕ) (heard : List PartnerMessage) (a b : List Receipt) (o p : List Handed) → Takes heard a b o p
-    → Hears heard (Some last) (Some last) a b o p
-hears_of last heard a b o p h =
-    record {
-      added = h.added;
-      all = h.all;
-      takes = h.takes;
-      sends = h.sends ∙ ap (λ xs. xs ++ sends_of h.added) (sym (append-nil (messages_of o)));
-      stays = refl;
-      silent = λ none. absurd cc;
-    }
-
--- where it names one
-pub hears_join : (last : ℕ) (a b : List Receipt) (o p q : List Handed)
-    → messages_of p ≡ messages_of o ++ sends_above last a → Says a b p q → Hears [] None (Some last) a b o q
-hears_join last a b o p q again h =
-    record {
-      added = h.added;
-      all = h.all;
-      takes = h.takes;
-      sends = h.sends ∙ ap (λ xs. xs ++ sends_of h.added) again;
-      stays = tt;
-      silent = λ none. absurd cc;
-    }
-
--- the frames of two steps, where the first or the second may have handed out what was sent before
-first_on : (x y z : Option ℕ) (a b : List Receipt) (h : List Receipt) → b ≡ a ++ h
-    → IfSome x (λ last. y ≡ Some last) → IfSome y (λ last. z ≡ Some last) → (y ≡ None → h ≡ [])
-    → first_sends x y a ++ sends_of h ++ first_sends y z b ≡ first_sends x z a ++ sends_of h
-first_on None None z a b h all s t silent =
-    let none : h ≡ [] = silent refl in
-    let same : b ≡ a = all ∙ (ap (λ xs. a ++ xs) none ∙ append-nil a) in
-    ap (λ xs. sends_of xs ++ first_sends None z b) none
-    ∙ (ap (λ rs. first_sends None z rs) same
-    ∙ (sym (append-nil (first_sends None z a)) ∙ ap (λ xs. first_sends None z a ++ sends_of xs) (sym none)))
-first_on None (Some l) None a b h all s t silent = absurd cc
-first_on None (Some l) (Some m) a b h all s t silent =
-    let same : m ≡ l = cc in
-    append-nil (sends_above l a ++ sends_of h) ∙ ap (λ n. sends_above n a ++ sends_of h) (sym same)
-first_on (Some k) None z a b h all s t silent = absurd cc
-first_on (Some k) (Some l) None a b h all s t silent = absurd cc
-first_on (Some k) (Some l) (Some m) a b h all s t silent = append-nil (sends_of h)
-
-stays_on : (x y z : Option ℕ) → IfSome x (λ last. y ≡ Some last) → IfSome y (λ last. z ≡ Some last)
-    → IfSome x (λ last. z ≡ Some last)
-stays_on None y z s t = tt
-stays_on (Some k) None z s t = absurd cc
-stays_on (Some k) (Some l) z s t = t ∙ s
-
-named_before : (y z : Option ℕ) → IfSome y (λ last. z ≡ Some last) → z ≡ None → y ≡ None
-named_before None z t none = refl
-named_before (Some l) z t none = absurd cc
-
-module _ (x y z : Option ℕ) (a b c : List Receipt) (o p q : List Handed) where
-  pub hears_on : (heard more : List PartnerMessage) → Hears heard x y a b o p → Hears more y z b c p q
-      → Hears (heard ++ more) x z a c o q
-  hears_on heard more h k =
-      let second : takes_of k.added ≡ newer_from (last_taken (a ++ h.added)) more =
-      k.takes ∙ ap (λ rs. newer_from (last_taken rs) more) h.all in
-      let base : List Sending = messages_of o in
-      let one : List Sending = first_sends x y a in
-      let two : List Sending = first_sends y z b in
-      let hs : List Sending = sends_of h.added in
-      let ks : List Sending = sends_of k.added in
-      let all : List Sending = first_sends x z a in
-      let joined : (one ++ hs) ++ two ≡ all ++ hs = first_on x y z a b h.added h.all h.stays k.stays h.silent in
-      let front : ((base ++ one) ++ hs) ++ two ≡ (base ++ all) ++ hs =
-      ap (λ xs. xs ++ two) (append_assoc base one hs)
-      ∙ (append_assoc base (one ++ hs) two
-      ∙ (ap (λ xs. base ++ xs) joined ∙ sym (append_assoc base all hs))) in
+  pub hears_nothing : (x : Met) (a b : List Receipt) (o p : List Handed) → b ≡ a → said_of p ≡ said_of o
+      → Hears role [] x x a b o p
+  hears_nothing x a b o p same out =
       record {
-        added = h.added ++ k.added;
-        all = k.all ∙ (ap (λ rs. rs ++ k.added) h.all ∙ append_assoc a h.added k.added);
-        takes = takes_more a h.added k.added heard more h.takes second;
+        added = [];
+        all = same ∙ sym (append-nil a);
+        takes = refl;
         sends =
-            k.sends
-            ∙ (ap (λ xs. (xs ++ two) ++ ks) h.sends
-            ∙ (ap (λ xs. xs ++ ks) front
-            ∙ (append_assoc (base ++ all) hs ks
-            ∙ ap (λ xs. (base ++ all) ++ xs) (sym (filter_map-append sending_by h.added k.added)))));
-        stays = stays_on x y z h.stays k.stays;
-        silent =
-            λ none.
-            let first : h.added ≡ [] = h.silent (named_before y z k.stays none) in
-            ap (λ xs. xs ++ k.added) first ∙ k.silent none;
+            out
+            ∙ (sym (append-nil (said_of o))
+            ∙ (sym (append-nil (said_of o ++ []))
+            ∙ ap (λ xs. (said_of o ++ xs) ++ []) (sym (first_same x a))));
+        stays = stays_same x;
+        silent = λ _. refl;
       }
 
--- nothing but frames without a line was handed out before
-pub hears_behind : (x y : Option ℕ) (heard : List PartnerMessage) (a b : List Receipt) (o p q : List Handed)
-    → messages_of p ≡ messages_of o → Hears heard x y a b p q → Hears heard x y a b o q
-hears_behind x y heard a b o p q same h =
-    record {
-      added = h.added;
-      all = h.all;
-      takes = h.takes;
-      sends = h.sends ∙ ap (λ xs. (xs ++ first_sends x y a) ++ sends_of h.added) same;
-      stays = h.stays;
-      silent = h.silent;
-    }
+  -- where the other end had named a serial before
+  pub hears_of : (last : ℕ) (heard : List PartnerMessage) (a b : List Receipt) (o p : List Handed) → Takes heard a b o p
+      → Hears role heard (Named last) (Named last) a b o p
+  hears_of last heard a b o p h =
+      record {
+        added = h.added;
+        all = h.all;
+        takes = h.takes;
+        sends = h.sends ∙ ap (λ xs. xs ++ sends_of h.added) (sym (append-nil (said_of o)));
+        stays = refl;
+        silent = λ none. absurd none;
+      }
 
-pub ruleset joining = (hears_nothing, hears_join)
+  -- where it names one
+  pub hears_join : (last : ℕ) (a b : List Receipt) (o p q first again : List Handed)
+      → said_of first ≡ answer role a → said_of again ≡ sends_above last a
+      → said_of p ≡ said_of o ++ said_of (first ++ again) → Says a b p q → Hears role [] Unmet (Named last) a b o q
+  hears_join last a b o p q first again answers above out h =
+      let its : said_of (first ++ again) ≡ answer role a ++ sends_above last a =
+      filter_map-append said_in first again
+      ∙ (ap (λ xs. xs ++ said_of again) answers ∙ ap (λ xs. answer role a ++ xs) above) in
+      record {
+        added = h.added;
+        all = h.all;
+        takes = h.takes;
+        sends = h.sends ∙ ap (λ xs. xs ++ sends_of h.added) (out ∙ ap (λ xs. said_of o ++ xs) its);
+        stays = tt;
+        silent = λ none. absurd none;
+      }
 
-pub ruleset meeting = (hears_nothing, hears_behind)
+  -- where it names one that can't be
+  pub hears_refused : (a b : List Receipt) (o p first : List Handed) → said_of first ≡ answer role a → b ≡ a
+      → said_of p ≡ said_of o ++ said_of first → Hears role [] Unmet Refused a b o p
+  hears_refused a b o p first its same out =
+      record {
+        added = [];
+        all = same ∙ sym (append-nil a);
+        takes = refl;
+        sends = out ∙ (ap (λ xs. said_of o ++ xs) its ∙ sym (append-nil (said_of o ++ answer role a)));
+        stays = tt;
+        silent = λ _. refl;
+      }
+
+  -- the frames of two steps, where the first or the second may have met the partner
+  first_on : (x y z : Met) (a b : List Receipt) (h : List Receipt) → b ≡ a ++ h
+      → Stays x y → Stays y z → (IsUnnamed y → h ≡ [])
+      → first_said role x y a ++ sends_of h ++ first_said role y z b ≡ first_said role x z a ++ sends_of h
+  first_on Unmet Unmet z a b h all s t silent =
+      let none : h ≡ [] = silent tt in
+      let same : b ≡ a = all ∙ (ap (λ xs. a ++ xs) none ∙ append-nil a) in
+      ap (λ xs. sends_of xs ++ first_said role Unmet z b) none
+      ∙ (ap (λ rs. first_said role Unmet z rs) same
+      ∙ (sym (append-nil (first_said role Unmet z a)) ∙ ap (λ xs. first_said role Unmet z a ++ sends_of xs) (sym none)))
+  first_on Unmet Refused z a b h all s t silent =
+      subst (λ m. first_said role Unmet Refused a ++ sends_of h ++ first_said role Refused m b
+      ≡ first_said role Unmet m a ++ sends_of h) (sym t)
+      (append-nil (first_said role Unmet Refused a ++ sends_of h))
+  first_on Unmet (Named l) z a b h all s t silent =
+      subst (λ m. first_said role Unmet (Named l) a ++ sends_of h ++ first_said role (Named l) m b
+      ≡ first_said role Unmet m a ++ sends_of h) (sym t)
+      (append-nil (first_said role Unmet (Named l) a ++ sends_of h))
+  first_on Refused Unmet z a b h all s t silent = absurd cc
+  first_on Refused Refused z a b h all s t silent =
+      subst (λ m. first_said role Refused Refused a ++ sends_of h ++ first_said role Refused m b
+      ≡ first_said role Refused m a ++ sends_of h) (sym t) (append-nil (sends_of h))
+  first_on Refused (Named l) z a b h all s t silent = absurd cc
+  first_on (Named k) Unmet z a b h all s t silent = absurd cc
+  first_on (Named k) Refused z a b h all s t silent = absurd cc
+  first_on (Named k) (Named l) z a b h all s t silent =
+      subst (λ m. first_said role (Named k) (Named l) a ++ sends_of h ++ first_said role (Named l) m b
+      ≡ first_said role (Named k) m a ++ sends_of h) (sym t) (append-nil (sends_of h))
+
+  stays_on : (x y z : Met) → Stays x y → Stays y z → Stays x z
+  stays_on Unmet y z s t = tt
+  stays_on Refused Unmet z s t = absurd cc
+  stays_on Refused Refused z s t = t
+  stays_on Refused (Named l) z s t = absurd cc
+  stays_on (Named k) Unmet z s t = absurd cc
+  stays_on (Named k) Refused z s t = absurd cc
+  stays_on (Named k) (Named l) z s t = t ∙ s
+
+  unnamed_before : (y z : Met) → Stays y z → IsUnnamed z → IsUnnamed y
+  unnamed_before Unmet z t unnamed = tt
+  unnamed_before Refused z t unnamed = tt
+  unnamed_before (Named l) z t unnamed = subst IsUnnamed t unnamed
+
+  module _ (x y z : Met) (a b c : List Receipt) (o p q : List Handed) where
+    pub hears_on : (heard more : List PartnerMessage) → Hears role heard x y a b o p → Hears role more y z b c p q
+        → Hears role (heard ++ more) x z a c o q
+    hears_on heard more h k =
+        let second : takes_of k.added ≡ newer_from (last_taken (a ++ h.added)) more =
+        k.takes ∙ ap (λ rs. newer_from (last_taken rs) more) h.all in
+        let base : List Said = said_of o in
+        let one : List Said = first_said role x y a in
+        let two : List Said = first_said role y z b in
+        let hs : List Said = sends_of h.added in
+        let ks : List Said = sends_of k.added in
+        let all : List Said = first_said role x z a in
+        let joined : (one ++ hs) ++ two ≡ all ++ hs = first_on x y z a b h.added h.all h.stays k.stays h.silent in
+        let front : ((base ++ one) ++ hs) ++ two ≡ (base ++ all) ++ hs =
+        ap (λ xs. xs ++ two) (append_assoc base one hs)
+        ∙ (append_assoc base (one ++ hs) two
+        ∙ (ap (λ xs. base ++ xs) joined ∙ sym (append_assoc base all hs))) in
+        record {
+          added = h.added ++ k.added;
+          all = k.all ∙ (ap (λ rs. rs ++ k.added) h.all ∙ append_assoc a h.added k.added);
+          takes = takes_more a h.added k.added heard more h.takes second;
+          sends =
+              k.sends
+              ∙ (ap (λ xs. (xs ++ two) ++ ks) h.sends
+              ∙ (ap (λ xs. xs ++ ks) front
+              ∙ (append_assoc (base ++ all) hs ks
+              ∙ ap (λ xs. (base ++ all) ++ xs) (sym (filter_map-append said_by h.added k.added)))));
+          stays = stays_on x y z h.stays k.stays;
+          silent =
+              λ unnamed.
+              let first : h.added ≡ [] = h.silent (unnamed_before y z k.stays unnamed) in
+              ap (λ xs. xs ++ k.added) first ∙ k.silent unnamed;
+        }
+
+pub ruleset joining = (hears_nothing, hears_join, hears_refused)
+
+pub ruleset meeting = (hears_nothing)
 
 pub ruleset quiet = (hears_nothing, hears_of)

@@ -6,3 +6,4 @@ pub mod Hearing
 pub mod Again
 pub mod Front
 pub mod Turns
+pub mod Streams

@@ -8,6 +8,8 @@ use Rattle.std.proofs.lemmas.List.Elements.{filter_map-append}
 use Rattle.binding_rules.specs.declared.message.PartnerMessage.{PartnerMessage}
 use Rattle.journal_lines.specs.declared.event.Event.{Event}
 use Rattle.journal_lines.specs.declared.event.Event.TheVariants.{Take as TakeLine, Send}
+use Rattle.binding_rules.specs.declared.role.Role.{Role}
+use Rattle.binding_rules.specs.declared.role.Role.TheVariants.{Primary, Secondary}
 use Rattle.book_state.specs.Book.{BookState}
 use Rattle.order_book.specs.declared.order.Order.{Order}
 use Rattle.order_book.specs.declared.order.Order.TheVariants.{Request, Renew, Release, Expire, Backup, Reclaim, Seize}
@@ -17,8 +19,8 @@ use Rattle.order_book.specs.Named.{IsNamed}
 use Rattle.locked_book.specs.declared.receipt.Receipt.{Receipt}
 use Rattle.link_talk.specs.declared.outbox.Handed.{Handed}
 use Rattle.link_talk.specs.Receipts.{last_taken, take_in, takes_of, newer_from, IsOther, IsNamedBy}
-use Rattle.link_talk.specs.Handed.{sending_of, messages_of, sent_in, sending_by, sends_of}
-use Rattle.link_talk.specs.Messages.{message_in}
+use Rattle.link_talk.specs.Handed.{said_in, said_of, sent_in, said_by, sends_of, greeting_in, greeting_kind, Greets}
+use Rattle.link_talk.specs.Messages.{body_in, message_in}
 use Rattle.link_talk.specs.Talking.{Takes, Says}
 use Rattle.link_talk.proofs.Taken.{takes_more}
 
@@ -35,20 +37,20 @@ module _ (a b c : List Receipt) (o p q : List Handed) where
         sends =
             k.sends
             ∙ (ap (λ xs. xs ++ sends_of k.added) h.sends
-            ∙ (append_assoc (messages_of o) (sends_of h.added) (sends_of k.added)
-            ∙ ap (λ xs. messages_of o ++ xs) (sym (filter_map-append sending_by h.added k.added))));
+            ∙ (append_assoc (said_of o) (sends_of h.added) (sends_of k.added)
+            ∙ ap (λ xs. said_of o ++ xs) (sym (filter_map-append said_by h.added k.added))));
       }
 
   pub says_on : Says a b o p → Says b c p q → Says a c o q
   says_on h k = takes_on [] [] h k
 
-pub says_nothing : (a b : List Receipt) (o p : List Handed) → b ≡ a → messages_of p ≡ messages_of o → Says a b o p
+pub says_nothing : (a b : List Receipt) (o p : List Handed) → b ≡ a → said_of p ≡ said_of o → Says a b o p
 says_nothing a b o p same out =
     record {
       added = [];
       all = same ∙ sym (append-nil a);
       takes = refl;
-      sends = out ∙ sym (append-nil (messages_of o));
+      sends = out ∙ sym (append-nil (said_of o));
     }
 
 -- ---- one order
@@ -76,7 +78,7 @@ other_takes b now Close e _ h = ap take_in h
 
 -- a line that an order added, and what was handed out for it
 pub one_said : (a b : List Receipt) (o p : List Handed) (r : Receipt) (order : Order) → b ≡ a ++ r ∷ []
-    → IsNamedBy order r.line → IsOther order → messages_of p ≡ messages_of o ++ sends_of (r ∷ []) → Says a b o p
+    → IsNamedBy order r.line → IsOther order → said_of p ≡ said_of o ++ sends_of (r ∷ []) → Says a b o p
 one_said a b o p r order all named other out =
     record {
       added = r ∷ [];
@@ -85,20 +87,35 @@ one_said a b o p r order all named other out =
       sends = out;
     }
 
--- a frame that has no line in a journal
-pub word_said : (o : List Handed) (h : Handed) → message_in h.frame ≡ None → messages_of (o ++ h ∷ []) ≡ messages_of o
-word_said o h none =
-    let its : sending_of h ≡ None = rw (none) refl in
-    filter_map-append sending_of o (h ∷ [])
-    ∙ (ap (λ x. messages_of o ++ cons_option x []) its ∙ append-nil (messages_of o))
+-- a frame that says nothing of a journal
+pub word_said : (o : List Handed) (h : Handed) → body_in h.frame.kind ≡ None → greeting_in h.frame.kind ≡ None
+    → said_of (o ++ h ∷ []) ≡ said_of o
+word_said o h none no_greeting =
+    let its : said_in h ≡ None = rw (none, no_greeting) refl in
+    filter_map-append said_in o (h ∷ [])
+    ∙ (ap (λ x. said_of o ++ cons_option x []) its ∙ append-nil (said_of o))
+
+-- a server's greeting
+greets_as : (h : Handed) (role : Role) (last : ℕ) → h.frame.kind ≡ greeting_kind role last
+    → said_in h ≡ Some (Greets (greeting_kind role last))
+greets_as h Primary last is = rw (is) refl
+greets_as h Secondary last is = rw (is) refl
+
+pub greeting_said : (h : Handed) (role : Role) (last : ℕ) → h.frame.kind ≡ greeting_kind role last
+    → said_of (h ∷ []) ≡ Greets (greeting_kind role last) ∷ []
+greeting_said h role last is = ap (λ x. cons_option x []) (greets_as h role last is)
+
+-- frames behind others
+pub frames_said : (o more : List Handed) → said_of (o ++ more) ≡ said_of o ++ said_of more
+frames_said o more = filter_map-append said_in o more
 
 -- ---- what a line sends
 
 -- it sends a message
 pub sends_one : (h : Handed) (r : Receipt) (m : PartnerMessage) → r.line.event ≡ Send m → message_in h.frame ≡ Some m
-    → h.number ≡ Some r.number → sends_of (r ∷ []) ≡ messages_of (h ∷ [])
+    → h.number ≡ Some r.number → sends_of (r ∷ []) ≡ said_of (h ∷ [])
 sends_one h r m sends carries number =
-    let its : sending_by r ≡ sending_of h = rw (carries, number, sends) refl in
+    let its : said_by r ≡ said_in h = rw (carries, number, sends) refl in
     ap (λ x. cons_option x []) its
 
 event_silent : (e : Event) → ((m : PartnerMessage) → e ≡ Send m → ⊥) → sent_in e ≡ None
@@ -108,17 +125,17 @@ event_silent _ other = refl
 -- it sends none
 pub sends_none : (r : Receipt) → ((m : PartnerMessage) → r.line.event ≡ Send m → ⊥) → sends_of (r ∷ []) ≡ []
 sends_none r other =
-    let none : sending_by r ≡ None = rw (event_silent r.line.event other) refl in
+    let none : said_by r ≡ None = rw (event_silent r.line.event other) refl in
     ap (λ x. cons_option x []) none
 
 -- its frame stands behind others
-pub one_more_sent : (o : List Handed) (h : Handed) (r : Receipt) → sends_of (r ∷ []) ≡ messages_of (h ∷ [])
-    → messages_of (o ++ h ∷ []) ≡ messages_of o ++ sends_of (r ∷ [])
-one_more_sent o h r its = filter_map-append sending_of o (h ∷ []) ∙ ap (λ xs. messages_of o ++ xs) (sym its)
+pub one_more_sent : (o : List Handed) (h : Handed) (r : Receipt) → sends_of (r ∷ []) ≡ said_of (h ∷ [])
+    → said_of (o ++ h ∷ []) ≡ said_of o ++ sends_of (r ∷ [])
+one_more_sent o h r its = filter_map-append said_in o (h ∷ []) ∙ ap (λ xs. said_of o ++ xs) (sym its)
 
 pub none_sent : (o : List Handed) (r : Receipt) → sends_of (r ∷ []) ≡ []
-    → messages_of o ≡ messages_of o ++ sends_of (r ∷ [])
-none_sent o r none = sym (append-nil (messages_of o)) ∙ ap (λ xs. messages_of o ++ xs) (sym none)
+    → said_of o ≡ said_of o ++ sends_of (r ∷ [])
+none_sent o r none = sym (append-nil (said_of o)) ∙ ap (λ xs. said_of o ++ xs) (sym none)
 
 -- ---- one message that is taken
 
@@ -143,7 +160,7 @@ passed_over a b o p m same out old =
       added = [];
       all = same ∙ sym (append-nil a);
       takes = sym (ap (λ t. cond t (m ∷ []) []) test);
-      sends = ap (λ fs. messages_of fs) out ∙ sym (append-nil (messages_of o));
+      sends = ap (λ fs. said_of fs) out ∙ sym (append-nil (said_of o));
     }
 
 -- one that is taken, and what is done then
@@ -161,3 +178,5 @@ pub ruleset one_order = (one_said, says_nothing)
 pub ruleset one_line = (sends_one, sends_none)
 
 pub ruleset one_more = (one_more_sent, none_sent)
+
+pub ruleset more_said = (frames_said)

@@ -1,7 +1,8 @@
 -- What one turn of a talk does, out of what its parts do.
-use Rattle.std.specs.Prelude.{◌≡◌, ℕ, Option, Some, Result, Ok, Err, OnOk, List, [], ◌++◌, refl}
+use Rattle.std.specs.Prelude.{◌≡◌, ℕ, Result, Ok, Err, OnOk, List, [], ◌++◌, refl}
 use Rattle.std.proofs.Common.{ap, sym, subst, append-nil, inl, inr, Bor}
 use Rattle.binding_rules.specs.declared.message.PartnerMessage.{PartnerMessage}
+use Rattle.binding_rules.specs.declared.role.Role.{Role}
 use Rattle.failover_message.specs.declared.frame.Frame.{Frame}
 use Rattle.failover_message.specs.Stream.{Splits}
 use Rattle.locked_book.specs.declared.receipt.Receipt.{Receipt}
@@ -9,34 +10,35 @@ use Rattle.link_talk.specs.declared.came.Came.{Came}
 use Rattle.link_talk.specs.declared.came.Came.TheVariants.{Octets, Nothing}
 use Rattle.link_talk.specs.declared.outbox.Handed.{Handed}
 use Rattle.link_talk.specs.Receipts.{last_taken, Goes}
-use Rattle.link_talk.specs.Handed.{messages_of}
-use Rattle.link_talk.specs.Talking.{Says, Hears, HearsFront, messages_in}
+use Rattle.link_talk.specs.Handed.{said_of}
+use Rattle.link_talk.specs.Talking.{Says, Hears, HearsFront, messages_in, Met, Named}
 use Rattle.link_talk.specs.Turning.{Carries, AreMessages, IsTurn, IsWholeTurn}
 use Rattle.link_talk.proofs.Hearing.{hears_of, hears_on, hears_nothing}
 use Rattle.link_talk.proofs.Front.{none_of}
 use Rattle.link_talk.proofs.Taken.{are_newer}
 
-module _ (came : Came) (held : List ℕ) (x y : Option ℕ) (a b : List Receipt) (o p : List Handed) where
+module _ (role : Role) (came : Came) (held : List ℕ) (x y : Met) (a b : List Receipt) (o p : List Handed) where
   -- no message was heard
-  pub turn_silent : Hears [] x y a b o p → IsTurn came held x y a b o p
-  turn_silent h = ([], inl refl, none_of x y a b o p [] h)
+  pub turn_silent : Hears role [] x y a b o p → IsTurn role came held x y a b o p
+  turn_silent h = ([], inl refl, none_of role x y a b o p [] h)
 
-  pub whole_silent : AreMessages came held held [] → Hears [] x y a b o p → IsWholeTurn came held held x y a b o p
+  pub whole_silent : AreMessages came held held [] → Hears role [] x y a b o p
+      → IsWholeTurn role came held held x y a b o p
   whole_silent none h = ([], none, h)
 
 -- what was refused
-pub turn_refused : (came : Came) (held : List ℕ) (x : Option ℕ) (a b : List Receipt) (o p : List Handed) → b ≡ a → p ≡ o
-    → IsTurn came held x x a b o p
-turn_refused came held x a b o p same out =
-    turn_silent came held x x a b o p (hears_nothing x a b o p same (ap (λ fs. messages_of fs) out))
+pub turn_refused : (role : Role) (came : Came) (held : List ℕ) (x : Met) (a b : List Receipt) (o p : List Handed)
+    → b ≡ a → p ≡ o → IsTurn role came held x x a b o p
+turn_refused role came held x a b o p same out =
+    turn_silent role came held x x a b o p (hears_nothing role x a b o p same (ap (λ fs. said_of fs) out))
 
 -- frames came, and a front of them was heard, or all
-module _ (came : Came) (held rest : List ℕ) (frames : List Frame) (x y : Option ℕ) (a b : List Receipt)
+module _ (role : Role) (came : Came) (held rest : List ℕ) (frames : List Frame) (x y : Met) (a b : List Receipt)
     (o p : List Handed) (are : AreMessages came held rest (messages_in frames)) where
-  pub turn_heard : HearsFront (messages_in frames) x y a b o p → IsTurn came held x y a b o p
+  pub turn_heard : HearsFront role (messages_in frames) x y a b o p → IsTurn role came held x y a b o p
   turn_heard h = (messages_in frames, inr (rest, are), h)
 
-  pub whole_heard : Hears (messages_in frames) x y a b o p → IsWholeTurn came held rest x y a b o p
+  pub whole_heard : Hears role (messages_in frames) x y a b o p → IsWholeTurn role came held rest x y a b o p
   whole_heard h = (messages_in frames, are, h)
 
 pub octets_carry : (held octets rest : List ℕ) (frames : List Frame) → Splits (held ++ octets) frames rest
@@ -61,27 +63,28 @@ if_done (Err e) its = tt
 
 -- ---- and then something was said
 
-module _ (came : Came) (held : List ℕ) (x y : Option ℕ) (last : ℕ) (named : y ≡ Some last) (a b c : List Receipt)
-    (o p q : List Handed) (says : Says b c p q) where
-  then_says : (heard : List PartnerMessage) → Hears heard x y a b o p → Hears heard x y a c o q
+module _ (role : Role) (came : Came) (held : List ℕ) (x y : Met) (last : ℕ) (named : y ≡ Named last)
+    (a b c : List Receipt) (o p q : List Handed) (says : Says b c p q) where
+  then_says : (heard : List PartnerMessage) → Hears role heard x y a b o p → Hears role heard x y a c o q
   then_says heard h =
-      let more : Hears [] y y b c p q =
-      subst (λ z. Hears [] z z b c p q) (sym named) (hears_of last [] b c p q says) in
-      subst (λ ms. Hears ms x y a c o q) (append-nil heard) (hears_on x y y a b c o p q heard [] h more)
+      let more : Hears role [] y y b c p q =
+      subst (λ z. Hears role [] z z b c p q) (sym named) (hears_of role last [] b c p q says) in
+      subst (λ ms. Hears role ms x y a c o q) (append-nil heard) (hears_on role x y y a b c o p q heard [] h more)
 
-  pub turn_on : IsTurn came held x y a b o p → IsTurn came held x y a c o q
+  pub turn_on : IsTurn role came held x y a b o p → IsTurn role came held x y a c o q
   turn_on h =
       let front = h.2 in
       (h.0, h.1, (front.0, front.1, front.2, then_says front.0 front.3))
 
-  pub whole_on : (rest : List ℕ) → IsWholeTurn came held rest x y a b o p → IsWholeTurn came held rest x y a c o q
+  pub whole_on : (rest : List ℕ) → IsWholeTurn role came held rest x y a b o p
+      → IsWholeTurn role came held rest x y a c o q
   whole_on rest h = (h.0, h.1, then_says h.0 h.2)
 
 -- ---- no message was taken twice
 
-pub turn_goes : (came : Came) (held : List ℕ) (x y : Option ℕ) (a b : List Receipt) (o p : List Handed)
-    → IsTurn came held x y a b o p → Goes a b
-turn_goes came held x y a b o p turn =
+pub turn_goes : (role : Role) (came : Came) (held : List ℕ) (x y : Met) (a b : List Receipt) (o p : List Handed)
+    → IsTurn role came held x y a b o p → Goes a b
+turn_goes role came held x y a b o p turn =
     let heard = turn.2.3 in
     record {
       added = heard.added;

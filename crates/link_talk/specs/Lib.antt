@@ -1,5 +1,5 @@
-pub mod Receipts
 pub mod Messages
+pub mod Receipts
 pub mod Handed
 pub mod Talking
 pub mod Turning

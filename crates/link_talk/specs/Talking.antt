@@ -1,14 +1,15 @@
 -- What an end's talk does: which lines it adds to the book, and which frames it hands out for them.
-use Rattle.std.specs.Prelude.{◌≡◌, ⊤, ℕ, Option, Some, None, IfSome, List, [], ◌++◌}
+use Rattle.std.specs.Prelude.{◌≡◌, ⊤, ℕ, Option, Some, None, List, [], ◌++◌}
 use Rattle.std.specs.List.{filter_map}
 use Rattle.binding_rules.specs.declared.message.PartnerMessage.{PartnerMessage}
+use Rattle.binding_rules.specs.declared.role.Role.{Role}
 use Rattle.failover_message.specs.declared.frame.Frame.{Frame}
 use Rattle.locked_book.specs.declared.receipt.Receipt.{Receipt}
 use Rattle.link_talk.specs.declared.outbox.Handed.{Handed}
 use Rattle.link_talk.specs.declared.stage.Stage.{Stage}
-use Rattle.link_talk.specs.declared.stage.Stage.TheVariants.{Greeting, Joined, Ended}
+use Rattle.link_talk.specs.declared.stage.Stage.TheVariants.{Greeting, Refused as IsRefused, Joined, Ended}
 use Rattle.link_talk.specs.Receipts.{last_taken, takes_of, newer_from}
-use Rattle.link_talk.specs.Handed.{Sending, messages_of, sends_of, sends_above}
+use Rattle.link_talk.specs.Handed.{Said, said_of, sends_of, sends_above, answer}
 use Rattle.link_talk.specs.Messages.{message_in}
 
 -- Lines were added. Of the messages that were heard they take those that are newer than all before; and what they send
@@ -17,21 +18,33 @@ pub record Takes (heard : List PartnerMessage) (had has : List Receipt) (was is 
   pub added : List Receipt
   pub all : has ≡ had ++ added
   pub takes : takes_of added ≡ newer_from (last_taken had) heard
-  pub sends : messages_of is ≡ messages_of was ++ sends_of added
+  pub sends : said_of is ≡ said_of was ++ sends_of added
 
 -- the same, but that no message was heard
 abbrev pub Says : List Receipt → List Receipt → List Handed → List Handed → Type 0
 Says had has was is = Takes [] had has was is
 
--- the serial of the last message that the partner named, once it has
-abbrev pub named_at : Stage → Option ℕ
-named_at Greeting = None
-named_at (Joined last) = Some last
-named_at (Ended named) = named
+-- how far the partner was met: not yet; it named a serial that can't be; or it named that of the last message that it
+-- took
+pub data Met : Type 0 where
+  Unmet : Met
+  Refused : Met
+  Named : ℕ → Met
+
+abbrev pub met_by : Option ℕ → Met
+met_by None = Unmet
+met_by (Some last) = Named last
+
+abbrev pub met_at : Stage → Met
+met_at Greeting = Unmet
+met_at IsRefused = Refused
+met_at (Joined last) = Named last
+met_at (Ended named) = met_by named
 
 -- the talk goes on
 abbrev pub IsGoing : Stage → Type 0
 IsGoing (Ended named) = ⊥
+IsGoing IsRefused = ⊥
 IsGoing _ = ⊤
 
 -- a front of the messages was heard
@@ -40,30 +53,42 @@ TakesFront came had has was is =
     (heard : List PartnerMessage) × (rest : List PartnerMessage) × (came ≡ heard ++ rest)
     × Takes heard had has was is
 
--- what is handed out first where the partner names a serial: all that was sent above it
-abbrev pub first_sends : Option ℕ → Option ℕ → List Receipt → List Sending
-first_sends None (Some last) had = sends_above last had
-first_sends _ _ had = []
+-- what is said first where the partner is met: the answer to its greeting, and all that was sent above the serial that
+-- it named
+abbrev pub first_said : Role → Met → Met → List Receipt → List Said
+first_said role Unmet Refused had = answer role had
+first_said role Unmet (Named last) had = answer role had ++ sends_above last had
+first_said role _ _ had = []
+
+-- who was met stays so
+abbrev pub Stays : Met → Met → Type 0
+Stays Unmet after = ⊤
+Stays before after = after ≡ before
+
+-- the partner named no serial that can be
+abbrev pub IsUnnamed : Met → Type 0
+IsUnnamed (Named last) = ⊥
+IsUnnamed _ = ⊤
 
 -- Lines were added. Of the messages that were heard they take those that are newer than all before. Where the partner
--- named a serial, what was sent above it was handed out first; then what the lines send, in their order; and no other
--- message. Before it named one, no line was added.
-pub record Hears (heard : List PartnerMessage) (before after : Option ℕ) (had has : List Receipt)
+-- was met, its answer and what was sent above the serial that it named was handed out first; then what the lines send,
+-- in their order; and no other greeting and no other message. Before it named a serial, no line was added.
+pub record Hears (role : Role) (heard : List PartnerMessage) (before after : Met) (had has : List Receipt)
     (was is : List Handed) : Type 0 where
   pub added : List Receipt
   pub all : has ≡ had ++ added
   pub takes : takes_of added ≡ newer_from (last_taken had) heard
-  pub sends : messages_of is ≡ messages_of was ++ first_sends before after had ++ sends_of added
-  pub stays : IfSome before (λ last. after ≡ Some last)
-  pub silent : after ≡ None → added ≡ []
+  pub sends : said_of is ≡ said_of was ++ first_said role before after had ++ sends_of added
+  pub stays : Stays before after
+  pub silent : IsUnnamed after → added ≡ []
 
 -- the messages that frames carry
 abbrev pub messages_in : List Frame → List PartnerMessage
 messages_in frames = filter_map message_in frames
 
 -- a front of the messages was heard, and did that
-abbrev pub HearsFront : List PartnerMessage → Option ℕ → Option ℕ → List Receipt → List Receipt → List Handed
+abbrev pub HearsFront : Role → List PartnerMessage → Met → Met → List Receipt → List Receipt → List Handed
     → List Handed → Type 0
-HearsFront came before after had has was is =
+HearsFront role came before after had has was is =
     (heard : List PartnerMessage) × (rest : List PartnerMessage) × (came ≡ heard ++ rest)
-    × Hears heard before after had has was is
+    × Hears role heard before after had has was is

@@ -1,6 +1,7 @@
 -- What one turn of a talk does.
-use Rattle.std.specs.Prelude.{◌≡◌, ◌⊎◌, ℕ, Option, List, [], ◌++◌}
+use Rattle.std.specs.Prelude.{◌≡◌, ◌⊎◌, ℕ, List, [], ◌++◌}
 use Rattle.binding_rules.specs.declared.message.PartnerMessage.{PartnerMessage}
+use Rattle.binding_rules.specs.declared.role.Role.{Role}
 use Rattle.failover_message.specs.declared.frame.Frame.{Frame}
 use Rattle.failover_message.specs.Stream.{Splits}
 use Rattle.locked_book.specs.declared.receipt.Receipt.{Receipt}
@@ -8,7 +9,7 @@ use Rattle.link_talk.specs.declared.outbox.Handed.{Handed}
 use Rattle.link_talk.specs.declared.stage.Stage.{Stage}
 use Rattle.link_talk.specs.declared.came.Came.{Came}
 use Rattle.link_talk.specs.declared.came.Came.TheVariants.{Octets, Nothing, End}
-use Rattle.link_talk.specs.Talking.{messages_in, Hears, HearsFront}
+use Rattle.link_talk.specs.Talking.{messages_in, Met, Hears, HearsFront}
 
 -- a talk as its callers see it: the octets of a frame that hasn't come whole, how far the two ends have come, and the
 -- frames that are to be written
@@ -30,16 +31,21 @@ AreMessages Nothing held rest messages = (messages ≡ []) × (rest ≡ held)
 AreMessages End held rest messages = (messages ≡ []) × (rest ≡ held)
 
 -- A front of the messages that came was heard. Where what came is no frame, nothing was.
-abbrev pub IsTurn : Came → List ℕ → Option ℕ → Option ℕ → List Receipt → List Receipt → List Handed → List Handed
+abbrev pub IsTurn : Role → Came → List ℕ → Met → Met → List Receipt → List Receipt → List Handed → List Handed
     → Type 0
-IsTurn came held before after had has was is =
+IsTurn role came held before after had has was is =
     (messages : List PartnerMessage)
     × ((messages ≡ []) ⊎ ((rest : List ℕ) × AreMessages came held rest messages))
-    × HearsFront messages before after had has was is
+    × HearsFront role messages before after had has was is
+
+-- the octets of what came
+abbrev pub octets_of : Came → List ℕ
+octets_of (Octets octets) = octets.now
+octets_of _ = []
 
 -- all of the messages that came were heard
-abbrev pub IsWholeTurn : Came → List ℕ → List ℕ → Option ℕ → Option ℕ → List Receipt → List Receipt → List Handed
+abbrev pub IsWholeTurn : Role → Came → List ℕ → List ℕ → Met → Met → List Receipt → List Receipt → List Handed
     → List Handed → Type 0
-IsWholeTurn came held rest before after had has was is =
+IsWholeTurn role came held rest before after had has was is =
     (messages : List PartnerMessage) × AreMessages came held rest messages
-    × Hears messages before after had has was is
+    × Hears role messages before after had has was is

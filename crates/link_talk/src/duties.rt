@@ -1,7 +1,7 @@
 //! What an end still owes the other, and what it hands out.
 
-ghost use Rattle.std.specs.Prelude.{◌≡◌, ◌<◌, ◌++◌, ◌∷◌, [], vec_len, vec_capacity};
-ghost use Rattle.link_talk.specs.Handed.{IsWord, messages_of, sends_of};
+ghost use Rattle.std.specs.Prelude.{◌≡◌, ◌<◌, ◌++◌, ◌∷◌, [], vec_len, vec_capacity, OnOk, OnErr};
+ghost use Rattle.link_talk.specs.Handed.{IsWord, said_of, sends_of};
 
 use crate::memory::Told;
 use crate::messages::word;
@@ -105,7 +105,7 @@ impl Duties {
     #[tactic(auto, using(crate::proofs::Saying::word_said))]
     pub(crate) fn say(&mut self, kind: FrameKind) -> Result<(), AllocError>
         requires { IsWord kind }
-        ensures { messages_of self.new.out.items ≡ messages_of self.old.out.items }
+        ensures { said_of self.new.out.items ≡ said_of self.old.out.items }
     {
         let handed = Handed {
             frame: word(kind),
@@ -115,11 +115,21 @@ impl Duties {
         Ok(())
     }
 
+    /// Hands out frames, or none of them where a growth is refused.
+    #[tactic(auto, using(crate::proofs::Saying::more_said))]
+    pub(crate) fn hand(&mut self, frames: &[Handed]) -> Result<(), AllocError>
+        ensures said { OnOk result (said_of self.new.out.items ≡ said_of self.old.out.items ++ said_of frames.now) }
+        ensures nothing { OnErr result (self.new.out.items ≡ self.old.out.items) }
+    {
+        self.out.extend_from_slice(frames)?;
+        Ok(())
+    }
+
     /// Hands out what a line sends, if it sends anything.
     #[tactic(auto, using(crate::proofs::Saying::one_more))]
     pub(crate) fn send(&mut self, receipt: &Receipt)
         requires { vec_len self.old.out < vec_capacity self.old.out }
-        ensures { messages_of self.new.out.items ≡ messages_of self.old.out.items ++ sends_of (receipt.now ∷ []) }
+        ensures { said_of self.new.out.items ≡ said_of self.old.out.items ++ sends_of (receipt.now ∷ []) }
     {
         match Handed::of(receipt) {
             Some(handed) => put(&mut self.out, &handed),

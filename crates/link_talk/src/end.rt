@@ -22,8 +22,9 @@ use std::alloc::Global;
 pub(crate) struct End<'a, B: PairBook> {
     pub alloc: Global,
     pub book: &'a B,
+    pub role: Role,
     pub settings: &'a Settings,
-    pub now: Reading,
+    pub reading: Reading,
 }
 
 /// The fate of an order that a later turn may give again.
@@ -48,11 +49,6 @@ fn fate_of(refusal: ServeError) -> Result<Fate, TalkError> {
 }
 
 impl<'a, B: PairBook> End<'a, B> {
-    /// Returns which server's end it is.
-    pub(crate) fn role(&self) -> Role {
-        self.settings.role()
-    }
-
     /// Orders anything but that a message is taken. What its line sends is handed out.
     #[tactic(auto, using(crate::proofs::Saying::one_order))]
     pub(crate) fn order(
@@ -65,7 +61,7 @@ impl<'a, B: PairBook> End<'a, B> {
         ensures { Says (B.Pass.receipts pass.old) (B.Pass.receipts pass.new) duties.old.out.items duties.new.out.items }
     {
         duties.out.reserve(1)?;
-        match self.book.serve(pass, self.now, order) {
+        match self.book.serve(pass, self.reading, order) {
             Ok(receipt) => {
                 duties.send(&receipt);
                 Ok(Fate::Done)
@@ -87,7 +83,7 @@ impl<'a, B: PairBook> End<'a, B> {
             × (B.Pass.receipts pass.new ≡ B.Pass.receipts pass.old ++ r ∷ [])) }
         ensures refused { OnErr result (B.Pass.receipts pass.new ≡ B.Pass.receipts pass.old) }
     {
-        match self.book.serve(pass, self.now, &Order::Take(*message)) {
+        match self.book.serve(pass, self.reading, &Order::Take(*message)) {
             Ok(receipt) => Ok(matches!(receipt.reply, Reply::Taken(Outcome::Accept))),
             Err(refusal) => Err(TalkError::Serve(refusal)),
         }
@@ -97,7 +93,7 @@ impl<'a, B: PairBook> End<'a, B> {
     pub(crate) fn work(&self, pass: &mut B::Pass, from: u128) -> Result<Work, TalkError>
         ensures { B.Pass.receipts pass.new ≡ B.Pass.receipts pass.old }
     {
-        match self.book.work_from(pass, self.now, from) {
+        match self.book.work_from(pass, self.reading, from) {
             Ok(work) => Ok(work),
             Err(refusal) => Err(TalkError::Serve(refusal)),
         }

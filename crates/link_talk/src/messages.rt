@@ -2,7 +2,6 @@
 
 ghost use Rattle.std.specs.Prelude.{◌≡◌, Some, None};
 ghost use Rattle.link_talk.specs.Messages.{body_in, message_in};
-ghost use Rattle.link_talk.specs.Handed.{IsWord};
 
 use binding_rules::{Body, Counter, PartnerMessage};
 use failover_message::{Frame, FrameKind};
@@ -59,8 +58,7 @@ pub(crate) fn frame_of(message: &PartnerMessage) -> Frame
 
 /// A frame that has no line in a journal: its term and serial are 0.
 pub(crate) fn word(kind: FrameKind) -> Frame
-    requires { IsWord kind }
-    ensures { message_in result ≡ None }
+    ensures { result ≡ record { term = 0; serial = 0; kind = kind } }
 {
     Frame {
         term: 0,

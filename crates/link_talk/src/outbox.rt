@@ -1,12 +1,14 @@
 //! A frame that is handed out.
 
-ghost use Rattle.std.specs.Prelude.{◌≡◌, ◌∷◌, []};
+ghost use Rattle.std.specs.Prelude.{◌≡◌, ◌∷◌, [], Some, IfSome};
 ghost use Rattle.std.specs.List.{cons_option};
-ghost use Rattle.link_talk.specs.Handed.{messages_of, sends_of, sends_above};
+ghost use Rattle.binding_rules.specs.declared.message.PartnerMessage.{PartnerMessage as Message};
+ghost use Rattle.link_talk.specs.Handed.{Greets, greeting_kind, said_of, sends_of, sends_above};
+ghost use Rattle.link_talk.specs.Messages.{message_in};
 
-use crate::messages::frame_of;
-use binding_rules::Counter;
-use failover_message::Frame;
+use crate::messages::{frame_of, word};
+use binding_rules::{Counter, Role};
+use failover_message::{Frame, FrameKind};
 use journal_lines::Event;
 use locked_book::Receipt;
 
@@ -18,10 +20,26 @@ pub struct Handed {
 }
 
 impl Handed {
+    /// What a server says first, with the serial of the message that it took last: the primary connects, the secondary
+    /// answers (RFC 8156, section 5).
+    pub(crate) fn greeting(role: Role, last: Counter) -> Handed
+        ensures { said_of (result ∷ []) ≡ Greets (greeting_kind role last) ∷ [] }
+    {
+        let kind = match role {
+            Role::Primary => FrameKind::Connect { role, last },
+            Role::Secondary => FrameKind::ConnectReply { role, last },
+        };
+        Handed {
+            frame: word(kind),
+            number: None,
+        }
+    }
+
     /// The frame of what a receipt's line sends, if it sends anything.
     #[tactic(auto, using(crate::proofs::Saying::one_line))]
     pub(crate) fn of(receipt: &Receipt) -> Option<Handed>
-        ensures { sends_of (receipt.now ∷ []) ≡ messages_of (cons_option result []) }
+        ensures says { sends_of (receipt.now ∷ []) ≡ said_of (cons_option result []) }
+        ensures message { IfSome result (λ h. (m : Message) × (message_in h.frame ≡ Some m)) }
     {
         match &receipt.line.event {
             Event::Send(message) => Some(Handed {
@@ -35,7 +53,7 @@ impl Handed {
     /// The same, if its serial is above this one.
     #[tactic(auto, using(crate::proofs::Again::one_receipt))]
     pub(crate) fn above(receipt: &Receipt, last: Counter) -> Option<Handed>
-        ensures { sends_above last (receipt.now ∷ []) ≡ messages_of (cons_option result []) }
+        ensures { sends_above last (receipt.now ∷ []) ≡ said_of (cons_option result []) }
     {
         let handed = Handed::of(receipt)?;
         if handed.frame.serial > last {

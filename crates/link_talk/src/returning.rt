@@ -20,7 +20,7 @@ impl<'a, B: PairBook> End<'a, B> {
         if self.work(pass, 0)?.waiting {
             duties.say(FrameKind::UpdateRequestAll)?;
         }
-        match self.role() {
+        match self.role {
             Role::Primary => Ok(()),
             Role::Secondary => self.ask_for_units(duties),
         }

@@ -1,15 +1,16 @@
 //! What an end sends at each turn.
 
-ghost use Rattle.std.specs.Prelude.{◌≡◌, ◌++◌, OnOk, OnErr, IfOk};
-ghost use Rattle.link_talk.specs.Handed.{messages_of, sends_above};
+ghost use Rattle.std.specs.Prelude.{◌≡◌, IfOk};
+ghost use Rattle.link_talk.specs.Handed.{said_of, sends_above, answer};
 ghost use Rattle.link_talk.specs.Talking.{Says};
 
 use crate::book::{PairBook, Receipts};
 use crate::duties::{Again, Duties, Matter, Round, lines_at};
 use crate::end::{End, Fate};
 use crate::error::TalkError;
+use crate::memory::last_taken;
 use crate::outbox::Handed;
-use binding_rules::{Counter, Status, Unit};
+use binding_rules::{Counter, Role, Status, Unit};
 use book_state::MOST_UNITS;
 use failover_message::FrameKind;
 use locked_book::{Receipt, Work};
@@ -42,10 +43,31 @@ fn status_of(unit: &Unit, matter: Matter) -> Option<Status> {
     }
 }
 
+/// Returns what answers the partner's first frame: the secondary names the message that it took last.
+pub(crate) fn answer(
+    alloc: Global,
+    role: Role,
+    receipts: &[Receipt],
+) -> Result<Vec<Handed>, AllocError>
+    ensures { IfOk result (λ out. said_of out.items ≡ answer role receipts.now) }
+{
+    let mut out = Vec::new(alloc);
+    match role {
+        Role::Primary => {}
+        Role::Secondary => {
+            out.extend_from_slice(&[Handed::greeting(role, last_taken(receipts))])?;
+        }
+    }
+    Ok(out)
+}
+
 /// Returns, in order, what was sent after the message of a serial.
-#[tactic(auto, using(crate::proofs::Again::again))]
-fn sent_above(alloc: Global, receipts: &[Receipt], last: Counter) -> Result<Vec<Handed>, AllocError>
-    ensures { IfOk result (λ out. messages_of out.items ≡ sends_above last receipts.now) }
+pub(crate) fn sent_above(
+    alloc: Global,
+    receipts: &[Receipt],
+    last: Counter,
+) -> Result<Vec<Handed>, AllocError>
+    ensures { IfOk result (λ out. said_of out.items ≡ sends_above last receipts.now) }
 {
     let mut out = Vec::new(alloc);
     for receipt in receipts {
@@ -54,23 +76,6 @@ fn sent_above(alloc: Global, receipts: &[Receipt], last: Counter) -> Result<Vec<
         }
     }
     Ok(out)
-}
-
-/// Hands out again, in order, what was sent after the message of a serial.
-#[tactic(auto, using(crate::proofs::Again::behind))]
-pub(crate) fn send_again(
-    alloc: Global,
-    receipts: &[Receipt],
-    last: Counter,
-    duties: &mut Duties,
-) -> Result<(), TalkError>
-    ensures again { OnOk result
-        (messages_of duties.new.out.items ≡ messages_of duties.old.out.items ++ sends_above last receipts.now) }
-    ensures nothing { OnErr result (duties.new.out.items ≡ duties.old.out.items) }
-{
-    let again = sent_above(alloc, receipts, last)?;
-    duties.out.extend_from_slice(&again)?;
-    Ok(())
 }
 
 impl<'a, B: PairBook> End<'a, B> {
@@ -227,7 +232,7 @@ impl<'a, B: PairBook> End<'a, B> {
 
     /// Notes that what was asked for again was sent.
     fn finish_again(&self, duties: &mut Duties) -> Result<(), TalkError>
-        ensures { messages_of duties.new.out.items ≡ messages_of duties.old.out.items }
+        ensures { said_of duties.new.out.items ≡ said_of duties.old.out.items }
     {
         match duties.again {
             Again::Nothing => {}
@@ -245,7 +250,7 @@ impl<'a, B: PairBook> End<'a, B> {
         round: &Round,
         progress: Progress,
     ) -> Result<(), TalkError>
-        ensures { messages_of duties.new.out.items ≡ messages_of duties.old.out.items }
+        ensures { said_of duties.new.out.items ≡ said_of duties.old.out.items }
     {
         match progress {
             Progress::All => {

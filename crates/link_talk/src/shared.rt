@@ -1,6 +1,6 @@
 //! A book under a lock, as a talk gives orders to it.
 
-ghost use Rattle.locked_book.specs.Serving.{PassState};
+ghost use Rattle.locked_book.specs.Serving.{PassState, last_receipt};
 
 use crate::book::{PairBook, Receipts};
 use lead_time::Reading;
@@ -18,6 +18,7 @@ pub struct LockedBook<'a, N: BookName, R: Wait> {
 
 impl<N: BookName> Receipts for Pass<N> {
     ghost receipts = { λ p. p.receipts };
+    ghost shown = { λ p. last_receipt p.receipts };
 
     fn receipts(&self) -> &[Receipt] {
         self.receipts()

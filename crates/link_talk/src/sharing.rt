@@ -1,7 +1,7 @@
 //! How the secondary comes to units of its own (RFC 8156, section 4.2.2).
 
 ghost use Rattle.std.specs.Prelude.{◌≡◌};
-ghost use Rattle.link_talk.specs.Handed.{messages_of};
+ghost use Rattle.link_talk.specs.Handed.{said_of};
 ghost use Rattle.link_talk.specs.Talking.{Says};
 
 use crate::book::{PairBook, Receipts};
@@ -18,7 +18,7 @@ use prefix_range::{Prefix, unit};
 impl<'a, B: PairBook> End<'a, B> {
     /// Asks the primary for units.
     pub(crate) fn ask_for_units(&self, duties: &mut Duties) -> Result<(), TalkError>
-        ensures { messages_of duties.new.out.items ≡ messages_of duties.old.out.items }
+        ensures { said_of duties.new.out.items ≡ said_of duties.old.out.items }
     {
         duties.awaits_units = true;
         duties.say(FrameKind::PoolRequest)?;
@@ -34,7 +34,7 @@ impl<'a, B: PairBook> End<'a, B> {
     ) -> Result<(), TalkError>
         ensures { Says (B.Pass.receipts pass.old) (B.Pass.receipts pass.new) duties.old.out.items duties.new.out.items }
     {
-        if duties.awaits_units || self.role() == Role::Primary {
+        if duties.awaits_units || self.role == Role::Primary {
             return Ok(());
         }
         let work = self.work(pass, 0)?;
@@ -115,7 +115,7 @@ impl<'a, B: PairBook> End<'a, B> {
     pub(crate) fn share(&self, pass: &mut B::Pass, duties: &mut Duties) -> Result<(), TalkError>
         ensures { Says (B.Pass.receipts pass.old) (B.Pass.receipts pass.new) duties.old.out.items duties.new.out.items }
     {
-        match self.role() {
+        match self.role {
             Role::Primary => {
                 let moved = self.move_units(pass, duties)?;
                 duties.say(FrameKind::PoolResponse { moved })?;

@@ -1,8 +1,7 @@
 //! How far the two ends of a connection have come.
 
 ghost use Rattle.std.specs.Prelude.{◌≡◌, ◌↔◌, IsTrue};
-ghost use Rattle.link_talk.specs.declared.stage.Stage.TheVariants.{Ended as HasEnded};
-ghost use Rattle.link_talk.specs.Talking.{named_at, IsGoing};
+ghost use Rattle.link_talk.specs.Talking.{met_at, IsGoing};
 
 use binding_rules::Counter;
 
@@ -11,6 +10,8 @@ use binding_rules::Counter;
 pub enum Stage {
     /// The other end hasn't said yet what it took.
     Greeting,
+    /// It said what can't be: one of the two has lost its journal.
+    Refused,
     /// Both have: the serial of the last message that the other end took.
     Joined { last: Counter },
     /// The other end goes; what it had named before.
@@ -18,30 +19,21 @@ pub enum Stage {
 }
 
 impl Stage {
-    /// Returns the serial that the other end named, once it has.
-    pub fn named(&self) -> Option<Counter>
-        ensures { result ≡ named_at self.now }
-    {
-        match self {
-            Stage::Greeting => None,
-            Stage::Joined { last } => Some(*last),
-            Stage::Ended { named } => *named,
-        }
-    }
-
-    /// Returns whether the other end goes.
+    /// Returns whether the talk is at its end: the other end goes, or was refused.
     pub fn has_ended(&self) -> bool
         ensures { IsTrue result ↔ ¬ (IsGoing self.now) }
     {
-        matches!(self, Stage::Ended { .. })
+        matches!(self, Stage::Refused | Stage::Ended { .. })
     }
 
-    /// The stage in which the other end goes.
+    /// Returns the stage in which the other end goes.
     pub(crate) fn ended(&self) -> Stage
-        ensures { result ≡ HasEnded (named_at self.now) }
+        ensures met { met_at result ≡ met_at self.now }
     {
-        Stage::Ended {
-            named: self.named(),
+        match self {
+            Stage::Greeting => Stage::Ended { named: None },
+            Stage::Joined { last } => Stage::Ended { named: Some(*last) },
+            Stage::Refused | Stage::Ended { .. } => *self,
         }
     }
 }

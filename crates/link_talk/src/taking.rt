@@ -2,7 +2,8 @@
 
 ghost use Rattle.std.specs.Prelude.{◌≡◌, ◌∷◌, [], None, Some, OnOk, OnErr};
 ghost use Rattle.link_talk.specs.Messages.{body_in};
-ghost use Rattle.link_talk.specs.Talking.{Says, Takes, TakesFront, Hears, HearsFront, IsGoing, named_at, messages_in};
+ghost use Rattle.link_talk.specs.Talking.{Says, Takes, TakesFront, Hears, HearsFront, IsGoing, messages_in};
+ghost use Rattle.link_talk.specs.Talking.{met_at, Unmet, Named};
 
 use crate::book::{PairBook, Receipts};
 use crate::duties::{Again, Duties};
@@ -10,7 +11,7 @@ use crate::end::End;
 use crate::error::TalkError;
 use crate::memory::last_taken;
 use crate::messages::message_in;
-use crate::sending::send_again;
+use crate::sending::{answer, sent_above};
 use crate::stage::Stage;
 use binding_rules::{Acknowledgement, BindReply, Body, Counter, PartnerMessage, Role, Status};
 use failover_message::{Frame, FrameKind};
@@ -24,8 +25,9 @@ enum Next {
 }
 
 impl<'a, B: PairBook> End<'a, B> {
-    /// Hands out again what the other end didn't take, and then what is asked of each connection. Refused where it lost
-    /// its journal: it took what was never sent, or took less than it answered.
+    /// Answers the other end, which named the message that it took last, hands out again what it didn't take, and asks
+    /// what is asked of each connection. Refused, behind the answer, where one of the two has lost its journal: the
+    /// other took what was never sent, or took less than it answered.
     #[tactic(auto, using(crate::proofs::Hearing::joining))]
     fn join(
         &self,
@@ -35,13 +37,18 @@ impl<'a, B: PairBook> End<'a, B> {
         last: Counter,
     ) -> Result<(), TalkError>
         requires { stage.old ≡ Stage.Greeting }
-        ensures { Hears [] None (named_at stage.new) (B.Pass.receipts pass.old) (B.Pass.receipts pass.new)
-            duties.old.out.items duties.new.out.items }
+        ensures { Hears self.now.role [] Unmet (met_at stage.new) (B.Pass.receipts pass.old)
+            (B.Pass.receipts pass.new) duties.old.out.items duties.new.out.items }
     {
+        let mut first = answer(self.alloc, self.role, pass.receipts())?;
         if last > duties.told.sent || last < duties.told.answered {
+            duties.hand(&first)?;
+            *stage = Stage::Refused;
             return Err(TalkError::Frame);
         }
-        send_again(self.alloc, pass.receipts(), last, duties)?;
+        let again = sent_above(self.alloc, pass.receipts(), last)?;
+        first.extend_from_slice(&again)?;
+        duties.hand(&first)?;
         *stage = Stage::Joined { last };
         self.ask(pass, duties)
     }
@@ -56,26 +63,19 @@ impl<'a, B: PairBook> End<'a, B> {
         kind: &FrameKind,
     ) -> Result<(), TalkError>
         requires { stage.old ≡ Stage.Greeting }
-        ensures heard { Hears [] None (named_at stage.new) (B.Pass.receipts pass.old) (B.Pass.receipts pass.new)
-            duties.old.out.items duties.new.out.items }
+        ensures heard { Hears self.now.role [] Unmet (met_at stage.new) (B.Pass.receipts pass.old)
+            (B.Pass.receipts pass.new) duties.old.out.items duties.new.out.items }
         ensures word { OnOk result (body_in kind.now ≡ None) }
     {
-        match (self.role(), kind) {
+        match (self.role, kind) {
             (
                 Role::Secondary,
                 FrameKind::Connect {
                     role: Role::Primary,
                     last,
                 },
-            ) => {
-                let taken = last_taken(pass.receipts());
-                duties.say(FrameKind::ConnectReply {
-                    role: Role::Secondary,
-                    last: taken,
-                })?;
-                self.join(pass, duties, stage, *last)
-            }
-            (
+            )
+            | (
                 Role::Primary,
                 FrameKind::ConnectReply {
                     role: Role::Secondary,
@@ -83,7 +83,7 @@ impl<'a, B: PairBook> End<'a, B> {
                 },
             ) => self.join(pass, duties, stage, *last),
             (_, FrameKind::Disconnect) => {
-                *stage = Stage::Ended { named: None };
+                *stage = stage.ended();
                 Ok(())
             }
             _ => Err(TalkError::Frame),
@@ -101,7 +101,7 @@ impl<'a, B: PairBook> End<'a, B> {
         ensures { Says (B.Pass.receipts pass.old) (B.Pass.receipts pass.new) duties.old.out.items duties.new.out.items }
     {
         if !matches!(
-            (self.role(), reply.acknowledgement),
+            (self.role, reply.acknowledgement),
             (Role::Primary, Acknowledgement::Reject)
         ) {
             return Ok(());
@@ -199,13 +199,13 @@ impl<'a, B: PairBook> End<'a, B> {
         duties: &mut Duties,
         stage: &Stage,
     ) -> Result<(), TalkError>
-        ensures { Hears [] (named_at stage.now) (named_at stage.now) (B.Pass.receipts pass.old)
-            (B.Pass.receipts pass.new) duties.old.out.items duties.new.out.items }
+        ensures { Hears self.now.role [] (met_at stage.now) (met_at stage.now)
+            (B.Pass.receipts pass.old) (B.Pass.receipts pass.new) duties.old.out.items duties.new.out.items }
     {
         duties.in_flight = 0;
         match stage {
             Stage::Joined { .. } => self.ask_if_needed(pass, duties),
-            Stage::Greeting | Stage::Ended { .. } => Ok(()),
+            Stage::Greeting | Stage::Refused | Stage::Ended { .. } => Ok(()),
         }
     }
 
@@ -222,7 +222,7 @@ impl<'a, B: PairBook> End<'a, B> {
         requires { stage.old ≡ Stage.Joined last }
         ensures says { Says (B.Pass.receipts pass.old) (B.Pass.receipts pass.new) duties.old.out.items
             duties.new.out.items }
-        ensures named { named_at stage.new ≡ Some last }
+        ensures named { met_at stage.new ≡ Named last }
     {
         match self.hear(pass, duties, kind)? {
             Next::GoesOn => Ok(()),
@@ -248,7 +248,7 @@ impl<'a, B: PairBook> End<'a, B> {
             duties.old.out.items duties.new.out.items }
         ensures whole { OnOk result (Takes (messages_in (frame.now ∷ [])) (B.Pass.receipts pass.old)
             (B.Pass.receipts pass.new) duties.old.out.items duties.new.out.items) }
-        ensures named { named_at stage.new ≡ Some last }
+        ensures named { met_at stage.new ≡ Named last }
     {
         match message_in(frame) {
             Some(message) => self.take(pass, duties, &message),
@@ -265,10 +265,11 @@ impl<'a, B: PairBook> End<'a, B> {
         stage: &mut Stage,
         frame: &Frame,
     ) -> Result<(), TalkError>
-        ensures front { HearsFront (messages_in (frame.now ∷ [])) (named_at stage.old) (named_at stage.new)
-            (B.Pass.receipts pass.old) (B.Pass.receipts pass.new) duties.old.out.items duties.new.out.items }
-        ensures whole { OnOk result (IsGoing stage.new → Hears (messages_in (frame.now ∷ [])) (named_at stage.old)
-            (named_at stage.new) (B.Pass.receipts pass.old) (B.Pass.receipts pass.new)
+        ensures front { HearsFront self.now.role (messages_in (frame.now ∷ [])) (met_at stage.old)
+            (met_at stage.new) (B.Pass.receipts pass.old) (B.Pass.receipts pass.new)
+            duties.old.out.items duties.new.out.items }
+        ensures whole { OnOk result (IsGoing stage.new → Hears self.now.role (messages_in (frame.now ∷ []))
+            (met_at stage.old) (met_at stage.new) (B.Pass.receipts pass.old) (B.Pass.receipts pass.new)
             duties.old.out.items duties.new.out.items) }
     {
         match stage {
@@ -277,7 +278,7 @@ impl<'a, B: PairBook> End<'a, B> {
                 let last = *last;
                 self.heed_joined(pass, duties, stage, last, frame)
             }
-            Stage::Ended { .. } => Ok(()),
+            Stage::Refused | Stage::Ended { .. } => Ok(()),
         }
     }
 
@@ -290,10 +291,11 @@ impl<'a, B: PairBook> End<'a, B> {
         stage: &mut Stage,
         frames: &[Frame],
     ) -> Result<(), TalkError>
-        ensures front { HearsFront (messages_in frames.now) (named_at stage.old) (named_at stage.new)
-            (B.Pass.receipts pass.old) (B.Pass.receipts pass.new) duties.old.out.items duties.new.out.items }
-        ensures whole { OnOk result (IsGoing stage.new → Hears (messages_in frames.now) (named_at stage.old)
-            (named_at stage.new) (B.Pass.receipts pass.old) (B.Pass.receipts pass.new)
+        ensures front { HearsFront self.now.role (messages_in frames.now) (met_at stage.old)
+            (met_at stage.new) (B.Pass.receipts pass.old) (B.Pass.receipts pass.new)
+            duties.old.out.items duties.new.out.items }
+        ensures whole { OnOk result (IsGoing stage.new → Hears self.now.role (messages_in frames.now)
+            (met_at stage.old) (met_at stage.new) (B.Pass.receipts pass.old) (B.Pass.receipts pass.new)
             duties.old.out.items duties.new.out.items) }
     {
         for frame in frames {

@@ -1,10 +1,12 @@
 //! The talk of one connection.
 
-ghost use Rattle.std.specs.Prelude.{◌≡◌, ◌++◌, [], OnOk};
+ghost use Rattle.std.specs.Prelude.{◌≡◌, ◌++◌, [], OnOk, OnErr, IsErrOf};
+ghost use Rattle.link_talk.specs.declared.error.TalkError.{TalkError as Error};
+ghost use Rattle.link_talk.specs.declared.error.TalkError.TheVariants.{Memory};
 ghost use Rattle.link_talk.specs.declared.stage.Stage.TheVariants.{Greeting};
 ghost use Rattle.link_talk.specs.Receipts.{Goes};
-ghost use Rattle.link_talk.specs.Handed.{messages_of};
-ghost use Rattle.link_talk.specs.Talking.{Says, named_at, IsGoing};
+ghost use Rattle.link_talk.specs.Handed.{said_of, opening};
+ghost use Rattle.link_talk.specs.Talking.{Says, met_at, IsGoing};
 ghost use Rattle.link_talk.specs.Turning.{IsTurn, IsWholeTurn};
 
 use crate::book::{PairBook, Receipts};
@@ -16,7 +18,7 @@ use crate::memory::last_taken;
 use crate::outbox::Handed;
 use crate::stage::Stage;
 use binding_rules::Role;
-use failover_message::{Feed, FrameKind, LinkError};
+use failover_message::{Feed, LinkError};
 use lead_time::Reading;
 use server_settings::Settings;
 use std::alloc::Global;
@@ -55,10 +57,10 @@ fn take_in<B: PairBook>(
     duties: &mut Duties,
     came: &Came<'_>,
 ) -> Result<(), TalkError>
-    ensures turn { IsTurn came.now feed.old (named_at stage.old) (named_at stage.new) (B.Pass.receipts pass.old)
-        (B.Pass.receipts pass.new) duties.old.out.items duties.new.out.items }
-    ensures whole { OnOk result (IsGoing stage.new → IsWholeTurn came.now feed.old feed.new (named_at stage.old)
-        (named_at stage.new) (B.Pass.receipts pass.old) (B.Pass.receipts pass.new)
+    ensures turn { IsTurn end.now.role came.now feed.old (met_at stage.old) (met_at stage.new)
+        (B.Pass.receipts pass.old) (B.Pass.receipts pass.new) duties.old.out.items duties.new.out.items }
+    ensures whole { OnOk result (IsGoing stage.new → IsWholeTurn end.now.role came.now feed.old feed.new
+        (met_at stage.old) (met_at stage.new) (B.Pass.receipts pass.old) (B.Pass.receipts pass.new)
         duties.old.out.items duties.new.out.items) }
 {
     match came {
@@ -88,16 +90,16 @@ fn turn<B: PairBook>(
     duties: &mut Duties,
     came: &Came<'_>,
 ) -> Result<(), TalkError>
-    ensures turn { IsTurn came.now feed.old (named_at stage.old) (named_at stage.new) (B.Pass.receipts pass.old)
-        (B.Pass.receipts pass.new) duties.old.out.items duties.new.out.items }
-    ensures whole { OnOk result (IsGoing stage.new → IsWholeTurn came.now feed.old feed.new (named_at stage.old)
-        (named_at stage.new) (B.Pass.receipts pass.old) (B.Pass.receipts pass.new)
+    ensures turn { IsTurn end.now.role came.now feed.old (met_at stage.old) (met_at stage.new)
+        (B.Pass.receipts pass.old) (B.Pass.receipts pass.new) duties.old.out.items duties.new.out.items }
+    ensures whole { OnOk result (IsGoing stage.new → IsWholeTurn end.now.role came.now feed.old feed.new
+        (met_at stage.old) (met_at stage.new) (B.Pass.receipts pass.old) (B.Pass.receipts pass.new)
         duties.old.out.items duties.new.out.items) }
 {
     take_in(end, pass, feed, stage, duties, came)?;
     match stage {
         Stage::Joined { .. } => end.send_all(pass, duties),
-        Stage::Greeting | Stage::Ended { .. } => Ok(()),
+        Stage::Greeting | Stage::Refused | Stage::Ended { .. } => Ok(()),
     }
 }
 
@@ -126,16 +128,16 @@ impl Talk {
     pub fn greet<P: Receipts>(&mut self, pass: &P, settings: &Settings) -> Result<(), TalkError>
         ensures stage { self.new.stage ≡ self.old.stage }
         ensures held { self.new.held ≡ self.old.held }
-        ensures handed { messages_of self.new.handed ≡ messages_of self.old.handed }
+        ensures said { OnOk result (said_of self.new.handed
+            ≡ said_of self.old.handed ++ opening settings.now.role (P.receipts pass.now)) }
+        ensures nothing { OnErr result (self.new.handed ≡ self.old.handed) }
+        ensures memory { (e : Error) → IsErrOf result e → e ≡ Memory }
     {
         self.duties.told.catch_up(pass.receipts())?;
         match settings.role() {
             Role::Primary => {
                 let last = last_taken(pass.receipts());
-                self.duties.say(FrameKind::Connect {
-                    role: Role::Primary,
-                    last,
-                })?;
+                self.duties.hand(&[Handed::greeting(Role::Primary, last)])?;
                 Ok(())
             }
             Role::Secondary => Ok(()),
@@ -160,18 +162,19 @@ impl Talk {
         now: Reading,
         came: &Came<'_>,
     ) -> Result<(), TalkError>
-        ensures turn { IsTurn came.now self.old.held (named_at self.old.stage) (named_at self.new.stage)
+        ensures turn { IsTurn settings.now.role came.now self.old.held (met_at self.old.stage) (met_at self.new.stage)
             (B.Pass.receipts pass.old) (B.Pass.receipts pass.new) self.old.handed self.new.handed }
         ensures newer { Goes (B.Pass.receipts pass.old) (B.Pass.receipts pass.new) }
-        ensures whole { OnOk result (IsGoing self.new.stage → IsWholeTurn came.now self.old.held self.new.held
-            (named_at self.old.stage) (named_at self.new.stage) (B.Pass.receipts pass.old) (B.Pass.receipts pass.new)
-            self.old.handed self.new.handed) }
+        ensures whole { OnOk result (IsGoing self.new.stage → IsWholeTurn settings.now.role came.now self.old.held
+            self.new.held (met_at self.old.stage) (met_at self.new.stage) (B.Pass.receipts pass.old)
+            (B.Pass.receipts pass.new) self.old.handed self.new.handed) }
     {
         let end = End {
             alloc: self.alloc,
             book,
+            role: settings.role(),
             settings,
-            now,
+            reading: now,
         };
         turn(
             &end,

@@ -2,4 +2,5 @@ pub mod Ending
 pub mod Seats
 pub mod Sending
 pub mod Answered
+pub mod Reading
 pub mod Writing

@@ -1,12 +1,16 @@
 //! What one end of the link does: it reads, has its talk, and writes.
 
-ghost use Rattle.std.specs.Prelude.{◌≡◌, ◌≤◌, ◌∷◌, [], ℕ, length, Option, None, OnOk};
+ghost use Rattle.std.specs.Prelude.{◌≡◌, ◌≤◌, [], ℕ, length, OnOk};
 ghost use Rattle.failover_message.specs.Frames.{frame_octets};
-ghost use Rattle.link_talk.specs.Handed.{messages_of};
+ghost use Rattle.link_talk.specs.Handed.{opening};
 ghost use Rattle.link_talk.specs.Receipts.{Goes};
-ghost use Rattle.link_talk.specs.Talking.{named_at};
+ghost use Rattle.link_talk.specs.Talking.{Met, Unmet, met_at, IsGoing};
+ghost use Rattle.link_talk.specs.Turning.{octets_of};
 ghost use Rattle.link_talk.specs.declared.stage.Stage.TheVariants.{Greeting};
-ghost use Rattle.node_threads.specs.Writing.{Carried, Tells, HasTold, HandsOut, SaysWords, HasHeard, IsWritten};
+ghost use Rattle.node_threads.specs.Reading.{octets_in, HeardAll, HeardOn, AllBehind};
+ghost use Rattle.node_threads.specs.Reading.{HeardFront, FrontBehind, HeardTill};
+ghost use Rattle.node_threads.specs.Writing.{Carried, MayHear, HasHeard, HandsOut, SaysWords, IsWritten};
+ghost use Rattle.node_threads.specs.Writing.{Tells, HasTold};
 
 use crate::clock::Clock;
 use crate::error::{NetFault, NodeError};
@@ -51,8 +55,8 @@ fn write_frame<W: Wire>(alloc: Global, wire: &mut W, frame: &Frame) -> Result<()
 
 /// Writes frames, in their order.
 fn write_all<W: Wire>(alloc: Global, wire: &mut W, frames: &[Handed]) -> Result<(), NodeError>
-    ensures out { HandsOut W.brings W.writes W.fails frames.now wire.old wire.new result }
-    ensures whole { OnOk result (Carried W.brings W.writes wire.old frames.now wire.new) }
+    ensures out { HandsOut W.brings W.writes W.fails [] frames.now wire.old wire.new result }
+    ensures whole { OnOk result (Carried W.brings W.writes wire.old [] frames.now wire.new) }
 {
     for handed in frames {
         match write_frame(alloc, wire, &handed.frame) {
@@ -65,10 +69,9 @@ fn write_all<W: Wire>(alloc: Global, wire: &mut W, frames: &[Handed]) -> Result<
 
 /// Writes what a talk hands out: the one place where a message leaves.
 fn write_out<W: Wire>(alloc: Global, wire: &mut W, talk: &mut Talk) -> Result<(), NodeError>
-    ensures out { HandsOut W.brings W.writes W.fails talk.old.handed wire.old wire.new result }
-    ensures whole { OnOk result (Carried W.brings W.writes wire.old talk.old.handed wire.new) }
-    ensures none { talk.new.handed ≡ [] }
-    ensures stage { talk.new.stage ≡ talk.old.stage }
+    ensures out { HandsOut W.brings W.writes W.fails [] talk.old.handed wire.old wire.new result }
+    ensures whole { OnOk result (Carried W.brings W.writes wire.old [] talk.old.handed wire.new) }
+    ensures none { talk.new ≡ record talk.old { handed = [] } }
 {
     let frames = talk.hand_out();
     write_all(alloc, wire, &frames)
@@ -77,6 +80,7 @@ fn write_out<W: Wire>(alloc: Global, wire: &mut W, talk: &mut Talk) -> Result<()
 /// Returns what a read brought. When pauses have filled a second, nothing came; before, no octets yet.
 fn came<'a>(got: Got, buffer: &'a [u8], pauses: &mut Pauses) -> Came<'a>
     requires { (count : ℕ) → got ≡ Got.Octets count → count ≤ length buffer.now }
+    ensures { octets_of result ≡ octets_in got buffer.now }
 {
     match got {
         Got::Octets(count) => Came::Octets(&buffer[..count]),
@@ -101,10 +105,17 @@ impl<'a, N: BookName, R: Wait, C: Clock> LinkEnd<'a, N, R, C> {
         wire: &mut W,
     ) -> Result<(), NodeError>
         requires { talk.old.handed ≡ [] }
-        ensures told { Tells W.brings W.writes W.fails (named_at talk.old.stage) (named_at talk.new.stage)
-            pass.old.receipts pass.new.receipts wire.old wire.new result }
-        ensures whole { OnOk result (HasTold W.brings W.writes (named_at talk.old.stage) (named_at talk.new.stage)
-            pass.old.receipts pass.new.receipts wire.old wire.new) }
+        ensures told { Tells W.brings W.writes W.fails
+            (FrontBehind talk.old.held (octets_of came.now)) self.now.settings.now.role []
+            (met_at talk.old.stage) (met_at talk.new.stage) pass.old.receipts pass.new.receipts wire.old wire.new
+            result }
+        ensures out { OnOk result (HasTold W.brings W.writes
+            (FrontBehind talk.old.held (octets_of came.now)) self.now.settings.now.role []
+            (met_at talk.old.stage) (met_at talk.new.stage) pass.old.receipts pass.new.receipts wire.old wire.new) }
+        ensures whole { OnOk result (IsGoing talk.new.stage → HasTold W.brings W.writes
+            (AllBehind talk.old.held talk.new.held (octets_of came.now))
+            self.now.settings.now.role [] (met_at talk.old.stage) (met_at talk.new.stage) pass.old.receipts
+            pass.new.receipts wire.old wire.new) }
         ensures none { OnOk result (talk.new.handed ≡ []) }
         ensures goes { Goes pass.old.receipts pass.new.receipts }
     {
@@ -132,10 +143,12 @@ impl<'a, N: BookName, R: Wait, C: Clock> LinkEnd<'a, N, R, C> {
         wire: &mut W,
     ) -> Result<(), NodeError>
         requires { talk.old.handed ≡ [] }
-        ensures told { Tells W.brings W.writes W.fails (named_at talk.old.stage) (named_at talk.new.stage)
-            pass.old.receipts pass.new.receipts wire.old wire.new result }
-        ensures whole { OnOk result (HasTold W.brings W.writes (named_at talk.old.stage) (named_at talk.new.stage)
-            pass.old.receipts pass.new.receipts wire.old wire.new) }
+        ensures told { Tells W.brings W.writes W.fails (HeardFront talk.old.held) self.now.settings.now.role []
+            (met_at talk.old.stage) (met_at talk.new.stage) pass.old.receipts pass.new.receipts wire.old wire.new
+            result }
+        ensures whole { OnOk result (IsGoing talk.new.stage → HasTold W.brings W.writes
+            (HeardOn talk.old.held talk.new.held) self.now.settings.now.role [] (met_at talk.old.stage)
+            (met_at talk.new.stage) pass.old.receipts pass.new.receipts wire.old wire.new) }
         ensures none { OnOk result (talk.new.handed ≡ []) }
         ensures goes { Goes pass.old.receipts pass.new.receipts }
     {
@@ -155,8 +168,9 @@ impl<'a, N: BookName, R: Wait, C: Clock> LinkEnd<'a, N, R, C> {
         wire: &mut W,
     ) -> Result<(), NodeError>
         requires { talk.old.handed ≡ [] }
-        ensures told { Tells W.brings W.writes W.fails (named_at talk.old.stage) (named_at talk.new.stage)
-            pass.old.receipts pass.new.receipts wire.old wire.new result }
+        ensures told { Tells W.brings W.writes W.fails (HeardFront talk.old.held) self.now.settings.now.role []
+            (met_at talk.old.stage) (met_at talk.new.stage) pass.old.receipts pass.new.receipts wire.old wire.new
+            result }
         ensures goes { Goes pass.old.receipts pass.new.receipts }
     {
         match self.tell(pass, talk, &Came::Octets(&[]), wire) {
@@ -165,14 +179,16 @@ impl<'a, N: BookName, R: Wait, C: Clock> LinkEnd<'a, N, R, C> {
         }
     }
 
-    /// Says what the primary says first.
+    /// Says what the primary says first: which message it took last.
     fn greet<W: Wire>(&self, pass: &Pass<N>, talk: &mut Talk, wire: &mut W) -> Result<(), NodeError>
-        requires handed { talk.old.handed ≡ [] }
-        requires stage { talk.old.stage ≡ Greeting }
-        ensures said { SaysWords W.brings W.writes W.fails wire.old wire.new result }
-        ensures whole { OnOk result (HasTold W.brings W.writes None (named_at talk.new.stage) pass.now.receipts
-            pass.now.receipts wire.old wire.new) }
-        ensures none { OnOk result (talk.new.handed ≡ []) }
+        requires { talk.old ≡ record { held = []; stage = Greeting; handed = [] } }
+        ensures told { Tells W.brings W.writes W.fails HeardTill self.now.settings.now.role
+            (opening self.now.settings.now.role pass.now.receipts) Unmet Unmet pass.now.receipts pass.now.receipts
+            wire.old wire.new result }
+        ensures whole { OnOk result (HasTold W.brings W.writes (HeardAll []) self.now.settings.now.role
+            (opening self.now.settings.now.role pass.now.receipts) Unmet Unmet pass.now.receipts pass.now.receipts
+            wire.old wire.new) }
+        ensures talk { OnOk result (talk.new ≡ talk.old) }
     {
         match talk.greet(pass, self.settings) {
             Ok(()) => write_out(self.alloc, wire, talk),
@@ -183,7 +199,7 @@ impl<'a, N: BookName, R: Wait, C: Clock> LinkEnd<'a, N, R, C> {
 
 /// Waits for octets, at most a second.
 fn hear_in_a_second<W: Wire>(buffer: &mut [u8], wire: &mut W) -> Result<Got, NetFault>
-    ensures heard { OnOk result (Carried W.brings W.writes wire.old [] wire.new) }
+    ensures heard { OnOk result (MayHear W.brings W.writes wire.old wire.new) }
     ensures ended { HasHeard W.brings W.writes W.fails wire.old wire.new }
 {
     for _ in 0..PAUSES_A_SECOND {
@@ -232,10 +248,11 @@ fn disconnect<W: Wire>(alloc: Global, buffer: &mut [u8], wire: &mut W) -> Result
 /// next pause of the wire. What it sent and took it knows by the receipts of its pass, which is the same for each
 /// connection.
 ///
-/// However it ends, receipts were added to the pass and none changed, and each message that was taken has a higher
-/// serial than those before. What it wrote are frames, and each message in them is one that a receipt says was sent:
-/// first what was sent above the serial that the partner named, then what the added receipts say, in their order; none
-/// is left out, but for the rest of them where a write failed or memory lacked.
+/// However it ends, receipts were added to the pass and none changed. The messages that they take are those that came
+/// in whole frames and are newer than all before, in their order, but for some of the last read. What it wrote are
+/// frames: first this server's greeting, which names the last message that it took; then what was sent above the
+/// serial that the partner named, and what the added receipts say, in their order; none is left out, but for the rest
+/// of them where a write failed or memory lacked. No other greeting and no other message was written.
 ///
 /// It ends sooner where the clock fails (`Net`), a read fails or brings what is no frame or not the frame that comes
 /// there (`Read`), a write fails (`Write`), a growth is refused (`Memory`), or the pass is a stranger to the book or
@@ -251,8 +268,9 @@ pub fn serve_link<N: BookName, R: Wait, C: Clock, W: Wire>(
     turns: &Turns,
     wire: &mut W,
 ) -> Result<(), NodeError>
-    ensures told { (named : Option ℕ) × Tells W.brings W.writes W.fails None named pass.old.receipts pass.new.receipts
-        wire.old wire.new result }
+    ensures told { (met : Met) × Tells W.brings W.writes W.fails HeardTill settings.now.role
+        (opening settings.now.role pass.old.receipts) Unmet met pass.old.receipts pass.new.receipts wire.old wire.new
+        result }
     ensures goes { Goes pass.old.receipts pass.new.receipts }
 {
     let end = LinkEnd {
@@ -261,7 +279,9 @@ pub fn serve_link<N: BookName, R: Wait, C: Clock, W: Wire>(
         settings,
         clock,
     };
-    let mut buffer = vec![in alloc; 0u8; READ_SIZE]?;
+    let Ok(mut buffer) = vec![in alloc; 0u8; READ_SIZE] else {
+        return Err(NodeError::Memory);
+    };
     let mut talk = Talk::new(alloc);
     let mut pauses = Pauses::new();
     match end.greet(pass, &mut talk, wire) {

@@ -1,7 +1,7 @@
 //! One end of a stream of octets.
 
 ghost use Rattle.std.specs.Prelude.{◌≡◌, ◌≤◌, ℕ, List, length, IfOk, OnOk, OnErr};
-ghost use Rattle.node_threads.specs.Writing.{octets_in};
+ghost use Rattle.node_threads.specs.Reading.{octets_in};
 
 use crate::error::NetFault;
 use crate::pauses::PAUSE;

@@ -1,7 +1,7 @@
 use Rattle.std.specs.Prelude.{⊤, None, refl}
 use Rattle.failover_message.specs.declared.frame.FrameKind.TheVariants.{Disconnect}
 use Rattle.link_talk.specs.declared.outbox.Handed.{Handed}
-use Rattle.node_threads.proofs.Linking.{word_out, no_word_out}
+use Rattle.node_threads.proofs.Wires.{word_out, no_word_out}
 use Rattle.node_threads.proofs.link.disconnect.Goals as goal
 
 abbrev word : Handed

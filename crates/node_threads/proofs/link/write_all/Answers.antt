@@ -1,7 +1,7 @@
 use Rattle.std.specs.Prelude.{⊤}
 use Rattle.std.proofs.Common.{add-one, arith}
 use Rattle.node_threads.specs.Writing.{nothing}
-use Rattle.node_threads.proofs.Linking.{one_written, one_left, all_behind_the_last}
+use Rattle.node_threads.proofs.Wires.{one_written, one_left, all_behind_the_last}
 use Rattle.node_threads.proofs.link.write_all.Goals as goal
 
 pub loop-handed-init : goal.loop-handed-init

@@ -5,16 +5,16 @@ use Rattle.link_talk.proofs.end.End.heed_all.Goals as goal
 pub returns-in_err-heed-clause-front : goal.returns-in_err-heed-clause-front
 returns-in_err-heed-clause-front g c =
     frame_begun c.args.frames.now c.loop-frame.frame-index c.frame-item.result c.loop-frame-test.true c.frame-item.is
-    _ _ _ _ _ _ _ _ _ c.loop-frame.invariant c.in_err-heed.ensures.front
+    _ _ _ _ _ _ _ _ _ _ c.loop-frame.invariant c.in_err-heed.ensures.front
 
 pub returns-then-has_ended-clause-front : goal.returns-then-has_ended-clause-front
 returns-then-has_ended-clause-front g c =
     frame_begun c.args.frames.now c.loop-frame.frame-index c.frame-item.result c.loop-frame-test.true c.frame-item.is
-    _ _ _ _ _ _ _ _ _ c.loop-frame.invariant c.in_ok-heed.ensures.front
+    _ _ _ _ _ _ _ _ _ _ c.loop-frame.invariant c.in_ok-heed.ensures.front
 
 pub loop-frame-preserved : goal.loop-frame-preserved
 loop-frame-preserved g c =
     rw (add-one c.loop-frame.frame-index)
     (frame_heard c.args.frames.now c.loop-frame.frame-index c.frame-item.result c.loop-frame-test.true c.frame-item.is
-    _ _ _ _ _ _ _ _ _ c.loop-frame.invariant
+    _ _ _ _ _ _ _ _ _ _ c.loop-frame.invariant
     (c.in_ok-heed.ensures.whole (goes_on _ (λ ends. let t = c.if-has_ended.ensures.1 ends in absurd cc))))

@@ -1,14 +1,31 @@
-use Rattle.std.specs.Prelude.{◌≡◌, []}
-use Rattle.link_talk.specs.declared.stage.Stage.TheVariants.{Greeting}
-use Rattle.link_talk.specs.Handed.{messages_of}
-use Rattle.node_threads.proofs.Linking.{nothing_said, greeted}
+use Rattle.std.specs.Prelude.{◌≡◌, ◌++◌, refl, Err}
+use Rattle.std.proofs.Common.{ap, ◌∙◌}
+use Rattle.link_talk.specs.declared.error.TalkError.TheVariants.{Memory}
+use Rattle.link_talk.specs.Handed.{said_of, opening}
+use Rattle.node_threads.specs.Ending.{fault_of}
+use Rattle.node_threads.proofs.Linking.{opening_lost, opening_told, opening_whole}
 use Rattle.node_threads.proofs.link.LinkEnd.greet.Goals as goal
 
-pub returns-in-Err-clause-said : goal.returns-in-Err-clause-said
-returns-in-Err-clause-said g c = nothing_said g.W.Wire.brings g.W.Wire.writes g.W.Wire.fails _ _
+pub returns-in-Err-clause-told : goal.returns-in-Err-clause-told
+returns-in-Err-clause-told g c =
+    let memory : c.in-Err.error ≡ Memory = c.in-Err.ensures.memory c.in-Err.error refl in
+    let lost : c.from.result ≡ fault_of Memory = c.from.ensures ∙ ap fault_of memory in
+    opening_lost g.W.Wire.brings g.W.Wire.writes g.W.Wire.fails _ _ _ _ (ap (λ e. Err e) lost)
+
+pub returns-in-Ok-clause-told : goal.returns-in-Ok-clause-told
+returns-in-Ok-clause-told g c =
+    let said : said_of c.greet.new.self.handed ≡ opening c.args.self.now.settings.now.role c.args.pass.now.receipts =
+    c.in-Ok.ensures.said
+    ∙ ap (λ t. said_of t.handed ++ opening c.args.self.now.settings.now.role c.args.pass.now.receipts) c.requires in
+    opening_told g.W.Wire.brings g.W.Wire.writes g.W.Wire.fails c.args.self.now.settings.now.role
+    c.args.pass.now.receipts c.greet.new.self.handed _ _ _ said
+    c.write_out.ensures.out
 
 pub returns-in-Ok-clause-whole : goal.returns-in-Ok-clause-whole
 returns-in-Ok-clause-whole g c =
-    let greeting : c.write_out.new.talk.stage ≡ Greeting = cc in
-    let none : messages_of c.greet.new.self.handed ≡ [] = cc in
-    greeted g.W.Wire.brings g.W.Wire.writes g.W.Wire.fails _ _ _ _ _ _ greeting none c.write_out.ensures.whole
+    let said : said_of c.greet.new.self.handed ≡ opening c.args.self.now.settings.now.role c.args.pass.now.receipts =
+    c.in-Ok.ensures.said
+    ∙ ap (λ t. said_of t.handed ++ opening c.args.self.now.settings.now.role c.args.pass.now.receipts) c.requires in
+    opening_whole g.W.Wire.brings g.W.Wire.writes g.W.Wire.fails c.args.self.now.settings.now.role
+    c.args.pass.now.receipts c.greet.new.self.handed _ _ _ said
+    c.write_out.ensures.whole
