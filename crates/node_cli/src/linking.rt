@@ -4,7 +4,7 @@ use crate::connection::Connection;
 use crate::meeting::{Door, FIRST_PAUSE, LATER_PAUSE, door_of, next_stream, rests};
 use binding_rules::Role;
 use locked_book::{BookName, Pass, ServeError, SharedBook};
-use node_threads::{Clock, NodeError, Turns, serve_link};
+use node_threads::{Clock, NodeError, Notices, Turns, serve_link};
 use server_book::Settings;
 use std::alloc::Global;
 use std::net::{Net, OpenStream, SocketAddr};
@@ -75,7 +75,7 @@ fn tell<P: Print>(notes: &P, peer: SocketAddr, ending: &Ending) {
 }
 
 /// One connection, from its first frame to its end, which is told. Also whether it stood for a while.
-fn served<N: BookName, R: Wait + Handle + Net, C: Clock, P: Print>(
+fn served<N: BookName, R: Wait + Handle + Net, C: Clock, P: Print, V: Notices>(
     rt: &R,
     alloc: Global,
     shared: &SharedBook<N>,
@@ -84,6 +84,7 @@ fn served<N: BookName, R: Wait + Handle + Net, C: Clock, P: Print>(
     clock: &C,
     turns: &Turns,
     notes: &P,
+    notices: &V,
     stream: R::Stream,
     door: &Door<R::Listener>,
 ) -> (Ending, bool) {
@@ -102,6 +103,7 @@ fn served<N: BookName, R: Wait + Handle + Net, C: Clock, P: Print>(
         settings,
         clock,
         turns,
+        notices,
         &mut connection,
     );
     let others = connection.others();
@@ -121,7 +123,7 @@ fn served<N: BookName, R: Wait + Handle + Net, C: Clock, P: Print>(
 /// Keeps the link to the partner until the workers have ended or the partner said DISCONNECT: the secondary listens at
 /// the address and the primary connects to it, again after a second, and then at most every ten. One line for a person
 /// tells of each connection, and one of its end.
-pub fn keep_link<N: BookName, R: Wait + Handle + Net, C: Clock, P: Print>(
+pub fn keep_link<N: BookName, R: Wait + Handle + Net, C: Clock, P: Print, V: Notices>(
     rt: &R,
     alloc: Global,
     shared: &SharedBook<N>,
@@ -131,6 +133,7 @@ pub fn keep_link<N: BookName, R: Wait + Handle + Net, C: Clock, P: Print>(
     clock: &C,
     turns: &Turns,
     notes: &P,
+    notices: &V,
 ) {
     let Some(door) = door_of(rt, settings.role(), address, turns, notes) else {
         return;
@@ -145,7 +148,7 @@ pub fn keep_link<N: BookName, R: Wait + Handle + Net, C: Clock, P: Print>(
             return;
         };
         let (ending, has_stood) = served(
-            rt, alloc, shared, pass, settings, clock, turns, notes, stream, &door,
+            rt, alloc, shared, pass, settings, clock, turns, notes, notices, stream, &door,
         );
         if ending.is_last() {
             return;

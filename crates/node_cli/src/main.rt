@@ -11,6 +11,7 @@ mod fault;
 mod linking;
 mod meeting;
 mod running;
+mod telling;
 mod words;
 
 use advising::advise;

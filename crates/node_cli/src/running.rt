@@ -4,12 +4,13 @@ ghost use Rattle.std.specs.Prelude.{◌≡◌, ◌≤◌, ◌+◌, length, IfSom
 
 use crate::fault::Fault;
 use crate::linking::keep_link;
+use crate::telling::Lines;
 use binding_rules::ServerState;
 use journal_text::write;
 use locked_book::{BookName, Pass, SharedBook};
 use node_threads::{
-    Clock, NodeError, NodeSettings, Partner, SystemClock, Turns, UdpMailbox, leave_seats, seats_of,
-    serve_seats,
+    Clock, EachOnce, NodeError, NodeSettings, Notices, Partner, SystemClock, Turns, UdpMailbox,
+    leave_seats, seats_of, serve_seats,
 };
 use server_book::{Book, Order};
 use std::alloc::Global;
@@ -36,7 +37,7 @@ pub struct Run {
 
 /// The parts that the workers of a node and its end of the link have in common.
 #[derive(Drop)]
-struct Node<'a, R, C, P> {
+struct Node<'a, R, C, P, V> {
     rt: &'a R,
     alloc: Global,
     settings: &'a NodeSettings,
@@ -45,9 +46,15 @@ struct Node<'a, R, C, P> {
     clock: &'a C,
     turns: &'a Turns,
     notes: &'a P,
+    notices: &'a V,
 }
 
-impl<R: Threads + Wait + Sync + Net + Handle, C: Clock + Sync, P: Print + Sync> Node<'_, R, C, P>
+impl<
+    R: Threads + Wait + Sync + Net + Handle,
+    C: Clock + Sync,
+    P: Print + Sync,
+    V: Notices + Sync,
+> Node<'_, R, C, P, V>
 where
     R::Stream: Send + Drop,
     R::Listener: Send + Drop,
@@ -82,6 +89,7 @@ where
             self.clock,
             self.turns,
             self.partner,
+            self.notices,
         );
         match leave_seats(seats, &mut left) {
             Ok(received) => Some(Done {
@@ -119,6 +127,7 @@ where
                 self.clock,
                 self.turns,
                 self.notes,
+                self.notices,
             );
         }
     }
@@ -203,8 +212,8 @@ fn opened<C: Clock>(
 }
 
 /// Answers so many datagrams that come where the settings say, beside the link to the partner, and gives the text of
-/// the closed journal, also where a worker has failed. Where it listens, what becomes of the link and how many
-/// datagrams came is said in notes, a line each.
+/// the closed journal, also where a worker has failed. Where it listens, what becomes of the link, each notice of its
+/// engines once, and how many datagrams came is said in notes, a line each.
 pub fn run_node<R: Threads + Wait + Sync + Net + Handle, P: Print + Sync>(
     rt: &R,
     alloc: Global,
@@ -224,6 +233,8 @@ where
     let _ = println!(notes; "node: listens for clients and relays at {listen}");
     let clock = SystemClock::new(rt);
     let turns = Turns::new(count);
+    let lines = Lines { notes };
+    let notices = EachOnce::new(&lines);
     let book = opened(alloc, settings, partner, &clock)?;
     let passes = settings.ways.workers() + 1;
     let node = Node {
@@ -235,6 +246,7 @@ where
         clock: &clock,
         turns: &turns,
         notes,
+        notices: &notices,
     };
     let served = node.serve::<Brand>(Blank::new(passes as u64), book, passes);
     let (mut book, received) = match served {

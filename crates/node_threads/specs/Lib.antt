@@ -4,3 +4,4 @@ pub mod Sending
 pub mod Answered
 pub mod Reading
 pub mod Writing
+pub mod Noticing

@@ -12,10 +12,14 @@
 //! [`serve_link`] is one end of the link: over a [`Wire`], which [`TcpWire`] is by the system's streams, it joins the
 //! other end, takes its messages, ends leases that have ended, shares units, and sends replies and updates of the book.
 //!
+//! What the person who runs a node is to know an engine tells [`Notices`]: [`EachOnce`] hands each [`Notice`] on once.
+//!
 //! ```text
 //! let (shared, mut passes) = SharedBook::<N>::open(alloc, blank, book, 1)?;
 //! let mut mailbox = UdpMailbox::new(&socket);
-//! let received = serve_datagrams(rt, alloc, &shared, &mut pass, own, &mut mailbox, &clock, &turns, Partner::Up)?;
+//! let received = serve_datagrams(
+//!     rt, alloc, &shared, &mut pass, own, &mut mailbox, &clock, &turns, Partner::Up, &notices,
+//! )?;
 //! let book = shared.close(passes)?;                                         // a line for each answer that was given
 //! ```
 //!
@@ -29,11 +33,13 @@ mod error;
 mod heard;
 mod link;
 mod mailbox;
+mod notices;
 mod pauses;
 mod seats;
 mod serving_all;
 mod settings;
 mod turns;
+mod watched_book;
 mod wire;
 mod workers;
 
@@ -43,10 +49,12 @@ pub use error::{NetFault, NodeError};
 pub use heard::Heard;
 pub use link::serve_link;
 pub use mailbox::{Mailbox, UdpMailbox};
+pub use notices::{EachOnce, Notice, Notices, Unheard};
 pub use pauses::{PAUSES_A_SECOND, Pauses};
 pub use seats::{leave_seats, seats_of, serve_seats};
 pub use serving_all::{LeaveError, Left, serve_all};
 pub use settings::NodeSettings;
 pub use turns::Turns;
+pub use watched_book::WatchedBook;
 pub use wire::{Got, TcpWire, Wire};
 pub use workers::serve_datagrams;

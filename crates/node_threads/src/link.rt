@@ -14,8 +14,10 @@ ghost use Rattle.node_threads.specs.Writing.{Tells, HasTold};
 
 use crate::clock::Clock;
 use crate::error::{NetFault, NodeError};
-use crate::pauses::{PAUSES_A_SECOND, Pauses};
+use crate::notices::{Notices, tell_any};
+use crate::pauses::{PAUSES_A_SECOND, Pauses, Quiet};
 use crate::turns::Turns;
+use crate::watched_book::WatchedBook;
 use crate::wire::{Got, Wire};
 use binding_rules::Counter;
 use failover_message::{Frame, FrameKind, encode};
@@ -33,9 +35,9 @@ const LAST_READS: u32 = 1000;
 
 /// One end of the link, but for its connection.
 #[derive(Drop)]
-struct LinkEnd<'a, N: BookName, R: Wait, C: Clock> {
+struct LinkEnd<'a, N: BookName, R: Wait, C: Clock, V: Notices> {
     alloc: Global,
-    book: LockedBook<'a, N, R>,
+    book: WatchedBook<'a, LockedBook<'a, N, R>, V>,
     settings: &'a Settings,
     clock: &'a C,
 }
@@ -95,7 +97,7 @@ fn came<'a>(got: Got, buffer: &'a [u8], pauses: &mut Pauses) -> Came<'a>
     }
 }
 
-impl<'a, N: BookName, R: Wait, C: Clock> LinkEnd<'a, N, R, C> {
+impl<'a, N: BookName, R: Wait, C: Clock, V: Notices> LinkEnd<'a, N, R, C, V> {
     /// The talk's turn, and what it hands out, which is written also where the talk ends.
     fn tell<W: Wire>(
         &self,
@@ -139,6 +141,7 @@ impl<'a, N: BookName, R: Wait, C: Clock> LinkEnd<'a, N, R, C> {
         pass: &mut Pass<N>,
         talk: &mut Talk,
         pauses: &mut Pauses,
+        quiet: &mut Quiet,
         buffer: &mut [u8],
         wire: &mut W,
     ) -> Result<(), NodeError>
@@ -155,6 +158,7 @@ impl<'a, N: BookName, R: Wait, C: Clock> LinkEnd<'a, N, R, C> {
         let Ok(got) = wire.read(buffer) else {
             return Err(NodeError::Read);
         };
+        tell_any(self.book.notices, quiet.notice(&got));
         let came = came(got, buffer, pauses);
         self.tell(pass, talk, &came, wire)
     }
@@ -258,7 +262,10 @@ fn disconnect<W: Wire>(alloc: Global, buffer: &mut [u8], wire: &mut W) -> Result
 /// there (`Read`), a write fails (`Write`), a growth is refused (`Memory`), or the pass is a stranger to the book or
 /// the book has no room for a message that came (`Serve`): were that passed over, a later one would be taken in its
 /// place, and this one lost. Any other refusal of the book is passed over.
-pub fn serve_link<N: BookName, R: Wait, C: Clock, W: Wire>(
+///
+/// It tells that the journal is full where an order of the talk's is refused for it, that the partner is silent behind
+/// ten seconds without octets, and that the settings differ where a move is refused or what is told of is no unit.
+pub fn serve_link<N: BookName, R: Wait, C: Clock, V: Notices, W: Wire>(
     rt: &R,
     alloc: Global,
     shared: &SharedBook<N>,
@@ -266,6 +273,7 @@ pub fn serve_link<N: BookName, R: Wait, C: Clock, W: Wire>(
     settings: &Settings,
     clock: &C,
     turns: &Turns,
+    notices: &V,
     wire: &mut W,
 ) -> Result<(), NodeError>
     ensures told { (met : Met) × Tells W.brings W.writes W.fails HeardTill settings.now.role
@@ -273,9 +281,13 @@ pub fn serve_link<N: BookName, R: Wait, C: Clock, W: Wire>(
         result }
     ensures goes { Goes pass.old.receipts pass.new.receipts }
 {
+    let book = LockedBook { rt, shared };
     let end = LinkEnd {
         alloc,
-        book: LockedBook { rt, shared },
+        book: WatchedBook {
+            book: &book,
+            notices,
+        },
         settings,
         clock,
     };
@@ -284,6 +296,7 @@ pub fn serve_link<N: BookName, R: Wait, C: Clock, W: Wire>(
     };
     let mut talk = Talk::new(alloc);
     let mut pauses = Pauses::new();
+    let mut quiet = Quiet::new();
     match end.greet(pass, &mut talk, wire) {
         Ok(()) => {}
         Err(error) => return Err(error),
@@ -292,7 +305,7 @@ pub fn serve_link<N: BookName, R: Wait, C: Clock, W: Wire>(
         if turns.has_ended(rt) {
             return end.leave(pass, &mut talk, &mut buffer, wire);
         }
-        match end.turn(pass, &mut talk, &mut pauses, &mut buffer, wire) {
+        match end.turn(pass, &mut talk, &mut pauses, &mut quiet, &mut buffer, wire) {
             Ok(()) => {}
             Err(error) => return Err(error),
         }

@@ -9,6 +9,7 @@ ghost use Rattle.node_threads.specs.Sending.{IsServed};
 use crate::clock::Clock;
 use crate::error::NodeError;
 use crate::mailbox::Mailbox;
+use crate::notices::Notices;
 use crate::turns::Turns;
 use crate::workers::serve_datagrams;
 use client_id::Duid;
@@ -64,6 +65,7 @@ pub fn serve_seats<
     R: Threads + Wait + Sync,
     M: Mailbox + Send,
     C: Clock + Sync,
+    V: Notices + Sync,
 >(
     rt: &R,
     alloc: Global,
@@ -73,6 +75,7 @@ pub fn serve_seats<
     clock: &C,
     turns: &Turns,
     partner: Partner,
+    notices: &V,
 )
     ensures seats { length seats.new ≡ length seats.old }
     ensures goes { (k d : _) → k < length seats.old
@@ -101,6 +104,7 @@ pub fn serve_seats<
             clock,
             turns,
             partner,
+            notices,
         );
     };
     thread::for_each_mut(rt, seats, workers, &work);

@@ -6,6 +6,7 @@ ghost use Rattle.order_book.specs.Replayed.{IsLegal};
 use crate::clock::Clock;
 use crate::error::NodeError;
 use crate::mailbox::Mailbox;
+use crate::notices::Notices;
 use crate::seats::{leave_seats, seats_of, serve_seats};
 use crate::turns::Turns;
 use client_id::Duid;
@@ -51,6 +52,7 @@ pub fn serve_all<
     R: Threads + Wait + Sync,
     M: Mailbox + Drop + Send,
     C: Clock + Sync,
+    V: Notices + Sync,
 >(
     rt: &R,
     alloc: Global,
@@ -61,6 +63,7 @@ pub fn serve_all<
     clock: &C,
     turns: &Turns,
     partner: Partner,
+    notices: &V,
 ) -> Result<Left, LeaveError>
     requires name { blank.name ≡ N.name }
     requires parts { (blank.parts ≡ N.parts) × (N.parts ≡ length mailboxes.items) }
@@ -87,7 +90,9 @@ pub fn serve_all<
     let Ok(mut seats) = seats_of(alloc, passes, mailboxes) else {
         return Err(LeaveError::Memory);
     };
-    serve_seats(rt, alloc, &shared, &mut seats, own, clock, turns, partner);
+    serve_seats(
+        rt, alloc, &shared, &mut seats, own, clock, turns, partner, notices,
+    );
     let Ok(received) = leave_seats(seats, &mut left) else {
         return Err(LeaveError::Memory);
     };

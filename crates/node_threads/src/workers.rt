@@ -9,6 +9,7 @@ use crate::clock::Clock;
 use crate::error::NodeError;
 use crate::heard::Heard;
 use crate::mailbox::Mailbox;
+use crate::notices::{Notices, tell_any};
 use crate::turns::{MOST_TURNS, Turns};
 use client_id::Duid;
 use client_service::{Answer, Partner, Shared, Silence, answer_to};
@@ -146,8 +147,9 @@ impl<'a, N: BookName, R: Wait, C: Clock> Worker<'a, N, R, C> {
 ///
 /// It ends sooner where a call of the mailbox or the clock fails (`Net`), where the buffer finds no memory (`Memory`),
 /// or where the pass is a stranger to the book (`Serve`); any other refusal leaves a message without an answer. Of a
-/// partner that is down a unit is taken over where no prefix is left.
-pub fn serve_datagrams<N: BookName, R: Wait, M: Mailbox, C: Clock>(
+/// partner that is down a unit is taken over where no prefix is left. Where a message has no answer since the journal
+/// is full, that is told.
+pub fn serve_datagrams<N: BookName, R: Wait, M: Mailbox, C: Clock, V: Notices>(
     rt: &R,
     alloc: Global,
     shared: &SharedBook<N>,
@@ -157,6 +159,7 @@ pub fn serve_datagrams<N: BookName, R: Wait, M: Mailbox, C: Clock>(
     clock: &C,
     turns: &Turns,
     partner: Partner,
+    notices: &V,
 ) -> Result<u32, NodeError>
     ensures few { IfOk result (λ received. received ≤ 1000000) }
     ensures served { IsServed M.receives M.sends M.fails partner own.now
@@ -177,7 +180,7 @@ pub fn serve_datagrams<N: BookName, R: Wait, M: Mailbox, C: Clock>(
             return Ok(received);
         }
         match worker.turn(pass, mailbox, &mut buffer) {
-            Ok(_heard) => {}
+            Ok(heard) => tell_any(notices, heard.notice()),
             Err(why) => return Err(why),
         }
     }

@@ -6,7 +6,7 @@ use crate::meetings::Met;
 use crate::post::{Datagrams, Post, Slot};
 use journal_text::write;
 use lead_time::Reading;
-use node_threads::{Clock, Left, NodeError, Partner, Turns, serve_all};
+use node_threads::{Clock, Left, NodeError, Partner, Turns, Unheard, serve_all};
 use server_book::{Book, Order};
 use std::alloc::Global;
 use std::marker::Brand;
@@ -90,7 +90,7 @@ pub fn left<D: Datagrams + Sync, C: Clock + Sync>(
         slots.push(Slot::new(datagrams))?;
     }
     let blank = Blank::new(slots.len() as u64);
-    match serve_all::<Brand, _, _, _>(
+    match serve_all::<Brand, _, _, _, _>(
         rt,
         alloc,
         blank,
@@ -100,6 +100,7 @@ pub fn left<D: Datagrams + Sync, C: Clock + Sync>(
         clock,
         &turns,
         Partner::Up,
+        &Unheard,
     ) {
         Ok(left) => Ok(left),
         Err(_) => Err(Fail::from("not closed")),

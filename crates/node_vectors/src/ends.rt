@@ -11,7 +11,7 @@ use client_id::{Duid, Iaid};
 use journal_text::write;
 use lead_time::Reading;
 use locked_book::{BookName, SharedBook};
-use node_threads::{NodeError, Turns, serve_link};
+use node_threads::{NodeError, Turns, Unheard, serve_link};
 use prefix_range::read_text;
 use server_book::{Asked, Book, Order, Settings};
 use std::alloc::Global;
@@ -111,10 +111,12 @@ fn by_link<N: BookName, R: Wait>(
             shared.serve(rt, &mut pass, at, order).ok()?;
         }
     }
-    let mut ended = serve_link(rt, alloc, &shared, &mut pass, settings, clock, turns, wire);
+    let mut ended = serve_link(
+        rt, alloc, &shared, &mut pass, settings, clock, turns, &Unheard, wire,
+    );
     if second.is_there() {
         ended = serve_link(
-            rt, alloc, &shared, &mut pass, settings, clock, turns, second,
+            rt, alloc, &shared, &mut pass, settings, clock, turns, &Unheard, second,
         );
     }
     passes.push(pass).ok()?;

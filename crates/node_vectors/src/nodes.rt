@@ -6,7 +6,7 @@ use crate::letters::{Letter, Letters};
 use crate::moments::{Moment, wait_until};
 use crate::post::{Post, Slot};
 use locked_book::{BookName, Pass, SharedBook};
-use node_threads::{NodeError, Partner, Turns, Wire, serve_datagrams, serve_link};
+use node_threads::{NodeError, Partner, Turns, Unheard, Wire, serve_datagrams, serve_link};
 use prefix_range::Prefix;
 use server_book::{Book, Settings};
 use std::alloc::Global;
@@ -45,7 +45,7 @@ fn linked<N: BookName, R: Wait + Handle, W: Wire + Drop>(
         for wire in wires {
             let mut wire = wire;
             ended = serve_link(
-                rt, alloc, shared, &mut pass, settings, moment, turns, &mut wire,
+                rt, alloc, shared, &mut pass, settings, moment, turns, &Unheard, &mut wire,
             );
         }
     }
@@ -95,6 +95,7 @@ fn worked<N: BookName, R: Wait + Handle>(
         moment,
         turns,
         Partner::Up,
+        &Unheard,
     );
     turns.end(rt);
     let watch = datagrams.into_pass();
