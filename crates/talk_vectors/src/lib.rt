@@ -5,6 +5,14 @@
 #[cfg(test)]
 mod dice;
 #[cfg(test)]
+mod evidence;
+#[cfg(test)]
+mod lives;
+#[cfg(test)]
+mod pairs;
+#[cfg(test)]
 mod servers;
+#[cfg(test)]
+mod stories;
 #[cfg(test)]
 mod walks;

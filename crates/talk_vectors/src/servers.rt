@@ -1,5 +1,7 @@
 //! A server of the pair, and its end of the link.
 
+use client_service::{Partner, answer_to};
+use dhcp6_pd::decode;
 use failover_message::encode;
 use lead_time::Reading;
 use link_talk::{Alone, Came, OwnBook, Talk};
@@ -43,6 +45,32 @@ impl Server {
     /// Gives its book an order, which may be refused. Says whether it wasn't.
     pub fn order(&mut self, now: Reading, order: &Order) -> bool {
         self.own.book.apply(now, order).is_ok()
+    }
+
+    /// Answers a client's datagram, and says whether it gets these octets.
+    pub fn answers(
+        &mut self,
+        alloc: Global,
+        now: Reading,
+        datagram: &[u8],
+        answer: &[u8],
+    ) -> Result<bool, Fail> {
+        let own = self.settings.duid();
+        let message = decode(alloc, datagram, own)?;
+        let book = &mut self.own.book;
+        match answer_to(
+            alloc,
+            &client_service::Alone,
+            book,
+            own,
+            Partner::Up,
+            now,
+            &message,
+            (),
+        ) {
+            Ok(told) => Ok(told.octets() == answer),
+            Err(_) => Ok(false),
+        }
     }
 
     /// Begins another connection; what was under way on the last one is lost.

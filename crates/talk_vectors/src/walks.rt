@@ -1,13 +1,12 @@
 //! Walks of a pair by chance.
 
 use crate::dice::Dice;
-use crate::servers::Server;
+use crate::pairs::{Pair, Turn};
 use auditor::{Checked, check_pair};
 use binding_rules::{Role, Unit, UnitStatus};
 use client_id::{Duid, Iaid};
 use journal_lines::{Journal, LineList};
 use lead_time::{Reading, is_past};
-use link_talk::Came;
 use prefix_range::{Prefix, read_text, unit};
 use server_book::{Asked, Book, Order};
 use std::alloc::Global;
@@ -37,15 +36,14 @@ unit = 56
 const UNITS: u64 = 8;
 
 /// How many walks there are, and how many events each has.
-const WALKS: u64 = 10;
+const WALKS: u64 = 50;
 
 const EVENTS: u64 = 20_000;
 
 /// Two servers, the dice, and true time in milliseconds.
 #[derive(Drop)]
-struct Pair {
-    primary: Server,
-    secondary: Server,
+struct Walker {
+    pair: Pair,
     dice: Dice,
     moment: u64,
     /// How many requests and releases were answered, and how many connections there were.
@@ -53,44 +51,10 @@ struct Pair {
     connections: u64,
 }
 
-/// What comes to an end in a turn.
-#[derive(Clone, Copy)]
-struct Turn {
-    now: Reading,
-    /// Nothing came for a while.
-    is_quiet: bool,
-    /// How many octets come, at most.
-    most: usize,
-    /// What the end says goes on its way twice.
-    is_repeated: bool,
-}
-
-/// One turn of a server's end, whose frames go on their way to the other. Says whether the connection goes on.
-fn take_turn(
-    alloc: Global,
-    server: &mut Server,
-    wire: &mut Vec<u8>,
-    turn: Turn,
-) -> Result<bool, Fail> {
-    let before = wire.len();
-    let goes_on = if turn.is_quiet {
-        server.turn(alloc, turn.now, &Came::Nothing, wire)?
-    } else {
-        server.hear(alloc, turn.now, turn.most, wire)?
-    };
-    if turn.is_repeated {
-        let said = wire[before.min(wire.len())..].to_vec(alloc)?;
-        wire.extend_from_slice(&said)?;
-    }
-    Ok(goes_on)
-}
-
-impl Pair {
-    fn new(alloc: Global, seed: u64) -> Result<Pair, Fail> {
-        let now = Reading::new(10_000)?;
-        Ok(Pair {
-            primary: Server::open(alloc, PRIMARY, now)?,
-            secondary: Server::open(alloc, SECONDARY, now)?,
+impl Walker {
+    fn new(alloc: Global, seed: u64) -> Result<Walker, Fail> {
+        Ok(Walker {
+            pair: Pair::open(alloc, PRIMARY, SECONDARY, Reading::new(10_000)?)?,
             dice: Dice::new(seed),
             moment: 10_000,
             answered: 0,
@@ -116,13 +80,7 @@ impl Pair {
     /// Both ends begin another connection.
     fn connect(&mut self, alloc: Global) -> Result<(), Fail> {
         self.connections = self.connections.saturating_add(1);
-        let mut to_primary = Vec::new(alloc);
-        let mut to_secondary = Vec::new(alloc);
-        self.primary.connect(alloc, &mut to_secondary)?;
-        self.secondary.connect(alloc, &mut to_primary)?;
-        self.primary.coming = to_primary;
-        self.secondary.coming = to_secondary;
-        Ok(())
+        self.pair.connect(alloc)
     }
 
     /// A client of five asks one of the servers for a unit, or gives it back.
@@ -141,11 +99,7 @@ impl Pair {
             Order::Request(asked)
         };
         let now = self.clock(role)?;
-        let is_answered = match role {
-            Role::Primary => self.primary.order(now, &order),
-            Role::Secondary => self.secondary.order(now, &order),
-        };
-        if is_answered {
+        if self.pair.server(role).order(now, &order) {
             self.answered = self.answered.saturating_add(1);
         }
         Ok(())
@@ -161,15 +115,7 @@ impl Pair {
             most: self.dice.below(200) as usize,
             is_repeated: self.dice.below(50) == 0,
         };
-        let goes_on = match role {
-            Role::Primary => {
-                take_turn(alloc, &mut self.primary, &mut self.secondary.coming, turn)?
-            }
-            Role::Secondary => {
-                take_turn(alloc, &mut self.secondary, &mut self.primary.coming, turn)?
-            }
-        };
-        if goes_on {
+        if self.pair.turn(alloc, role, turn)? {
             return Ok(());
         }
         self.connect(alloc)
@@ -197,13 +143,40 @@ impl Pair {
         let later = self.clock(Role::Secondary)?;
         Ok(
             match (
-                self.primary.own.book.unit(prefix),
-                self.secondary.own.book.unit(prefix),
+                self.pair.primary.own.book.unit(prefix),
+                self.pair.secondary.own.book.unit(prefix),
             ) {
                 (Some(one), Some(other)) => has_two(&one, &other, now, later),
                 _ => false,
             },
         )
+    }
+
+    /// Lets so many events happen, behind each of which one unit is looked at in turn: it isn't two clients'.
+    fn go(&mut self, alloc: Global, events: u64) -> Result<(), Fail> {
+        let pool = read_text(b"2001:db8::/53")?;
+        self.connect(alloc)?;
+        for event in 0..events {
+            self.happen(alloc)?;
+            let Some(prefix) = unit(&pool, 56, u128::from(event % UNITS)) else {
+                return Err(Fail::from("no such unit"));
+            };
+            if self.is_torn(prefix)? {
+                return Err(Fail::from("a unit is two clients'"));
+            }
+        }
+        Ok(())
+    }
+
+    /// Judges the journals: they keep the rules and could both be true.
+    fn judge(&self, alloc: Global) -> Result<(), Fail> {
+        let end = Reading::new(self.moment.saturating_add(10_000))?;
+        let a = closed(alloc, &self.pair.primary.own.book, end)?;
+        let b = closed(alloc, &self.pair.secondary.own.book, end)?;
+        if !matches!(&check_pair(alloc, &a, &b)?, Checked::Legal(_)) {
+            return Err(Fail::from("the journals can't both be true"));
+        }
+        Ok(())
     }
 }
 
@@ -233,25 +206,10 @@ fn closed(alloc: Global, book: &Book, now: Reading) -> Result<Journal, Fail> {
 /// Walks so many events from a seed: no unit is two clients' at any of them, and the journals keep the rules and could
 /// both be true. Returns how many requests and releases were answered, and how many connections there were.
 fn walk(alloc: Global, seed: u64, events: u64) -> Result<(u64, u64), Fail> {
-    let mut pair = Pair::new(alloc, seed)?;
-    pair.connect(alloc)?;
-    let pool = read_text(b"2001:db8::/53")?;
-    for event in 0..events {
-        pair.happen(alloc)?;
-        let Some(prefix) = unit(&pool, 56, u128::from(event % UNITS)) else {
-            return Err(Fail::from("no such unit"));
-        };
-        if pair.is_torn(prefix)? {
-            return Err(Fail::from("a unit is two clients'"));
-        }
-    }
-    let end = pair.moment.saturating_add(10_000);
-    let a = closed(alloc, &pair.primary.own.book, Reading::new(end)?)?;
-    let b = closed(alloc, &pair.secondary.own.book, Reading::new(end)?)?;
-    if !matches!(&check_pair(alloc, &a, &b)?, Checked::Legal(_)) {
-        return Err(Fail::from("the journals can't both be true"));
-    }
-    Ok((pair.answered, pair.connections))
+    let mut walker = Walker::new(alloc, seed)?;
+    walker.go(alloc, events)?;
+    walker.judge(alloc)?;
+    Ok((walker.answered, walker.connections))
 }
 
 #[test]
