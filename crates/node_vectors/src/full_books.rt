@@ -1,89 +1,75 @@
 //! A book that has no room for another line.
 
-use crate::answers::{REQUEST, all_octets, left};
-use crate::books::{WHOLE, opened_by, settings_of};
-use crate::clocks::Still;
-use crate::ends::{Case, Done, joined, live};
-use crate::frames::{CONNECT, CONNECT_REPLY, CONTACT};
-use crate::links::OF_PRIMARY;
-use crate::post::Post;
-use crate::scripts::Script;
-use binding_rules::Role;
+use crate::answers::{REQUESTED, left};
+use crate::books::{A_OPENED, book_of};
+use crate::cases::{Case, OF_PRIMARY};
+use crate::ends::{joined, live};
+use crate::frames::{CONNECT_REPLY, CONTACT};
+use crate::posts::{Meeting, Scene, Still};
+use crate::wires::{Cut, Script};
 use lead_time::Reading;
 use locked_book::ServeError;
-use node_threads::{Left, NodeError};
-use server_book::{Book, BookError, Order, Settings};
+use node_threads::NodeError;
+use server_book::{Book, BookError, Order};
 use std::alloc::Global;
 use std::process::Abort;
 use std::sync::Wait;
+use std::sync::atomic::Ordering;
 use std::test::Fail;
 
 /// The most lines behind which there is room for more than the close line: 2^20 - 2.
 const MOST_LINES: usize = 1_048_574;
 
-fn sends_contact(book: &mut Book, now: Reading) -> bool {
-    match book.apply(now, &Order::SendContact) {
-        Ok(_) => true,
-        Err(_) => false,
-    }
-}
+/// A message of the partner's comes over each of two wires, and none is taken in its place: on the second the end still
+/// says that it took none, so that the message comes again.
+const REFUSED: Case = Case {
+    heard: &[CONNECT_REPLY, CONTACT],
+    ended: Err(NodeError::Serve(ServeError::Book(BookError::Full))),
+    ..OF_PRIMARY
+};
 
-/// The primary's book, full of contacts.
-fn full(alloc: Global, settings: &Settings) -> Result<Book, Fail> {
-    let mut book = opened_by(alloc, settings)?;
+/// Fills a book with contacts.
+fn fill(book: &mut Book) -> Result<(), Fail> {
     let now = Reading::new(10_000)?;
     for _ in book.journal().len()..MOST_LINES + 1 {
-        if !sends_contact(&mut book, now) {
+        if book.apply(now, &Order::SendContact).is_err() {
             return Err(Fail::from("not sent"));
         }
     }
-    Ok(book)
+    Ok(())
 }
 
-/// The link's end refuses the partner's message over each of two wires, and takes none in its place: on the second it
-/// still says that it took none, so that the message comes again.
+/// That the link's end of a full book lives this case over each of two wires, and adds no line.
 fn check_link(
     rt: &(impl Abort + Wait),
     alloc: Global,
-    settings: &Settings,
+    case: &Case,
     book: Book,
 ) -> Result<(), Fail> {
-    let heard: &'static [&'static [u8]] = &[CONNECT_REPLY, CONTACT];
-    let case = Case {
-        heard,
-        again: heard,
-        ..OF_PRIMARY
-    };
-    let lines = book.journal().len();
-    let octets = joined(alloc, heard)?;
-    let mut wire = Script::new(alloc, &octets, 4096);
-    let mut second = Script::new(alloc, &octets, 4096);
-    let done = live(rt, alloc, &case, settings, book, &mut wire, &mut second);
-    let Some(Done { ended, book }) = done else {
-        return Err(Fail::from("not closed"));
-    };
-    assert_eq!(rt;
-        ended,
-        Err(NodeError::Serve(ServeError::Book(BookError::Full)))
-    );
-    let asked = joined(alloc, &[CONNECT])?;
-    assert_eq!(rt; wire.written(), asked.as_slice());
-    assert_eq!(rt; second.written(), asked.as_slice());
-    assert_eq!(rt; book.journal().len(), lines);
+    let heard = joined(alloc, case.heard)?;
+    let written = joined(alloc, case.written)?;
+    let mut wire = Script::new(alloc, &heard, case.step, Cut::Never);
+    let mut second = Script::new(alloc, &heard, case.step, Cut::Never);
+    let done = live(rt, alloc, case, book, &mut wire, &mut second)?;
+    assert_eq!(rt; done.ended, case.ended);
+    assert_eq!(rt; wire.written.as_slice(), written.as_slice());
+    assert_eq!(rt; second.written.as_slice(), written.as_slice());
+    assert_eq!(rt; done.book.journal().len(), MOST_LINES + 1);
     Ok(())
 }
 
 #[test]
 fn workers_go_on_where_there_is_no_room_and_the_link_ends(rt: HostRuntime) -> Result<(), Fail> {
-    let alloc = rt.alloc();
-    let settings = settings_of(alloc, Role::Primary, WHOLE)?;
-    let datagrams = all_octets(alloc, &[REQUEST, REQUEST])?;
-    let post = Post::new(&datagrams, &[], true);
-    let clock = Still::new(Some(Reading::new(10_000)?));
-    let full = full(alloc, &settings)?;
-    let Left { book, received } = left(&rt, alloc, full, 1, &post, &clock, 2)?;
-    assert_eq!(rt; received, Ok(2));
-    assert_eq!(rt; post.sent_well(), Some(0));
-    assert_eq!(rt; book.journal().len(), MOST_LINES + 1);
-    check_link(&rt, alloc, &settings, book)
+    let scene = Scene::of(rt.alloc(), &[REQUESTED, REQUESTED], 1);
+    let clock = Still {
+        at: Some(10_000),
+        asking: Meeting::of(1),
+    };
+    let mut book = book_of(rt.alloc(), A_OPENED)?;
+    fill(&mut book)?;
+    let left = left(&rt, rt.alloc(), book, &scene, 1, &clock, 2)?;
+    assert_eq!(rt; left.received, Ok(2));
+    assert_eq!(rt; scene.sending.begun.load(Ordering::SeqCst), 0);
+    assert_eq!(rt; left.book.journal().len(), MOST_LINES + 1);
+    check_link(&rt, rt.alloc(), &REFUSED, left.book)
 }

@@ -1,4 +1,5 @@
-//! Vectors from outside for what a node's threads do.
+//! Vectors from outside for what a node's threads do: workers at mailboxes in memory, and the link's end over wires in
+//! memory.
 #![tactic(auto)]
 
 #[cfg(test)]
@@ -6,34 +7,16 @@ mod answers;
 #[cfg(test)]
 mod books;
 #[cfg(test)]
-mod cables;
-#[cfg(test)]
-mod clocks;
+mod cases;
 #[cfg(test)]
 mod ends;
-#[cfg(test)]
-mod evidence;
 #[cfg(test)]
 mod frames;
 #[cfg(test)]
 mod full_books;
 #[cfg(test)]
-mod letters;
-#[cfg(test)]
-mod links;
-#[cfg(test)]
-mod meetings;
-#[cfg(test)]
-mod moments;
-#[cfg(test)]
 mod node_settings;
 #[cfg(test)]
-mod nodes;
+mod posts;
 #[cfg(test)]
-mod pairs;
-#[cfg(test)]
-mod post;
-#[cfg(test)]
-mod scripts;
-#[cfg(test)]
-mod stories;
+mod wires;
