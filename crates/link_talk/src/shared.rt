@@ -18,6 +18,7 @@ pub struct LockedBook<'a, N: BookName, R: Wait> {
 
 impl<N: BookName> Receipts for Pass<N> {
     ghost receipts = { λ p. p.receipts };
+
     ghost shown = { λ p. last_receipt p.receipts };
 
     fn receipts(&self) -> &[Receipt] {

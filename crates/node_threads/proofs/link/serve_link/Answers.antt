@@ -18,7 +18,7 @@ loop-init g c = record {
   can_next = tt;
   is_finite = tt;
   told = talk_begun g.W.Wire.brings g.W.Wire.writes g.W.Wire.fails _ _ _ _ _ _ (c.in-Ok-greet.ensures.talk ∙
-  c.new-talk.ensures) c.in-Ok-greet.ensures.whole;
+      c.new-talk.ensures) c.in-Ok-greet.ensures.whole;
   none = ap (λ t. t.handed) (c.in-Ok-greet.ensures.talk ∙ c.new-talk.ensures);
   goes = goes_nowhere _ _ refl;
 }
@@ -27,7 +27,7 @@ pub returns-then-has_ended-clause-told : goal.returns-then-has_ended-clause-told
 returns-then-has_ended-clause-told g c = (
   _,
   then_tells g.W.Wire.brings g.W.Wire.writes g.W.Wire.fails _ _ _ _ _ _ _ _ _ _ _ _ c.loop.invariant.told _
-  c.leave.ensures.told,
+      c.leave.ensures.told,
 )
 
 pub returns-then-has_ended-clause-goes : goal.returns-then-has_ended-clause-goes
@@ -37,7 +37,7 @@ pub returns-in-Err-turn-clause-told : goal.returns-in-Err-turn-clause-told
 returns-in-Err-turn-clause-told g c = (
   _,
   then_tells g.W.Wire.brings g.W.Wire.writes g.W.Wire.fails _ _ _ _ _ _ _ _ _ _ _ _ c.loop.invariant.told _
-  c.in-Err-turn.ensures.told,
+      c.in-Err-turn.ensures.told,
 )
 
 pub returns-in-Err-turn-clause-goes : goal.returns-in-Err-turn-clause-goes
@@ -47,7 +47,7 @@ pub returns-then-has_ended-2-clause-told : goal.returns-then-has_ended-2-clause-
 returns-then-has_ended-2-clause-told g c = (
   _,
   then_tells g.W.Wire.brings g.W.Wire.writes g.W.Wire.fails _ _ _ _ _ _ _ _ _ _ _ _ c.loop.invariant.told _
-  c.in-Ok-turn.ensures.told,
+      c.in-Ok-turn.ensures.told,
 )
 
 pub returns-then-has_ended-2-clause-goes : goal.returns-then-has_ended-2-clause-goes
