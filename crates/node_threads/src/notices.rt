@@ -37,7 +37,7 @@ impl Notices for Unheard {
 #[derive(Drop)]
 pub struct EachOnce<'a, V: Notices> {
     to: &'a V,
-    /// Whether it was told; so of the others.
+    /// Whether that was told; the same of the others.
     journal_full: AtomicBool,
     partner_silent: AtomicBool,
     settings_differ: AtomicBool,

@@ -3,22 +3,18 @@
 ghost use Rattle.std.specs.Prelude.{IfOk, OnErr};
 
 use crate::noted::{Counts, NONE, Noted};
-use crate::servers::{NOW, octets, opened, settings_of};
+use crate::servers::{FULL, NOW, fill, octets, opened, settings_of};
 use crate::wires::Still;
 use binding_rules::Role;
 use client_service::Answer;
 use lead_time::Reading;
 use node_threads::{Mailbox, NetFault, Partner, Turns, serve_all};
-use server_book::{Book, Order};
 use std::alloc::Global;
 use std::marker::Brand;
 use std::sync::Wait;
 use std::sync::ledger::Blank;
 use std::test::Fail;
 use std::thread::Threads;
-
-/// So many lines leave room for the close line alone: 2^20 - 1.
-const FULL: usize = 1_048_575;
 
 /// A client's REQUEST.
 const REQUEST: &[u8] =
@@ -53,16 +49,6 @@ impl Mailbox for Same<'_> {
     {
         Ok(())
     }
-}
-
-/// Fills a book with contacts up to so many lines.
-fn fill(book: &mut Book, now: Reading, lines: usize) -> Result<(), Fail> {
-    for _ in book.journal().len()..lines {
-        if book.apply(now, &Order::SendContact).is_err() {
-            return Err(Fail::from("not sent"));
-        }
-    }
-    Ok(())
 }
 
 /// Returns what a worker of the primary tells, to which two REQUESTs come, where its book had so many lines.

@@ -2,7 +2,7 @@
 
 use binding_rules::Role;
 use lead_time::Reading;
-use server_book::{Book, Settings, read_settings};
+use server_book::{Book, Order, Settings, read_settings};
 use std::alloc::Global;
 use std::test::Fail;
 use text_fields::{is_hex, octets_of};
@@ -14,6 +14,9 @@ const SECONDARY: &[u8] = b"role = \"secondary\"\n";
 /// What both servers agree on: a pool of 256 units.
 const SHARED: &[u8] =
     b"duid = \"00030001020000000009\"\nskew_ms = 2000\nmclt = 3600\nlife = 3600\n[[pool]]\nprefix = \"2001:db8::/48\"\nunit = 56\n";
+
+/// So many lines leave room for the close line alone: 2^20 - 1.
+pub const FULL: usize = 1_048_575;
 
 /// When all but the book's opening happens, in milliseconds.
 pub const NOW: u64 = 10_000;
@@ -32,6 +35,16 @@ pub fn settings_of(alloc: Global, role: Role) -> Result<Settings, Fail> {
 /// Its book, opened at 9000: it has two lines.
 pub fn opened(alloc: Global, settings: &Settings) -> Result<Book, Fail> {
     Ok(Book::open(alloc, Reading::new(9000)?, settings)?)
+}
+
+/// Fills a book with contacts up to so many lines.
+pub fn fill(book: &mut Book, now: Reading, lines: usize) -> Result<(), Fail> {
+    for _ in book.journal().len()..lines {
+        if book.apply(now, &Order::SendContact).is_err() {
+            return Err(Fail::from("not sent"));
+        }
+    }
+    Ok(())
 }
 
 /// The octets that digits spell.
