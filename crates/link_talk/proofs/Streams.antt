@@ -7,7 +7,7 @@ use Rattle.std.proofs.lemmas.List.Elements.{filter_map-append}
 use Rattle.binding_rules.specs.declared.message.PartnerMessage.{PartnerMessage}
 use Rattle.failover_message.specs.declared.frame.Frame.{Frame}
 use Rattle.failover_message.specs.Frames.{frame_octets, IsFrame}
-use Rattle.failover_message.specs.Stream.{Splits, stream_of}
+use Rattle.failover_message.specs.Stream.{stream_of}
 use Rattle.link_talk.specs.Messages.{message_in}
 use Rattle.link_talk.specs.Talking.{messages_in}
 use Rattle.link_talk.specs.Turning.{Carries}

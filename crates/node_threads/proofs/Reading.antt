@@ -1,6 +1,6 @@
 -- Which messages were heard, of octets one behind another.
 use Rattle.std.specs.Prelude.{◌≡◌, ◌⊎◌, ℕ, List, [], ◌∷◌, ◌++◌, refl}
-use Rattle.std.proofs.Common.{ap, sym, ◌∙◌, subst, append_assoc, append-nil, inl, inr, Bor}
+use Rattle.std.proofs.Common.{ap, sym, ◌∙◌, subst, append_assoc, append-nil, inl, inr}
 use Rattle.binding_rules.specs.declared.message.PartnerMessage.{PartnerMessage}
 use Rattle.binding_rules.specs.declared.role.Role.{Role}
 use Rattle.locked_book.specs.declared.receipt.Receipt.{Receipt}
@@ -10,7 +10,7 @@ use Rattle.link_talk.specs.declared.outbox.Handed.{Handed}
 use Rattle.link_talk.specs.Talking.{Met}
 use Rattle.link_talk.specs.Turning.{Carries, AreMessages, octets_of, IsTurn}
 use Rattle.link_talk.proofs.Streams.{nothing_carries, carries_on}
-use Rattle.node_threads.specs.Reading.{HeardAll, HeardOn, HeardSome, HeardFront, HeardTill}
+use Rattle.node_threads.specs.Reading.{HeardAll, HeardOn, HeardFront, HeardTill}
 
 front_empty : (heard left : List PartnerMessage) → heard ++ left ≡ [] → heard ≡ []
 front_empty [] left none = refl
