@@ -82,8 +82,8 @@ const FOLDERS: [(&[&[u8]], &str); 14] = [
 
 /// Files in memory.
 #[derive(Drop)]
-struct HeldFiles<'a> {
-    files: &'a [&'a [u8]],
+pub(crate) struct HeldFiles<'a> {
+    pub(crate) files: &'a [&'a [u8]],
 }
 
 impl Files for HeldFiles<'_> {

@@ -1,7 +1,9 @@
-//! Contents of files, and what is recovered of each.
+//! Contents of files, what is recovered of each, and what a server then does at its start.
 #![tactic(auto)]
 
 #[cfg(test)]
 mod contents;
 #[cfg(test)]
 mod folders;
+#[cfg(test)]
+mod starts;

@@ -1,0 +1,2 @@
+pub mod SaidLines
+pub mod LastLine

@@ -1,0 +1,5 @@
+pub mod Opening
+pub mod FirstLines
+pub mod Agreement
+pub mod Clock
+pub mod Starting

@@ -1,0 +1,117 @@
+//! The settings that a journal fixes.
+
+ghost use Rattle.std.specs.Prelude.{◌≡◌, ◌↔◌, IsTrue};
+ghost use Rattle.server_start.specs.declared.setting.Setting.{Setting as SettingValue};
+ghost use Rattle.server_start.specs.Agreement.{names, NamesThose};
+
+use crate::opening::Opening;
+use book_state::Pool;
+use server_settings::Settings;
+use std::fmt;
+use std::fmt::Write;
+
+/// A setting that a server's journal fixes: it stays as it is as long as the book does.
+#[derive(Clone, Copy, Debug, PartialEq, Eq)]
+pub enum Setting {
+    Role,
+    Pools,
+    Skew,
+    Mclt,
+    Life,
+    Transit,
+}
+
+impl Setting {
+    /// All of them, in their order.
+    pub const ALL: [Setting; 6] = [
+        Setting::Role,
+        Setting::Pools,
+        Setting::Skew,
+        Setting::Mclt,
+        Setting::Life,
+        Setting::Transit,
+    ];
+}
+
+impl fmt::Display for Setting {
+    /// The key of a settings file.
+    fn fmt<W: Write>(&self, f: &mut fmt::Formatter<W>) -> fmt::Result {
+        f.write_str(match self {
+            Setting::Role => "role",
+            Setting::Pools => "pool",
+            Setting::Skew => "skew_ms",
+            Setting::Mclt => "mclt",
+            Setting::Life => "life",
+            Setting::Transit => "transit_ms",
+        })
+    }
+}
+
+/// Which settings of a server differ from those that its book was opened with.
+#[derive(Clone, Copy, Debug, PartialEq, Eq)]
+pub struct Differing {
+    role: bool,
+    pools: bool,
+    skew: bool,
+    mclt: bool,
+    life: bool,
+    transit: bool,
+}
+
+/// Returns whether the pools are the same, in the same order.
+fn are_same_pools(one: &[Pool], other: &[Pool]) -> bool
+    ensures { IsTrue result ↔ (one.now ≡ other.now) }
+{
+    one == other
+}
+
+impl Differing {
+    /// Each setting that differs, and no other.
+    pub fn of(settings: &Settings, opening: &Opening) -> Differing
+        ensures { NamesThose settings.now opening.now result }
+    {
+        Differing {
+            role: settings.role() != opening.role,
+            pools: !are_same_pools(settings.pools(), &opening.pools),
+            skew: settings.skew().milliseconds() != opening.skew,
+            mclt: settings.mclt() != opening.mclt,
+            life: settings.life() != opening.life,
+            transit: settings.transit() != opening.transit,
+        }
+    }
+
+    /// Returns whether it names a setting.
+    pub fn names(&self, setting: Setting) -> bool
+        ensures { result ≡ names self.now setting }
+    {
+        match setting {
+            Setting::Role => self.role,
+            Setting::Pools => self.pools,
+            Setting::Skew => self.skew,
+            Setting::Mclt => self.mclt,
+            Setting::Life => self.life,
+            Setting::Transit => self.transit,
+        }
+    }
+
+    /// Returns whether it names any.
+    pub fn is_any(&self) -> bool
+        ensures { IsTrue result ↔ ((x : SettingValue) × IsTrue (names self.now x)) }
+    {
+        self.role || self.pools || self.skew || self.mclt || self.life || self.transit
+    }
+}
+
+impl fmt::Display for Differing {
+    /// The keys, with commas between them.
+    fn fmt<W: Write>(&self, f: &mut fmt::Formatter<W>) -> fmt::Result {
+        let mut lead = "";
+        for setting in Setting::ALL {
+            if self.names(setting) {
+                write!(f, "{lead}{setting}")?;
+                lead = ", ";
+            }
+        }
+        Ok(())
+    }
+}
