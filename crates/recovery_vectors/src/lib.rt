@@ -1,4 +1,5 @@
-//! Contents of files, what is recovered of each, and what a server then does at its start.
+//! Contents of files, what is recovered of each, what a server then does at its start, and what it
+//! owes while it runs.
 #![tactic(auto)]
 
 #[cfg(test)]
@@ -7,3 +8,5 @@ mod contents;
 mod folders;
 #[cfg(test)]
 mod starts;
+#[cfg(test)]
+mod upkeep;

@@ -1,0 +1,75 @@
+-- What a running server owes its partner and its journal.
+use Rattle.std.specs.Prelude.{◌≡◌, ◌⊎◌, ℕ, ◌+◌, ◌-◌, ◌*◌, ◌^◌, ◌≤◌, max, Option, Some, None}
+use Rattle.server_upkeep.specs.declared.owed.Bar.{Bar}
+use Rattle.server_upkeep.specs.declared.owed.Bar.TheVariants.{PartnerDown, UnitMarked}
+use Rattle.server_upkeep.specs.declared.owed.Roll.{Roll}
+use Rattle.server_upkeep.specs.declared.owed.Roll.TheVariants.{NotDue, Due, Forbidden}
+use Rattle.server_upkeep.specs.declared.owed.Room.{Room}
+use Rattle.server_upkeep.specs.declared.owed.Room.TheVariants.{Enough, FullWithinHour, Full}
+use Rattle.server_upkeep.specs.declared.owed.Told.{Told}
+use Rattle.server_upkeep.specs.declared.owed.Told.TheVariants.{ToRoll}
+use Rattle.server_upkeep.specs.declared.growth.Growth.{Growth}
+
+-- when a server does what, each at least 1
+pub record Limits : Type 0 where
+  pub heartbeat : ℕ  -- seconds without a line, after which it says so to its partner
+  pub volume_lines : ℕ  -- lines behind the head lines
+  pub volume_hours : ℕ
+
+pub record AreLimits (l : Limits) : Type 0 where
+  pub heartbeat : 1 ≤ l.heartbeat
+  pub volume_lines : 1 ≤ l.volume_lines
+  pub volume_hours : 1 ≤ l.volume_hours
+
+-- how many lines the server wrote behind the head lines
+abbrev pub lines_written : Growth → ℕ
+lines_written g = g.lines - g.head_lines
+
+-- ---- contacts
+
+-- nothing was written for the heartbeat's seconds
+abbrev pub IsContactDue : Limits → Growth → (now : ℕ) → Type 0
+IsContactDue l g now = g.written + 1000 * l.heartbeat ≤ now
+
+-- ---- room
+
+-- only a close line has room
+abbrev pub IsFull : Growth → Type 0
+IsFull g = 2 ^ 20 - 1 ≤ g.lines
+
+-- milliseconds since the volume began, a minute at least, so that its first lines alone tell of no rate
+abbrev pub time_seen : Growth → (now : ℕ) → ℕ
+time_seen g now = max 60000 (now - g.opened)
+
+-- at the rate seen what is left is used up within an hour: left / (written / time) is at most that
+abbrev pub IsFullWithinHour : Growth → (now : ℕ) → Type 0
+IsFullWithinHour g now = (2 ^ 20 - 1 - g.lines) * time_seen g now ≤ 3600000 * lines_written g
+
+abbrev pub IsRoom : Growth → (now : ℕ) → Room → Type 0
+IsRoom g now Full = IsFull g
+IsRoom g now FullWithinHour = (IsFull g → ⊥) × IsFullWithinHour g now
+IsRoom g now Enough = (IsFull g → ⊥) × (IsFullWithinHour g now → ⊥)
+
+-- ---- rolls
+
+-- the volume was begun so many hours ago
+abbrev pub HasItsHours : Limits → Growth → (now : ℕ) → Type 0
+HasItsHours l g now = g.opened + 3600000 * l.volume_hours ≤ now
+
+-- the server was told to, the volume has its lines or its hours, or it is full
+abbrev pub IsRollDue : Limits → Growth → (now : ℕ) → Told → Type 0
+IsRollDue l g now told =
+    (told ≡ ToRoll) ⊎ ((l.volume_lines ≤ lines_written g) ⊎ (HasItsHours l g now ⊎ IsFull g))
+
+-- the rules forbid a roll while the partner is taken for down, and while it has yet to acknowledge a seized unit
+abbrev pub bar_by : {R P : Type 0} → (down : Option R) (mark : Option P) → Option Bar
+bar_by (Some d) mark = Some PartnerDown
+bar_by None (Some m) = Some UnitMarked
+bar_by None None = None
+
+-- what is owed where a roll is due or not, and something may forbid it
+abbrev pub IsRoll : (due : Type 0) → Option Bar → Roll → Type 0
+IsRoll due bar NotDue = due → ⊥
+IsRoll due None Due = due
+IsRoll due (Some b) (Forbidden c) = due × (c ≡ b)
+IsRoll due bar roll = ⊥

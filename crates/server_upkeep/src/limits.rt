@@ -1,0 +1,134 @@
+//! When a server owes something.
+
+ghost use Rattle.std.specs.Prelude.{◌≡◌, ◌↔◌, IsTrue, IfSome, IsNone};
+ghost use Rattle.server_upkeep.specs.Upkeep.{AreLimits, IsContactDue, HasItsHours, IsRollDue, IsRoll, IsRoom};
+
+use crate::growth::{Growth, HOUR};
+use crate::owed::{Bar, Owed, Roll, Room, Told};
+use lead_time::Reading;
+use std::marker::Model;
+
+/// When a running server owes a contact or a roll. Contracts see the record of specs/Upkeep.
+#[derive(Clone, Copy, Debug, PartialEq, Eq)]
+pub struct Upkeep {
+    heartbeat: u32,
+    volume_lines: u32,
+    volume_hours: u32,
+}
+
+impl Model for Upkeep {
+    ghost use Rattle.server_upkeep.specs.Upkeep.{Limits, AreLimits};
+
+    ghost Value = { Limits };
+
+    ghost view = { λ u. record {
+      heartbeat = u.heartbeat;
+      volume_lines = u.volume_lines;
+      volume_hours = u.volume_hours;
+    } };
+
+    ghost invariant = { λ u. AreLimits (record {
+      heartbeat = u.heartbeat;
+      volume_lines = u.volume_lines;
+      volume_hours = u.volume_hours;
+    }) };
+
+    ghost inverse = { λ l. record {
+      heartbeat = l.heartbeat;
+      volume_lines = l.volume_lines;
+      volume_hours = l.volume_hours;
+    } };
+}
+
+impl Upkeep {
+    /// Where settings say nothing: a minute without a line, 200,000 lines, a day.
+    pub const DEFAULT: Upkeep = Upkeep {
+        heartbeat: 60,
+        volume_lines: 200_000,
+        volume_hours: 24,
+    };
+
+    /// A contact after `heartbeat` seconds without a line; a roll after `volume_lines` lines behind the head lines and
+    /// after `volume_hours` hours. `None` where one of them is 0.
+    pub fn new(heartbeat: u32, volume_lines: u32, volume_hours: u32) -> Option<Upkeep>
+        ensures made { IfSome result (λ u.
+            u ≡ record { heartbeat = heartbeat; volume_lines = volume_lines; volume_hours = volume_hours }) }
+        ensures none { IsNone result ↔ (AreLimits (record {
+          heartbeat = heartbeat;
+          volume_lines = volume_lines;
+          volume_hours = volume_hours;
+        }) → ⊥) }
+    {
+        if heartbeat == 0 || volume_lines == 0 || volume_hours == 0 {
+            return None;
+        }
+        Some(Upkeep {
+            heartbeat,
+            volume_lines,
+            volume_hours,
+        })
+    }
+
+    /// Returns whether nothing was written for so long.
+    fn is_contact_due(&self, growth: &Growth, now: Reading) -> bool
+        ensures { IsTrue result ↔ IsContactDue self.now growth.now now }
+    {
+        growth.written.milliseconds() + 1000 * u64::from(self.heartbeat) <= now.milliseconds()
+    }
+
+    /// Returns whether the volume is old enough.
+    fn has_its_hours(&self, growth: &Growth, now: Reading) -> bool
+        ensures { IsTrue result ↔ HasItsHours self.now growth.now now }
+    {
+        growth.opened.milliseconds() + HOUR * u64::from(self.volume_hours) <= now.milliseconds()
+    }
+
+    /// Returns whether the volume is to be followed, where the rules let.
+    fn is_roll_due(&self, growth: &Growth, now: Reading, told: Told) -> bool
+        ensures { IsTrue result ↔ IsRollDue self.now growth.now now told }
+    {
+        told == Told::ToRoll
+            || growth.lines_written() >= self.volume_lines as usize
+            || self.has_its_hours(growth, now)
+            || growth.is_full()
+    }
+
+    /// Whether the volume is to be followed.
+    fn roll_owed(&self, growth: &Growth, now: Reading, bar: Option<Bar>, told: Told) -> Roll
+        ensures { IsRoll (IsRollDue self.now growth.now now told) bar result }
+    {
+        if !self.is_roll_due(growth, now, told) {
+            return Roll::NotDue;
+        }
+        match bar {
+            Some(bar) => Roll::Forbidden(bar),
+            None => Roll::Due,
+        }
+    }
+
+    /// What a server owes whose clock reads `now`, by what its volume has, what forbids a roll, and what it was told.
+    pub fn owed(&self, growth: &Growth, now: Reading, bar: Option<Bar>, told: Told) -> Owed
+        ensures contact { IsTrue result.contact ↔ IsContactDue self.now growth.now now }
+        ensures roll { IsRoll (IsRollDue self.now growth.now now told) bar result.roll }
+        ensures room { IsRoom growth.now now result.room }
+    {
+        Owed {
+            contact: self.is_contact_due(growth, now),
+            roll: self.roll_owed(growth, now, bar, told),
+            room: room_left(growth, now),
+        }
+    }
+}
+
+/// How much room the volume has.
+fn room_left(growth: &Growth, now: Reading) -> Room
+    ensures { IsRoom growth.now now result }
+{
+    if growth.is_full() {
+        Room::Full
+    } else if growth.is_full_within_hour(now) {
+        Room::FullWithinHour
+    } else {
+        Room::Enough
+    }
+}
