@@ -1,8 +1,11 @@
 //! What one end of the link hears over a wire, or over two, and what is to come of it.
 
+use crate::answers::REQUESTED;
 use crate::books::{A_OPENED, PRIMARY, SECONDARY, SMALL};
 use crate::frames::*;
+use crate::posts::{Meeting, Scene};
 use node_threads::NodeError;
+use std::alloc::Global;
 
 /// A link's end, what it hears, and what is to come of it.
 #[derive(Drop)]
@@ -16,6 +19,8 @@ pub struct Case {
     pub closed: u64,
     /// Whether the workers have ended before.
     pub is_over: bool,
+    /// How many times the client's REQUEST comes to a worker, before the wire is idle: once, or not at all.
+    pub datagrams: u32,
     /// What comes over the wire.
     pub heard: &'static [&'static str],
     /// How many octets a read brings, at most.
@@ -29,6 +34,17 @@ pub struct Case {
     /// How many of the first writes of the last wire are let fail in turn, and how many of its first reads.
     pub failing_writes: usize,
     pub failing_reads: usize,
+}
+
+impl Case {
+    /// What comes to the worker. Its answer and the wire's first pause wait for each other.
+    pub fn scene(&self, alloc: Global) -> Scene {
+        let mut scene = Scene::of(alloc, &[REQUESTED], 1);
+        if self.datagrams > 0 {
+            scene.sending = Meeting::of(2);
+        }
+        scene
+    }
 }
 
 /// The primary's journal once it gave a lease.
@@ -92,6 +108,16 @@ const B_ANSWERED: &str = "pd-journal 1 B
 2 9000 pool 2001:0db8:0000:0000:0000:0000:0000:0000/48 56
 3 10000 take 0 1 update active 2001:0db8:0000:0000:0000:0000:0000:0000/56 1 0 7210000 00000001 00030001020000000001
 4 10000 send 0 1 reply accept 2001:0db8:0000:0000:0000:0000:0000:0000/56 1 1 1
+5 10000 close
+end 5
+";
+
+/// The primary's journal once it told of its lease.
+const A_TOLD: &str = "pd-journal 1 A
+1 9000 open 2000 3600 3600
+2 9000 pool 2001:0db8:0000:0000:0000:0000:0000:0000/48 56
+3 10000 grant 00030001020000000001 00000001 2001:0db8:0000:0000:0000:0000:0000:0000/56 3600
+4 10000 send 0 1 update active 2001:0db8:0000:0000:0000:0000:0000:0000/56 1 0 7210000 00000001 00030001020000000001
 5 10000 close
 end 5
 ";
@@ -177,6 +203,7 @@ pub const OF_PRIMARY: Case = Case {
     at: Some(10_000),
     closed: 10_000,
     is_over: false,
+    datagrams: 0,
     heard: &[CONNECT_REPLY],
     step: 4096,
     again: &[],
@@ -205,8 +232,15 @@ const OF_LEASE: Case = Case {
 };
 
 /// What an end hears that joins, talks and goes; and where each write and each read fails in turn.
-pub const CASES: [Case; 14] = [
+pub const CASES: [Case; 15] = [
     OF_PRIMARY,
+    // A lease that the worker gives is told at the next pause.
+    Case {
+        datagrams: 1,
+        written: &[CONNECT, UPDATE],
+        journal: A_TOLD,
+        ..OF_PRIMARY
+    },
     // A contact is taken, whatever a read brings.
     Case {
         heard: &[CONNECT, CONTACT],

@@ -4,10 +4,10 @@ ghost use Rattle.std.specs.Prelude.{◌≡◌, length};
 
 use crate::books::{book_of, check_closed, octets};
 use crate::cases::{CASES, Case};
-use crate::posts::{Meeting, Still};
+use crate::posts::{Meeting, Post, Scene, Still};
 use crate::wires::{Cut, Script};
-use locked_book::{BookName, SharedBook};
-use node_threads::{NodeError, Turns, Unheard, serve_link};
+use locked_book::{BookName, Pass, SharedBook};
+use node_threads::{NodeError, Partner, Turns, Unheard, serve_datagrams, serve_link};
 use server_book::{Book, Settings, read_settings};
 use std::alloc::Global;
 use std::marker::Brand;
@@ -15,16 +15,72 @@ use std::process::Abort;
 use std::sync::Wait;
 use std::sync::ledger::Blank;
 use std::test::Fail;
+use std::thread;
+use std::thread::Threads;
 
-/// What becomes of a link's end.
+/// What a node leaves: its book, what became of its worker, and of its link's end.
 #[derive(Drop)]
 pub struct Done {
-    pub ended: Result<(), NodeError>,
     pub book: Book,
+    pub received: Result<u32, NodeError>,
+    pub ended: Result<(), NodeError>,
 }
 
-/// Returns what becomes of a link's end over one wire, and then over a second, if that brings anything.
-fn by_link<N: BookName, R: Wait>(
+/// The link's end over one wire, and then over a second, if that brings anything.
+fn linked<N: BookName, R: Wait>(
+    rt: &R,
+    alloc: Global,
+    shared: &SharedBook<N>,
+    pass: Pass<N>,
+    settings: &Settings,
+    turns: &Turns,
+    clock: &Still,
+    wire: &mut Script<'_, '_>,
+    second: &mut Script<'_, '_>,
+) -> (Pass<N>, Result<(), NodeError>) {
+    let mut pass = pass;
+    let mut ended = serve_link(
+        rt, alloc, shared, &mut pass, settings, clock, turns, &Unheard, wire,
+    );
+    if second.brings_any() {
+        ended = serve_link(
+            rt, alloc, shared, &mut pass, settings, clock, turns, &Unheard, second,
+        );
+    }
+    (pass, ended)
+}
+
+/// A worker at a mailbox.
+fn worked<N: BookName, R: Wait>(
+    rt: &R,
+    alloc: Global,
+    shared: &SharedBook<N>,
+    pass: Pass<N>,
+    settings: &Settings,
+    turns: &Turns,
+    clock: &Still,
+    scene: &Scene,
+) -> (Pass<N>, Result<u32, NodeError>) {
+    let mut pass = pass;
+    let mut post = Post { scene, next: 0 };
+    let own = settings.duid();
+    let received = serve_datagrams(
+        rt,
+        alloc,
+        shared,
+        &mut pass,
+        own,
+        &mut post,
+        clock,
+        turns,
+        Partner::Up,
+        &Unheard,
+    );
+    (pass, received)
+}
+
+/// Returns what a node leaves: a worker, and beside it the link's end.
+fn by_node<N: BookName + Send + Sync, R: Threads + Wait + Sync>(
     rt: &R,
     alloc: Global,
     blank: Blank,
@@ -32,53 +88,59 @@ fn by_link<N: BookName, R: Wait>(
     settings: &Settings,
     turns: &Turns,
     clock: &Still,
-    wire: &mut Script<'_>,
-    second: &mut Script<'_>,
+    scene: &Scene,
+    wire: &mut Script<'_, '_>,
+    second: &mut Script<'_, '_>,
 ) -> Option<Done>
     requires name { blank.name ≡ N.name }
-    requires passes { (blank.parts ≡ N.parts) × (N.parts ≡ 1) × (N.passes ≡ 1) }
+    requires passes { (blank.parts ≡ N.parts) × (N.parts ≡ 2) × (N.passes ≡ 2) }
     requires lines { N.opened ≡ length book.lines }
 {
-    let Ok((shared, mut passes)) = SharedBook::<N>::open(alloc, blank, book, 1) else {
+    let Ok((shared, mut passes)) = SharedBook::<N>::open(alloc, blank, book, 2) else {
         return None;
     };
-    let mut pass = passes.pop()?;
-    let mut ended = serve_link(
-        rt, alloc, &shared, &mut pass, settings, clock, turns, &Unheard, wire,
+    let one = passes.pop()?;
+    let other = passes.pop()?;
+    let lent = &shared;
+    let ((one, ended), (other, received)) = thread::join(
+        rt,
+        move || linked(rt, alloc, lent, one, settings, turns, clock, wire, second),
+        move || worked(rt, alloc, lent, other, settings, turns, clock, scene),
     );
-    if second.brings_any() {
-        ended = serve_link(
-            rt, alloc, &shared, &mut pass, settings, clock, turns, &Unheard, second,
-        );
-    }
-    passes.push(pass).ok()?;
+    passes.push(one).ok()?;
+    passes.push(other).ok()?;
     match shared.close(passes) {
-        Ok(book) => Some(Done { ended, book }),
+        Ok(book) => Some(Done {
+            book,
+            received,
+            ended,
+        }),
         Err(_) => None,
     }
 }
 
-/// Lets an end live its case over these wires, out of a book.
+/// Lets a node live its case over these wires, out of a book.
 pub fn live(
-    rt: &impl Wait,
+    rt: &(impl Threads + Wait + Sync),
     alloc: Global,
     case: &Case,
     book: Book,
-    wire: &mut Script<'_>,
-    second: &mut Script<'_>,
+    scene: &Scene,
+    wire: &mut Script<'_, '_>,
+    second: &mut Script<'_, '_>,
 ) -> Result<Done, Fail> {
     let settings = read_settings(alloc, case.settings.as_bytes())?;
     let clock = Still {
         at: case.at,
         asking: Meeting::of(1),
     };
-    let turns = Turns::new(0);
+    let turns = Turns::new(case.datagrams);
     if case.is_over {
         turns.end(rt);
     }
-    let blank = Blank::new(1);
-    match by_link::<Brand, _>(
-        rt, alloc, blank, book, &settings, &turns, &clock, wire, second,
+    let blank = Blank::new(2);
+    match by_node::<Brand, _>(
+        rt, alloc, blank, book, &settings, &turns, &clock, scene, wire, second,
     ) {
         Some(done) => Ok(done),
         None => Err(Fail::from("not closed")),
@@ -129,15 +191,22 @@ fn check_last(
 }
 
 /// That all comes of a case which is to come of it, where its last wire fails then.
-fn check(rt: &(impl Abort + Wait), alloc: Global, case: &Case, cut: Cut) -> Result<(), Fail> {
+fn check(
+    rt: &(impl Abort + Threads + Wait + Sync),
+    alloc: Global,
+    case: &Case,
+    cut: Cut,
+) -> Result<(), Fail> {
     let heard = joined(alloc, case.heard)?;
     let again = joined(alloc, case.again)?;
     let is_one = again.is_empty();
     let first_cut = if is_one { cut } else { Cut::Never };
-    let mut wire = Script::new(alloc, &heard, case.step, first_cut);
-    let mut second = Script::new(alloc, &again, case.step, cut);
+    let scene = case.scene(alloc);
+    let mut wire = Script::new(alloc, &heard, case.step, first_cut, &scene.sending);
+    let mut second = Script::new(alloc, &again, case.step, cut, &scene.sending);
     let book = book_of(alloc, case.begun)?;
-    let mut done = live(rt, alloc, case, book, &mut wire, &mut second)?;
+    let mut done = live(rt, alloc, case, book, &scene, &mut wire, &mut second)?;
+    assert_eq!(rt; done.received, Ok(case.datagrams));
     if !is_one {
         assert_eq!(rt;
             wire.written.as_slice(),
@@ -159,7 +228,11 @@ fn check(rt: &(impl Abort + Wait), alloc: Global, case: &Case, cut: Cut) -> Resu
 }
 
 /// That all comes of a case, and that each write of its last wire which fails ends it, and each read.
-fn check_all(rt: &(impl Abort + Wait), alloc: Global, case: &Case) -> Result<(), Fail> {
+fn check_all(
+    rt: &(impl Abort + Threads + Wait + Sync),
+    alloc: Global,
+    case: &Case,
+) -> Result<(), Fail> {
     check(rt, alloc, case, Cut::Never)?;
     for count in 0..case.failing_writes {
         check(rt, alloc, case, Cut::Write(count))?;

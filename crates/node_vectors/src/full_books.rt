@@ -16,6 +16,7 @@ use std::process::Abort;
 use std::sync::Wait;
 use std::sync::atomic::Ordering;
 use std::test::Fail;
+use std::thread::Threads;
 
 /// The most lines behind which there is room for more than the close line: 2^20 - 2.
 const MOST_LINES: usize = 1_048_574;
@@ -41,16 +42,17 @@ fn fill(book: &mut Book) -> Result<(), Fail> {
 
 /// That the link's end of a full book lives this case over each of two wires, and adds no line.
 fn check_link(
-    rt: &(impl Abort + Wait),
+    rt: &(impl Abort + Threads + Wait + Sync),
     alloc: Global,
     case: &Case,
     book: Book,
 ) -> Result<(), Fail> {
     let heard = joined(alloc, case.heard)?;
     let written = joined(alloc, case.written)?;
-    let mut wire = Script::new(alloc, &heard, case.step, Cut::Never);
-    let mut second = Script::new(alloc, &heard, case.step, Cut::Never);
-    let done = live(rt, alloc, case, book, &mut wire, &mut second)?;
+    let scene = case.scene(alloc);
+    let mut wire = Script::new(alloc, &heard, case.step, Cut::Never, &scene.sending);
+    let mut second = Script::new(alloc, &heard, case.step, Cut::Never, &scene.sending);
+    let done = live(rt, alloc, case, book, &scene, &mut wire, &mut second)?;
     assert_eq!(rt; done.ended, case.ended);
     assert_eq!(rt; wire.written.as_slice(), written.as_slice());
     assert_eq!(rt; second.written.as_slice(), written.as_slice());

@@ -31,7 +31,7 @@ impl Meeting {
     }
 
     /// Begins a call.
-    fn begin(&self) {
+    pub fn begin(&self) {
         if self.begun.fetch_add(1, Ordering::SeqCst) > 0 {
             return;
         }

@@ -1,5 +1,6 @@
 //! A wire in memory.
 
+use crate::posts::Meeting;
 use node_threads::{Got, NetFault, PAUSES_A_SECOND, Wire};
 use std::alloc::Global;
 
@@ -16,23 +17,32 @@ pub enum Cut {
 /// A wire that brings octets, so many a read at most, then is idle for two seconds, and then ends. It keeps what is
 /// written.
 #[derive(Drop)]
-pub struct Script<'a> {
+pub struct Script<'a, 'p> {
     octets: &'a [u8],
     step: usize,
     idles: u32,
+    /// What its first pause waits for.
+    pause: &'p Meeting,
     /// How many reads and how many writes succeed.
     reads: usize,
     writes: usize,
     pub written: Vec<u8>,
 }
 
-impl<'a> Script<'a> {
+impl<'a, 'p> Script<'a, 'p> {
     /// A wire whose reads bring `step` octets at most.
-    pub fn new(alloc: Global, octets: &'a [u8], step: usize, cut: Cut) -> Script<'a> {
+    pub fn new(
+        alloc: Global,
+        octets: &'a [u8],
+        step: usize,
+        cut: Cut,
+        pause: &'p Meeting,
+    ) -> Script<'a, 'p> {
         Script {
             octets,
             step,
             idles: 2 * PAUSES_A_SECOND,
+            pause,
             reads: if let Cut::Read(count) = cut {
                 count
             } else {
@@ -54,6 +64,7 @@ impl<'a> Script<'a> {
 
     /// Is idle once more, if its two seconds aren't over.
     fn is_idle(&mut self) -> bool {
+        self.pause.begin();
         match self.idles.checked_sub(1) {
             Some(left) => {
                 self.idles = left;
@@ -64,7 +75,7 @@ impl<'a> Script<'a> {
     }
 }
 
-impl Wire for Script<'_> {
+impl Wire for Script<'_, '_> {
     ghost brings = { λ old octets new. Unit };
 
     ghost writes = { λ old octets new. Unit };
