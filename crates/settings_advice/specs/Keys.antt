@@ -2,7 +2,8 @@
 use Rattle.std.specs.Prelude.{ℕ, List, codes}
 use Rattle.settings_advice.specs.declared.key.Key.{Key}
 use Rattle.settings_advice.specs.declared.key.Key.TheVariants.{Role, Duid, SkewMs, Mclt, Life, TransitMs, Listen, Link}
-use Rattle.settings_advice.specs.declared.key.Key.TheVariants.{Workers, Pool, Prefix, Unit}
+use Rattle.settings_advice.specs.declared.key.Key.TheVariants.{Workers, Heartbeat, VolumeLines, VolumeHours, Alone}
+use Rattle.settings_advice.specs.declared.key.Key.TheVariants.{Pool, Prefix, Unit}
 
 abbrev pub key_name : Key → List ℕ
 key_name Role = codes "role"
@@ -14,6 +15,10 @@ key_name TransitMs = codes "transit_ms"
 key_name Listen = codes "listen"
 key_name Link = codes "link"
 key_name Workers = codes "workers"
+key_name Heartbeat = codes "heartbeat"
+key_name VolumeLines = codes "volume_lines"
+key_name VolumeHours = codes "volume_hours"
+key_name Alone = codes "alone"
 key_name Pool = codes "pool"
 key_name Prefix = codes "prefix"
 key_name Unit = codes "unit"

@@ -18,6 +18,10 @@ pub enum Key {
     Listen,
     Link,
     Workers,
+    Heartbeat,
+    VolumeLines,
+    VolumeHours,
+    Alone,
     Pool,
     /// Of a pool.
     Prefix,
@@ -25,8 +29,9 @@ pub enum Key {
     Unit,
 }
 
-/// The keys of a node's settings.
-pub const KEYS: [Key; 10] = [
+/// The keys of a node's settings. `heartbeat`, `volume_lines`, `volume_hours` and `alone` are read by a server that goes
+/// on for years, and passed over by all others: no value there is a reason to refuse settings.
+pub const KEYS: [Key; 14] = [
     Key::Role,
     Key::Duid,
     Key::SkewMs,
@@ -36,6 +41,10 @@ pub const KEYS: [Key; 10] = [
     Key::Listen,
     Key::Link,
     Key::Workers,
+    Key::Heartbeat,
+    Key::VolumeLines,
+    Key::VolumeHours,
+    Key::Alone,
     Key::Pool,
 ];
 
@@ -57,6 +66,10 @@ impl Key {
             Key::Listen => "listen",
             Key::Link => "link",
             Key::Workers => "workers",
+            Key::Heartbeat => "heartbeat",
+            Key::VolumeLines => "volume_lines",
+            Key::VolumeHours => "volume_hours",
+            Key::Alone => "alone",
             Key::Pool => "pool",
             Key::Prefix => "prefix",
             Key::Unit => "unit",

@@ -1,0 +1,104 @@
+-- What a server that goes on for years runs by, of the members of a TOML document.
+use Rattle.std.specs.Prelude.{◌≡◌, ◌&&◌, ⊤, ℕ, ℤ, pos, negsuc, Bool, true, false, nat_le, List, codes, Option, Some, None}
+use Rattle.std.specs.Prelude.{if◌then◌else◌, IsSome, ◌⊎◌}
+use Rattle.toml.specs.Data.{Data, Members, get_member, as_integer, as_bool}
+use Rattle.text_fields.specs.Parsing.{◌>>=◌}
+use Rattle.book_state.specs.Places.{AreDisjoint}
+use Rattle.server_settings.specs.Settings.{ServerSettings, AreWithin}
+use Rattle.settings_text.specs.Document.{IsDocument, named_in}
+use Rattle.server_upkeep.specs.Upkeep.{Limits}
+use Rattle.server_settings.specs.declared.error.OpenError.{OpenError}
+use Rattle.server_settings.specs.declared.error.OpenError.TheVariants.{Overlap}
+use Rattle.serve_settings.specs.declared.error.ServeSettingsError.{ServeSettingsError}
+use Rattle.serve_settings.specs.declared.error.ServeSettingsError.TheVariants.{Node, Heartbeat, VolumeLines, VolumeHours}
+use Rattle.serve_settings.specs.declared.error.ServeSettingsError.TheVariants.{Alone, NoPartner, PartnerOfAlone}
+
+-- ---- numbers
+
+abbrev pub within : ℕ → ℤ → Option ℕ
+within most (pos n) = if nat_le 1 n && nat_le n most then Some n else None
+within most (negsuc n) = None
+
+-- a whole number from 1 to the limit
+unfoldable pub counted : ℕ → Data → Option ℕ
+counted most value = as_integer value >>= within most
+
+abbrev pub counted_or : ℕ → ℕ → Option Data → Option ℕ
+counted_or unsaid most None = Some unsaid
+counted_or unsaid most (Some value) = counted most value
+
+-- the same at a key, or what is meant where the key isn't there
+unfoldable pub limit_at : List ℕ → ℕ → ℕ → Members → Option ℕ
+limit_at key unsaid most members = counted_or unsaid most (get_member key members)
+
+abbrev pub heartbeat_in : Members → Option ℕ
+heartbeat_in members = limit_at (codes "heartbeat") 60 31536000 members
+
+abbrev pub volume_lines_in : Members → Option ℕ
+volume_lines_in members = limit_at (codes "volume_lines") 200000 1048575 members
+
+abbrev pub volume_hours_in : Members → Option ℕ
+volume_hours_in members = limit_at (codes "volume_hours") 24 8760 members
+
+-- when the server owes something
+unfoldable pub limits_in : Members → Option Limits
+limits_in members = do
+  heartbeat ← heartbeat_in members
+  volume_lines ← volume_lines_in members
+  volume_hours ← volume_hours_in members
+  Some (record { heartbeat = heartbeat; volume_lines = volume_lines; volume_hours = volume_hours })
+
+abbrev pub IsLimitFault : Members → ServeSettingsError → Type 0
+IsLimitFault m Heartbeat = heartbeat_in m ≡ None
+IsLimitFault m VolumeLines = volume_lines_in m ≡ None
+IsLimitFault m VolumeHours = volume_hours_in m ≡ None
+IsLimitFault m _ = ⊥
+
+-- ---- the partner
+
+abbrev pub bool_or : Bool → Option Data → Option Bool
+bool_or unsaid None = Some unsaid
+bool_or unsaid (Some value) = as_bool value
+
+-- whether the document says that the server is alone
+unfoldable pub alone_in : Members → Option Bool
+alone_in members = bool_or false (get_member (codes "alone") members)
+
+abbrev pub link_in : Members → Option Data
+link_in members = get_member (codes "link") members
+
+-- it names a partner, or says that there is none
+abbrev pub HasPartnerOrIsAlone : Members → Type 0
+HasPartnerOrIsAlone members =
+    ((alone_in members ≡ Some false) × IsSome (link_in members))
+    ⊎ ((alone_in members ≡ Some true) × (link_in members ≡ None))
+
+abbrev pub IsPartnerFault : Members → ServeSettingsError → Type 0
+IsPartnerFault m Alone = alone_in m ≡ None
+IsPartnerFault m NoPartner = (alone_in m ≡ Some false) × (link_in m ≡ None)
+IsPartnerFault m PartnerOfAlone = (alone_in m ≡ Some true) × IsSome (link_in m)
+IsPartnerFault m _ = ⊥
+
+-- ---- the document
+
+-- a server runs by what a document says
+pub record IsServed (members : Members) (server : ServerSettings) (upkeep : Limits) : Type 0 where
+  pub named : named_in members ≡ Some server
+  pub limits : limits_in members ≡ Some upkeep
+  pub partner : HasPartnerOrIsAlone members
+
+-- why it doesn't: of a text that no node runs by, that the pools overlap, or nothing; else a fault of the document
+abbrev pub IsNodeRefusal : List ℕ → OpenError → Type 0
+IsNodeRefusal text Overlap =
+    (members : Members) × IsDocument text members
+    × ((s : ServerSettings) × (named_in members ≡ Some s) × AreWithin s × (AreDisjoint s.pools → ⊥))
+IsNodeRefusal text _ = ⊤
+
+abbrev pub IsRefusal : List ℕ → ServeSettingsError → Type 0
+IsRefusal text (Node e) = IsNodeRefusal text e
+IsRefusal text Heartbeat = (members : Members) × IsDocument text members × IsLimitFault members Heartbeat
+IsRefusal text VolumeLines = (members : Members) × IsDocument text members × IsLimitFault members VolumeLines
+IsRefusal text VolumeHours = (members : Members) × IsDocument text members × IsLimitFault members VolumeHours
+IsRefusal text Alone = (members : Members) × IsDocument text members × IsPartnerFault members Alone
+IsRefusal text NoPartner = (members : Members) × IsDocument text members × IsPartnerFault members NoPartner
+IsRefusal text PartnerOfAlone = (members : Members) × IsDocument text members × IsPartnerFault members PartnerOfAlone

@@ -1,0 +1,30 @@
+//! Why settings are refused.
+
+use server_settings::OpenError;
+use thiserror::Error;
+
+/// Why a server that goes on for years doesn't run by settings.
+#[derive(Clone, Copy, Debug, PartialEq, Eq, Error)]
+pub enum ServeSettingsError {
+    /// No node does, or a growth was refused.
+    #[error("{0}")]
+    Node(OpenError),
+    /// What is at `heartbeat` is no number within its limits.
+    #[error("heartbeat: wants a whole number of seconds, 1 to 31536000")]
+    Heartbeat,
+    /// What is at `volume_lines` is no number within its limits.
+    #[error("volume_lines: wants a whole number of lines, 1 to 1048575")]
+    VolumeLines,
+    /// What is at `volume_hours` is no number within its limits.
+    #[error("volume_hours: wants a whole number of hours, 1 to 8760")]
+    VolumeHours,
+    /// What is at `alone` is no truth value.
+    #[error("alone: wants true or false")]
+    Alone,
+    /// There is no `link`, and no `alone = true`.
+    #[error("link: is missing: name the partner's address, or write alone = true for trials without one")]
+    NoPartner,
+    /// There are both.
+    #[error("alone: is true, and link names a partner: leave one of them out")]
+    PartnerOfAlone,
+}

@@ -1,0 +1,21 @@
+//! What a server that goes on for years runs by.
+//!
+//! The document is that of a node (`node_threads`), with four keys more, which may each be left out: `heartbeat`
+//! (seconds), `volume_lines`, `volume_hours` and `alone`. A server has a partner, which `link` names, or its settings
+//! say `alone = true`: so a mistyped key never makes a second server alone on one pool. Which documents are refused,
+//! and by what, is in specs/Serving.
+//!
+//! ```text
+//! let settings = ServeSettings::read(alloc, text)?;
+//! let owed = settings.upkeep.owed(&growth, now, bar, told);
+//! ```
+#![tactic(auto)]
+
+mod error;
+mod limits;
+mod settings;
+#[cfg(test)]
+mod tests;
+
+pub use error::ServeSettingsError;
+pub use settings::ServeSettings;

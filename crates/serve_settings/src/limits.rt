@@ -1,0 +1,100 @@
+//! The keys of a server that goes on for years.
+
+ghost use Rattle.std.specs.Prelude.{◌≡◌, ◌≤◌, IfSome, MatchResult};
+ghost use Rattle.toml.specs.Data.{get_member};
+ghost use Rattle.toml.specs.View.{view, table_view};
+ghost use Rattle.text_fields.specs.Parsing.{Finds};
+ghost use Rattle.serve_settings.specs.Serving.{counted, limit_at, alone_in, limits_in, IsLimitFault};
+ghost use Rattle.serve_settings.specs.Serving.{HasPartnerOrIsAlone, IsPartnerFault};
+
+use crate::error::ServeSettingsError;
+use server_upkeep::Upkeep;
+use toml::{Table, Value};
+
+/// Seconds without a line, where nothing else is said.
+const HEARTBEAT: u32 = 60;
+
+/// Lines of a volume, where nothing else is said.
+const VOLUME_LINES: u32 = 200_000;
+
+/// Hours of a volume, where nothing else is said.
+const VOLUME_HOURS: u32 = 24;
+
+/// Returns the value at a key.
+fn value_at<'a>(table: &'a Table, key: &str) -> Option<&'a Value>
+    ensures { Finds (λ v. view v.now) result (get_member key.now (table_view table.now)) }
+{
+    table.get(key)
+}
+
+/// The whole number from 1 to the limit that a value is.
+#[tactic(auto, unfolding(crate::specs::Serving::counted))]
+fn counted(value: &Value, most: u32) -> Option<u32>
+    ensures number { Finds (λ n. n) result (counted most (view value.now)) }
+    ensures least { IfSome result (λ n. 1 ≤ n) }
+{
+    let number = u32::try_from(value.as_integer()?).ok()?;
+    if 1 <= number && number <= most {
+        Some(number)
+    } else {
+        None
+    }
+}
+
+/// The whole number from 1 to the limit at a key, or what is meant where the key isn't there.
+#[tactic(auto, unfolding(crate::specs::Serving::limit_at))]
+fn limit_at(table: &Table, key: &str, unsaid: u32, most: u32) -> Option<u32>
+    requires { 1 ≤ unsaid }
+    ensures number { Finds (λ n. n) result (limit_at key.now unsaid most (table_view table.now)) }
+    ensures least { IfSome result (λ n. 1 ≤ n) }
+{
+    match value_at(table, key) {
+        Some(value) => counted(value, most),
+        None => Some(unsaid),
+    }
+}
+
+/// Whether a document says that the server is alone.
+#[tactic(auto, unfolding(crate::specs::Serving::alone_in))]
+fn alone_in(table: &Table) -> Option<bool>
+    ensures { Finds (λ b. b) result (alone_in (table_view table.now)) }
+{
+    match value_at(table, "alone") {
+        Some(value) => value.as_bool(),
+        None => Some(false),
+    }
+}
+
+/// When the server owes something. `Heartbeat`, `VolumeLines` or `VolumeHours`, in this order, where that key has no
+/// number within its limits.
+#[tactic(auto, unfolding(crate::specs::Serving::limits_in))]
+pub(crate) fn upkeep_in(table: &Table) -> Result<Upkeep, ServeSettingsError>
+    ensures { MatchResult result (λ u. limits_in (table_view table.now) ≡ Some u) (IsLimitFault (table_view table.now)) }
+{
+    let heartbeat = limit_at(table, "heartbeat", HEARTBEAT, 31_536_000).ok_or(
+        ServeSettingsError::Heartbeat,
+    )?;
+    let volume_lines = limit_at(table, "volume_lines", VOLUME_LINES, 1_048_575).ok_or(
+        ServeSettingsError::VolumeLines,
+    )?;
+    let volume_hours = limit_at(table, "volume_hours", VOLUME_HOURS, 8_760).ok_or(
+        ServeSettingsError::VolumeHours,
+    )?;
+    match Upkeep::new(heartbeat, volume_lines, volume_hours) {
+        Some(upkeep) => Ok(upkeep),
+        None => unreachable!(),
+    }
+}
+
+/// Asks that the server has a partner or is alone. `Alone` where the key has no truth value, `NoPartner` where there is
+/// neither, `PartnerOfAlone` where there are both.
+pub(crate) fn test_partner(table: &Table) -> Result<(), ServeSettingsError>
+    ensures { MatchResult result (λ _. HasPartnerOrIsAlone (table_view table.now)) (IsPartnerFault (table_view table.now)) }
+{
+    let is_alone = alone_in(table).ok_or(ServeSettingsError::Alone)?;
+    match (value_at(table, "link"), is_alone) {
+        (None, false) => Err(ServeSettingsError::NoPartner),
+        (Some(_), true) => Err(ServeSettingsError::PartnerOfAlone),
+        _ => Ok(()),
+    }
+}

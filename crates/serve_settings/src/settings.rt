@@ -1,0 +1,58 @@
+//! Settings out of a TOML document.
+
+ghost use Rattle.std.specs.Prelude.{IfOk, IfErr};
+ghost use Rattle.toml.specs.Data.{Members};
+ghost use Rattle.toml.specs.View.{table_view};
+ghost use Rattle.settings_text.specs.Document.{IsDocument};
+ghost use Rattle.serve_settings.specs.Serving.{IsServed, IsNodeRefusal, IsRefusal};
+
+use crate::error::ServeSettingsError;
+use crate::limits::{test_partner, upkeep_in};
+use node_threads::NodeSettings;
+use server_settings::OpenError;
+use server_upkeep::Upkeep;
+use std::alloc::Global;
+use toml::Table;
+
+/// What a server that goes on for years runs by. It is alone where its ways have no link.
+#[derive(Drop)]
+pub struct ServeSettings {
+    pub node: NodeSettings,
+    /// Where a key isn't there, what [`Upkeep::DEFAULT`] has.
+    pub upkeep: Upkeep,
+}
+
+/// The table of a TOML document.
+fn table_of(alloc: Global, text: &[u8]) -> Result<Table, OpenError>
+    ensures table { IfOk result (λ t. IsDocument text.now (table_view t)) }
+    ensures refused { IfErr result (IsNodeRefusal text.now) }
+{
+    match toml::table_from_slice(alloc, text) {
+        Ok(table) => Ok(table),
+        Err(e) if e.is_memory() => Err(OpenError::Memory),
+        Err(_) => Err(OpenError::Settings),
+    }
+}
+
+impl ServeSettings {
+    /// The settings that a TOML document names: those of a node, and `heartbeat`, `volume_lines`, `volume_hours` and
+    /// `alone`, which may each be left out. `Node` where no node runs by it, or a growth was refused; else `Alone`,
+    /// `NoPartner` or `PartnerOfAlone`; else `Heartbeat`, `VolumeLines` or `VolumeHours`.
+    pub fn read(alloc: Global, text: &[u8]) -> Result<ServeSettings, ServeSettingsError>
+        ensures served { IfOk result (λ s. (members : Members) × IsDocument text.now members
+            × IsServed members s.node.server s.upkeep) }
+        ensures refused { IfErr result (IsRefusal text.now) }
+    {
+        let node = match NodeSettings::read(alloc, text) {
+            Ok(node) => node,
+            Err(error) => return Err(ServeSettingsError::Node(error)),
+        };
+        let table = match table_of(alloc, text) {
+            Ok(table) => table,
+            Err(error) => return Err(ServeSettingsError::Node(error)),
+        };
+        test_partner(&table)?;
+        let upkeep = upkeep_in(&table)?;
+        Ok(ServeSettings { node, upkeep })
+    }
+}

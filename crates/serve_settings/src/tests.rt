@@ -1,0 +1,124 @@
+//! Documents, and what they are read as or refused by.
+
+use crate::error::ServeSettingsError;
+use crate::settings::ServeSettings;
+use server_settings::OpenError;
+use server_upkeep::Upkeep;
+use std::alloc::{AllocError, Global};
+use std::test::Fail;
+
+/// The keys that each document has.
+const NODE: &str = "\
+role = \"primary\"
+duid = \"0003000102000000000a\"
+skew_ms = 2000
+mclt = 600
+life = 3600
+listen = \"[::]:547\"
+workers = 1
+";
+
+const POOL: &str = "\
+[[pool]]
+prefix = \"2001:db8::/48\"
+unit = 56
+";
+
+const LINK: &str = "link = \"[2001:db8::b]:647\"\n";
+
+/// The limits of the document with some keys more, or why it is refused.
+fn limits(alloc: Global, keys: &str) -> Result<Result<Upkeep, ServeSettingsError>, AllocError> {
+    let text = format!(in alloc; "{NODE}{keys}{POOL}")?;
+    Ok(match ServeSettings::read(alloc, text.as_bytes()) {
+        Ok(settings) => Ok(settings.upkeep),
+        Err(error) => Err(error),
+    })
+}
+
+/// Keys of documents that are refused, and by what.
+const REFUSED: [(&str, ServeSettingsError); 15] = [
+    ("", ServeSettingsError::NoPartner),
+    (
+        "lnik = \"[2001:db8::b]:647\"\n",
+        ServeSettingsError::NoPartner,
+    ),
+    ("alone = false\n", ServeSettingsError::NoPartner),
+    ("alone = \"true\"\n", ServeSettingsError::Alone),
+    ("alone = 1\n", ServeSettingsError::Alone),
+    (
+        "alone = true\nheartbeat = 0\n",
+        ServeSettingsError::Heartbeat,
+    ),
+    (
+        "alone = true\nheartbeat = 31536001\n",
+        ServeSettingsError::Heartbeat,
+    ),
+    (
+        "alone = true\nheartbeat = \"60\"\n",
+        ServeSettingsError::Heartbeat,
+    ),
+    (
+        "alone = true\nvolume_lines = -1\n",
+        ServeSettingsError::VolumeLines,
+    ),
+    (
+        "alone = true\nvolume_lines = 1048576\n",
+        ServeSettingsError::VolumeLines,
+    ),
+    (
+        "alone = true\nvolume_hours = 0\n",
+        ServeSettingsError::VolumeHours,
+    ),
+    (
+        "alone = true\nvolume_hours = 8761\n",
+        ServeSettingsError::VolumeHours,
+    ),
+    (
+        "alone = true\nvolume_hours = 1.5\n",
+        ServeSettingsError::VolumeHours,
+    ),
+    (
+        "alone = true\nlink = 647\n",
+        ServeSettingsError::Node(OpenError::Settings),
+    ),
+    (
+        "alone = true\nalone = true\n",
+        ServeSettingsError::Node(OpenError::Settings),
+    ),
+];
+
+#[test]
+fn reads_what_a_server_runs_by(rt: HostRuntime) -> Result<(), Fail> {
+    let alloc = rt.alloc();
+    assert_eq!(rt; limits(alloc, "alone = true\n")?, Ok(Upkeep::DEFAULT));
+    assert_eq!(rt; limits(alloc, LINK)?, Ok(Upkeep::DEFAULT));
+    let greatest =
+        "alone = true\nheartbeat = 31536000\nvolume_lines = 1048575\nvolume_hours = 8760\n";
+    let Some(upkeep) = Upkeep::new(31_536_000, 1_048_575, 8_760) else {
+        panic!(rt; "each is at least 1");
+    };
+    assert_eq!(rt; limits(alloc, greatest)?, Ok(upkeep));
+    let least = "alone = true\nheartbeat = 1\nvolume_lines = 1\nvolume_hours = 1\n";
+    let Some(upkeep) = Upkeep::new(1, 1, 1) else {
+        panic!(rt; "each is at least 1");
+    };
+    assert_eq!(rt; limits(alloc, least)?, Ok(upkeep));
+    Ok(())
+}
+
+#[test]
+fn refuses_each_fault_by_its_name(rt: HostRuntime) -> Result<(), Fail> {
+    let alloc = rt.alloc();
+    for (keys, error) in REFUSED {
+        assert_eq!(rt; limits(alloc, keys)?, Err(error));
+    }
+    let both = format!(in alloc; "alone = true\n{LINK}")?;
+    assert_eq!(rt;
+        limits(alloc, both.as_str())?,
+        Err(ServeSettingsError::PartnerOfAlone)
+    );
+    let overlapping = "alone = true\n[[pool]]\nprefix = \"2001:db8::/52\"\nunit = 56\n";
+    let error = ServeSettingsError::Node(OpenError::Overlap);
+    assert_eq!(rt; limits(alloc, overlapping)?, Err(error));
+    Ok(())
+}
