@@ -1,0 +1,125 @@
+//! A status as lines for a person, each a name and what it is.
+
+use crate::status::{Status, VolumeStatus};
+use crate::sync_times::SyncSummary;
+use crate::traffic::Traffic;
+use crate::units::UnitCounts;
+use crate::writing::{push_moment, role_name, roll_name, room_name};
+use lead_time::Reading;
+use std::alloc::{AllocError, Global};
+
+/// Appends a line that names a moment.
+fn push_at(out: &mut String, alloc: Global, name: &str, moment: Reading) -> Result<(), AllocError> {
+    write!(out, "{name}: ")?;
+    push_moment(out, alloc, moment)?;
+    out.push('\n')
+}
+
+/// Appends a line of what is, and since when.
+fn push_since(
+    out: &mut String,
+    alloc: Global,
+    name: &str,
+    what: &str,
+    since: Option<Reading>,
+) -> Result<(), AllocError> {
+    write!(out, "{name}: {what}")?;
+    if let Some(since) = since {
+        out.push_str(" since ")?;
+        push_moment(out, alloc, since)?;
+    }
+    out.push('\n')
+}
+
+/// Appends a line of counts, each before its name.
+fn push_counts(
+    out: &mut String,
+    name: &str,
+    counts: &[(&'static str, u64)],
+) -> Result<(), AllocError> {
+    write!(out, "{name}:")?;
+    let mut comma = "";
+    for (what, count) in counts {
+        write!(out, "{comma} {count} {what}")?;
+        comma = ",";
+    }
+    out.push('\n')
+}
+
+/// Appends what the server and its clock are.
+fn push_server(out: &mut String, alloc: Global, status: &Status) -> Result<(), AllocError> {
+    let role = role_name(status.role);
+    let clock = status.clock.name();
+    let ahead = status.ahead();
+    writeln!(out, "role: {role}")?;
+    push_at(out, alloc, "time", status.reading)?;
+    writeln!(out, "clock: {clock}, {ahead} ms ahead of the last line")
+}
+
+/// Appends what the volume is.
+fn push_volume(out: &mut String, alloc: Global, volume: &VolumeStatus) -> Result<(), AllocError> {
+    let (number, lines, synced) = (volume.number, volume.lines, volume.synced);
+    let (roll, room) = (roll_name(&volume.roll), room_name(&volume.room));
+    writeln!(out, "volume: {number}")?;
+    writeln!(out, "lines: {lines}, {synced} on the disk")?;
+    push_at(out, alloc, "opened", volume.opened)?;
+    push_at(out, alloc, "written", volume.written)?;
+    writeln!(out, "roll: {roll}")?;
+    writeln!(out, "room: {room}")
+}
+
+/// Appends what is known of the partner.
+fn push_partner(out: &mut String, alloc: Global, status: &Status) -> Result<(), AllocError> {
+    let (standing, link) = (&status.standing, &status.link);
+    push_since(out, alloc, "partner", standing.name(), standing.since())?;
+    push_since(out, alloc, "link", link.name(), link.since())?;
+    match status.heard {
+        Some(heard) => push_at(out, alloc, "heard", heard),
+        None => writeln!(out, "heard: never"),
+    }
+}
+
+/// Appends how many units are what.
+fn push_units(out: &mut String, units: &UnitCounts) -> Result<(), AllocError> {
+    let (due, marked) = (units.due, units.marked);
+    push_counts(out, "units", &units.named())?;
+    writeln!(out, "due: {due}")?;
+    writeln!(out, "marked: {marked}")
+}
+
+/// Appends what came and what was sent.
+fn push_traffic(out: &mut String, traffic: &Traffic) -> Result<(), AllocError> {
+    let (unanswered, late, held) = (traffic.unanswered, traffic.late, traffic.held);
+    push_counts(out, "messages", &traffic.messages.named())?;
+    push_counts(out, "refused", &traffic.faults.named())?;
+    push_counts(out, "answers", &traffic.answers.named())?;
+    writeln!(out, "unanswered: {unanswered}")?;
+    writeln!(out, "late: {late}")?;
+    writeln!(out, "held: {held}")
+}
+
+/// Appends how long syncs took.
+fn push_syncs(out: &mut String, syncs: &Option<SyncSummary>) -> Result<(), AllocError> {
+    match syncs {
+        Some(syncs) => {
+            let (count, median, worst) = (syncs.count, syncs.median, syncs.worst);
+            writeln!(
+                out,
+                "syncs: {count} in a minute, median {median} us, worst {worst} us"
+            )
+        }
+        None => writeln!(out, "syncs: none in a minute"),
+    }
+}
+
+/// Writes lines for a person. `AllocError` where a growth was refused.
+pub(crate) fn lines_of(alloc: Global, status: &Status) -> Result<String, AllocError> {
+    let mut out = String::new(alloc);
+    push_server(&mut out, alloc, status)?;
+    push_volume(&mut out, alloc, &status.volume)?;
+    push_partner(&mut out, alloc, status)?;
+    push_units(&mut out, &status.units)?;
+    push_traffic(&mut out, &status.traffic)?;
+    push_syncs(&mut out, &status.syncs)?;
+    Ok(out)
+}

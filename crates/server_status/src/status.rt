@@ -1,0 +1,141 @@
+//! How a server is.
+
+ghost use Rattle.std.specs.Prelude.{◌≡◌, pos, ◌-ℤ◌};
+
+use crate::json::json_of;
+use crate::lines::lines_of;
+use crate::metrics::metrics_of;
+use crate::request::Form;
+use crate::sync_times::SyncSummary;
+use crate::traffic::Traffic;
+use crate::units::UnitCounts;
+use binding_rules::Role;
+use lead_time::Reading;
+use server_upkeep::{Roll, Room};
+use std::alloc::{AllocError, Global};
+
+/// How a server is, when its clock reads `reading`.
+#[derive(Clone, Copy, Debug, PartialEq, Eq)]
+pub struct Status {
+    pub role: Role,
+    pub reading: Reading,
+    pub clock: ClockState,
+    pub volume: VolumeStatus,
+    pub units: UnitCounts,
+    pub standing: Standing,
+    pub link: Link,
+    /// When the partner's last message was taken, if one was since the server began.
+    pub heard: Option<Reading>,
+    pub traffic: Traffic,
+    /// Of the last minute; none where nothing was synced.
+    pub syncs: Option<SyncSummary>,
+}
+
+/// Whether the clock may go on with the journal.
+#[derive(Clone, Copy, Debug, PartialEq, Eq)]
+pub enum ClockState {
+    Right,
+    /// It reads more than twice the skew below the journal's last line: nothing is served.
+    Behind,
+}
+
+/// The volume that a server writes.
+#[derive(Clone, Copy, Debug, PartialEq, Eq)]
+pub struct VolumeStatus {
+    pub number: u32,
+    /// How many lines it has.
+    pub lines: usize,
+    /// How many of them are on the disk.
+    pub synced: usize,
+    /// The reading of its first line.
+    pub opened: Reading,
+    /// The reading of its last line.
+    pub written: Reading,
+    pub roll: Roll,
+    pub room: Room,
+}
+
+/// What a server takes its partner for.
+#[derive(Clone, Copy, Debug, PartialEq, Eq)]
+pub enum Standing {
+    /// Both serve.
+    Normal,
+    /// It began again, and serves nobody until its partner answers.
+    Waiting { since: Reading },
+    /// It takes its partner for down.
+    Down { since: Reading },
+}
+
+/// How a server is linked to its partner.
+#[derive(Clone, Copy, Debug, PartialEq, Eq)]
+pub enum Link {
+    /// It is alone: its settings name no partner.
+    Alone,
+    /// There is no connection.
+    Apart,
+    Connected { since: Reading },
+}
+
+impl Status {
+    /// By how many milliseconds the clock is ahead of the last line; below 0 where it is behind.
+    pub fn ahead(&self) -> i64
+        ensures { result ≡ pos self.now.reading -ℤ pos self.now.volume.written }
+    {
+        self.reading.milliseconds() as i64 - self.volume.written.milliseconds() as i64
+    }
+
+    /// Writes the status. `AllocError` where a growth was refused.
+    pub fn text(&self, alloc: Global, form: Form) -> Result<String, AllocError> {
+        match form {
+            Form::Lines => lines_of(alloc, self),
+            Form::Json => json_of(alloc, self),
+            Form::Metrics => metrics_of(alloc, self),
+        }
+    }
+}
+
+impl ClockState {
+    pub(crate) fn name(&self) -> &'static str {
+        match self {
+            ClockState::Right => "right",
+            ClockState::Behind => "behind",
+        }
+    }
+}
+
+impl Standing {
+    pub(crate) fn name(&self) -> &'static str {
+        match self {
+            Standing::Normal => "normal",
+            Standing::Waiting { .. } => "waiting",
+            Standing::Down { .. } => "down",
+        }
+    }
+
+    /// Since when the server doesn't take its partner for up, if it doesn't.
+    pub(crate) fn since(&self) -> Option<Reading> {
+        match self {
+            Standing::Normal => None,
+            Standing::Waiting { since } => Some(*since),
+            Standing::Down { since } => Some(*since),
+        }
+    }
+}
+
+impl Link {
+    pub(crate) fn name(&self) -> &'static str {
+        match self {
+            Link::Alone => "alone",
+            Link::Apart => "apart",
+            Link::Connected { .. } => "connected",
+        }
+    }
+
+    /// Since when there is a connection, if there is one.
+    pub(crate) fn since(&self) -> Option<Reading> {
+        match self {
+            Link::Alone | Link::Apart => None,
+            Link::Connected { since } => Some(*since),
+        }
+    }
+}
