@@ -1,0 +1,89 @@
+-- An answer that is owed stays owed while the book grows.
+use Rattle.std.proofs.Common.{◌≡◌, ℕ, List, [], ◌∷◌, ◌++◌, refl, sym, ◌∙◌, ap, subst, append_assoc, append-nil}
+use Rattle.std.specs.List.{AllByRecursion}
+use Rattle.dhcp6_pd.specs.declared.message.ClientMessage.{ClientMessage}
+use Rattle.locked_book.specs.declared.receipt.Receipt.{Receipt}
+use Rattle.client_service.specs.Answering.{AnswerTo, IsTold, IsSilent}
+use Rattle.client_service.specs.declared.partner.Partner.{Partner}
+use Rattle.client_service.specs.declared.silence.Silence.TheVariants.{Memory}
+use Rattle.server_run.specs.declared.leaving.HeldAnswer.{HeldAnswer}
+use Rattle.served_book.specs.Served.{ServedState, receipts_in}
+use Rattle.server_run.specs.Live.{LiveState, Grows}
+use Rattle.server_run.specs.Owing.{HasReceipts, IsOwed}
+
+pub stays_owed : {P : Type 0} (own : List ℕ) (receipts more all : List Receipt) (a : AnswerTo P)
+    → all ≡ receipts ++ more → IsOwed own receipts a → IsOwed own all a
+stays_owed own receipts more all a grows o = record {
+  partner = o.partner;
+  message = o.message;
+  read = o.read;
+  had = o.had;
+  has = o.has;
+  later = o.later ++ more;
+  told = o.told;
+  first = grows ∙ ap (λ (rs : List Receipt). rs ++ more) o.first ∙ append_assoc o.has o.later more;
+}
+
+-- all that are owed stay so
+pub all_owed : {P : Type 0} (own : List ℕ) (receipts more all : List Receipt) (held : List (HeldAnswer P))
+    → all ≡ receipts ++ more → AllByRecursion (λ (h : HeldAnswer P). IsOwed own receipts h.answer) held
+    → AllByRecursion (λ (h : HeldAnswer P). IsOwed own all h.answer) held
+all_owed own receipts more all [] grows owed = tt
+all_owed own receipts more all (h ∷ held) grows owed =
+    (stays_owed own receipts more all h.answer grows owed.0, all_owed own receipts more all held grows owed.1)
+
+-- and one more
+pub one_more_owed : {P : Type 0} (own : List ℕ) (receipts : List Receipt) (held : List (HeldAnswer P))
+    (h : HeldAnswer P) → AllByRecursion (λ (x : HeldAnswer P). IsOwed own receipts x.answer) held
+    → IsOwed own receipts h.answer
+    → AllByRecursion (λ (x : HeldAnswer P). IsOwed own receipts x.answer) (held ++ h ∷ [])
+one_more_owed own receipts [] h owed one = (one, tt)
+one_more_owed own receipts (x ∷ held) h owed one = (owed.0, one_more_owed own receipts held h owed.1 one)
+
+-- an answer that tells what was just added is owed
+pub just_owed : {P : Type 0} (own : List ℕ) (partner : Partner) (m : ClientMessage) (read : ℕ)
+    (had has : List Receipt) (a : AnswerTo P) → IsTold HasReceipts partner own m read had has a.octets a.line
+    → IsOwed own has a
+just_owed own partner m read had has a told = record {
+  partner = partner;
+  message = m;
+  read = read;
+  had = had;
+  has = has;
+  later = [];
+  told = told;
+  first = sym (append-nil has);
+}
+
+-- where nothing was ordered, memory is why there is no answer
+pub nothing_ordered : (own : List ℕ) (partner : Partner) (m : ClientMessage) (read : ℕ) (had : List Receipt)
+    → IsSilent HasReceipts partner own m read had had Memory
+nothing_ordered own partner m read had = ([], sym (append-nil had), (0, [], refl))
+
+-- where nothing was changed, no receipt was added
+pub same_grows : (old new : LiveState) → new ≡ old → (added : List Receipt) × Grows old new added
+same_grows old new same = (
+  [],
+  (
+    ap (λ (s : LiveState). receipts_in s.served) same ∙ sym (append-nil (receipts_in old.served)),
+    λ i. record (same i) { served = new.served },
+  ),
+)
+
+pub held_as : {P : Type 0} (own : List ℕ) (receipts : List Receipt) (held is : List (HeldAnswer P)) → is ≡ held
+    → AllByRecursion (λ (h : HeldAnswer P). IsOwed own receipts h.answer) held
+    → AllByRecursion (λ (h : HeldAnswer P). IsOwed own receipts h.answer) is
+held_as {P} own receipts held is same owed =
+    subst (λ (hs : List (HeldAnswer P)). AllByRecursion (λ (h : HeldAnswer P). IsOwed own receipts h.answer) hs)
+    (sym same) owed
+
+pub held_more : {X : Type 0} (was mid is : List X) (h : X) → is ≡ mid ++ h ∷ [] → mid ≡ was → is ≡ was ++ h ∷ []
+held_more was mid is h more same = more ∙ ap (λ xs. xs ++ h ∷ []) same
+
+-- what is added to the book inside is added to the volume
+pub grows_by : (inside now : LiveState) → inside ≡ now → (new : ServedState) (added : List Receipt)
+    → receipts_in new ≡ receipts_in inside.served ++ added → Grows now (record inside { served = new }) added
+grows_by inside now is new added more = (
+  more ∙ ap (λ (s : LiveState). receipts_in s.served ++ added) is,
+  λ i. record (is i) { served = new },
+)

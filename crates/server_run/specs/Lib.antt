@@ -1,0 +1,7 @@
+pub mod Live
+pub mod Owing
+pub mod Saying
+pub mod Hearing
+pub mod Running
+pub mod Rolling
+pub mod Beginning

@@ -1,0 +1,45 @@
+-- What a server owes its partner: its frames are held back until the lines that they speak of are on the disk.
+use Rattle.std.specs.Prelude.{◌≡◌, ℕ, ◌-◌, List, [], ◌∷◌, ◌++◌, Option, Some, None, IfSome}
+use Rattle.std.specs.List.{AllByRecursion}
+use Rattle.binding_rules.specs.declared.role.Role.{Role}
+use Rattle.journal_lines.specs.declared.event.Event.{Event}
+use Rattle.journal_lines.specs.declared.event.Event.TheVariants.{Base, Send}
+use Rattle.locked_book.specs.declared.receipt.Receipt.{Receipt}
+use Rattle.link_talk.specs.declared.outbox.Handed.{Handed}
+use Rattle.link_talk.specs.Handed.{Said, Greets, Sends, said_of, said_by, greeting_kind}
+use Rattle.link_talk.specs.Receipts.{last_taken}
+use Rattle.link_talk.specs.Turning.{TalkState}
+
+-- One of these receipts says it by its own line; or it greets the partner by the message that was taken last of the
+-- first of these.
+abbrev pub IsBacked : List Receipt → Said → Type 0
+IsBacked receipts (Sends number message) =
+    (r : Receipt) × (front : List Receipt) × (back : List Receipt) × (receipts ≡ front ++ r ∷ back)
+    × (said_by r ≡ Some (Sends number message))
+IsBacked receipts (Greets kind) =
+    (role : Role) × (had : List Receipt) × (later : List Receipt) × (receipts ≡ had ++ later)
+    × (kind ≡ greeting_kind role (last_taken had))
+
+-- all that frames say
+abbrev pub AreBacked : List Receipt → List Handed → Type 0
+AreBacked receipts frames = AllByRecursion (IsBacked receipts) (said_of frames)
+
+-- of a talk, if there is one
+abbrev pub IsTalkBacked : List Receipt → Option TalkState → Type 0
+IsTalkBacked receipts talk = IfSome talk (λ t. AreBacked receipts t.handed)
+
+-- the frames that a talk hands out, if there is one
+abbrev pub handed_of : Option TalkState → List Handed
+handed_of None = []
+handed_of (Some t) = t.handed
+
+-- of a line: the serial of the last message that was sent before it, if it tells one
+abbrev pub before_by : Event → ℕ → ℕ
+before_by (Base numbers) rest = numbers.serial
+before_by (Send message) rest = message.serial - 1
+before_by _ rest = rest
+
+-- up to this serial these receipts don't say what was sent
+abbrev pub sent_before : List Receipt → ℕ
+sent_before [] = 0
+sent_before (r ∷ rs) = before_by r.line.event (sent_before rs)

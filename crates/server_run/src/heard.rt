@@ -1,0 +1,19 @@
+//! What becomes of a datagram.
+
+use client_service::Silence;
+use dhcp6_pd::{ClientKind, PdError};
+use thiserror::Error;
+
+/// What became of a datagram that came.
+#[derive(Clone, Copy, Debug, PartialEq, Eq, Error)]
+pub enum Heard {
+    /// It is a message of this type, and its answer is held back until its lines are on the disk.
+    #[error("its answer is held back")]
+    Answered(ClientKind),
+    /// It is a message, and has no answer.
+    #[error("it has no answer: {0}")]
+    Unanswered(Silence),
+    /// It is no message to the server, or there was no memory to read it.
+    #[error("it is no message: {0}")]
+    Unread(PdError),
+}

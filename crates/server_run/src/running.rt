@@ -1,0 +1,213 @@
+//! A server that runs.
+
+ghost use Rattle.std.specs.Prelude.{◌≡◌, ◌+◌, ◌<◌, ◌∷◌, [], ◌++◌, List, IfOk, IfErr, OnErr, None, vec_len, vec_capacity};
+ghost use Rattle.journal_file.specs.Later.{IsLater, LeavesFirst};
+ghost use Rattle.open_volume.specs.Spelling.{text_lines};
+ghost use Rattle.book_volumes.specs.Volumes.{going_on, HasVolume};
+ghost use Rattle.locked_book.specs.declared.receipt.Receipt.{Receipt as ReceiptValue};
+ghost use Rattle.volume_folder.specs.Names.{AreSettled};
+ghost use Rattle.server_run.specs.Live.{Grows, IsUnsettled, IsNotServed};
+ghost use Rattle.std.specs.List.{AllByRecursion};
+ghost use Rattle.served_book.specs.Served.{receipts_in, IsApplied};
+ghost use Rattle.server_run.specs.Owing.{IsOwed};
+ghost use Rattle.server_run.specs.Saying.{AreBacked, handed_of};
+ghost use Rattle.server_run.specs.Hearing.{IsHeard, partner_of};
+
+use crate::heard::Heard;
+use crate::leaving::{HeldAnswer, Leaving};
+use crate::live_volume::{LiveVolume, Unsettled};
+use client_id::Duid;
+use client_service::{Partner, Silence};
+use dhcp6_pd::decode;
+use lead_time::Reading;
+use link_talk::{Handed, Talk};
+use locked_book::{Receipt, ServeError};
+use order_book::{Book, Order};
+use std::alloc::Global;
+use std::marker::Model;
+use volume_folder::Folder;
+
+/// A server that runs: its book, the file and the folder that keep it, what it holds back, and the talk with its
+/// partner.
+#[derive(Drop)]
+pub struct Running<F: Folder, P: Drop> {
+    pub(crate) alloc: Global,
+    pub(crate) own: Duid,
+    pub(crate) folder: F,
+    pub(crate) volume: LiveVolume<F::File>,
+    pub(crate) held: Vec<HeldAnswer<P>>,
+    pub(crate) talk: Option<Talk>,
+}
+
+impl<F: Folder, P: Drop> Model for Running<F, P> {
+    ghost use Rattle.server_run.specs.Running.{RunState, IsRunning};
+
+    ghost Value = { RunState P };
+
+    ghost view = { λ r. record {
+      own = r.own;
+      names = F.calls r.folder;
+      volume = r.volume;
+      held = r.held.items;
+      talk = r.talk;
+    } };
+
+    ghost invariant = { λ r. IsRunning (record {
+      own = r.own;
+      names = F.calls r.folder;
+      volume = r.volume;
+      held = r.held.items;
+      talk = r.talk;
+    }) };
+}
+
+/// What a server takes its partner for.
+fn partner_of(book: &Book) -> Partner
+    ensures { result ≡ partner_of book.now }
+{
+    match book.down() {
+        Some(_) => Partner::Down,
+        None => Partner::Up,
+    }
+}
+
+/// A server whose lines are all on the disk, and what may leave now.
+#[derive(Drop)]
+pub struct Settled<F: Folder, P: Drop> {
+    pub running: Running<F, P>,
+    pub leaving: Leaving<P>,
+}
+
+impl<F: Folder + Drop, P: Drop> Running<F, P>
+where
+    F::File: Drop,
+{
+    /// A server of an open volume in a folder, which holds nothing back.
+    pub fn new(alloc: Global, own: Duid, folder: F, volume: LiveVolume<F::File>) -> Running<F, P>
+        requires { AreSettled (F.calls folder) }
+        ensures { result ≡ record { own = own; names = F.calls folder; volume = volume; held = []; talk = None } }
+    {
+        Running {
+            alloc,
+            own,
+            folder,
+            volume,
+            held: Vec::new(alloc),
+            talk: None,
+        }
+    }
+
+    /// The book of the open volume.
+    pub fn book(&self) -> &Book
+        ensures { result.now ≡ self.now.volume.served.journal }
+    {
+        self.volume.book()
+    }
+
+    /// Returns how many lines of the book are on the disk.
+    pub fn kept(&self) -> usize
+        ensures { result ≡ self.now.volume.kept }
+    {
+        self.volume.kept()
+    }
+
+    /// Hears a datagram that came from a peer at a reading. Where it is a client's message to this server, its orders
+    /// are done, and the answer is held back until the next `settle`.
+    pub fn hear(&mut self, read: Reading, datagram: &[u8], peer: P) -> Heard
+        ensures heard { IsHeard self.old.own peer datagram.now read self.old.volume self.new.volume
+            self.old.held self.new.held result }
+        ensures grows { (added : List ReceiptValue) × Grows self.old.volume self.new.volume added }
+        ensures rest { self.new ≡ record self.old { volume = self.new.volume; held = self.new.held } }
+    {
+        let message = match decode(self.alloc, datagram, &self.own) {
+            Ok(message) => message,
+            Err(error) => return Heard::Unread(error),
+        };
+        match self.held.reserve(1) {
+            Ok(()) => {}
+            Err(_) => return Heard::Unanswered(Silence::Memory),
+        }
+        let partner = partner_of(self.volume.book());
+        match self
+            .volume
+            .answer(self.alloc, &self.own, partner, read, &message, peer)
+        {
+            Ok(answer) => {
+                hold(&mut self.held, HeldAnswer { answer, read });
+                Heard::Answered(message.kind)
+            }
+            Err(why) => Heard::Unanswered(why),
+        }
+    }
+
+    /// Does what is ordered: adds one line to the book. Of a refusal nothing is changed: it is the book's own, or
+    /// `Memory`.
+    pub fn serve(&mut self, now: Reading, order: &Order) -> Result<Receipt, ServeError>
+        ensures applied { IfOk result
+            (IsApplied self.old.volume.served self.new.volume.served now order.now) }
+        ensures refused { IfErr result (λ e. (self.new.volume ≡ self.old.volume)
+            × IsNotServed self.old.volume.served.journal now order.now e) }
+        ensures grows { (added : List ReceiptValue) × Grows self.old.volume self.new.volume added }
+        ensures rest { self.new ≡ record self.old { volume = self.new.volume } }
+    {
+        self.volume.serve(now, order)
+    }
+
+    /// Puts all lines that the file lacks to it, by one write and one sync, and only then gives what was held back.
+    pub fn settle(self) -> Result<Settled<F, P>, Unsettled<F::File>>
+        ensures volume { IfOk result (λ s. HasVolume s.running.volume.calls (going_on s.running.volume.served.journal)) }
+        ensures served { IfOk result (λ s. s.running.volume.served ≡ self.volume.served) }
+        ensures answers { IfOk result (λ s. (s.leaving.answers.items ≡ self.held) × (s.running.held ≡ [])) }
+        // All that leaves is what these receipts say, and those that aren't older are of the lines that are on the disk.
+        ensures owed { IfOk result (λ s. AllByRecursion (λ h. IsOwed self.own (receipts_in self.volume.served) h.answer)
+            s.leaving.answers.items) }
+        ensures said { IfOk result (λ s. AreBacked (receipts_in self.volume.served) s.leaving.frames.items) }
+        ensures frames { IfOk result (λ s. s.leaving.frames.items ≡ handed_of self.talk) }
+
+        ensures later { IfOk result (λ s. IsLater self.volume.calls s.running.volume.calls) }
+        ensures any_moment { IfOk result (λ s. LeavesFirst (text_lines (going_on self.volume.served.journal))
+            (self.volume.kept + 1) self.volume.calls s.running.volume.calls) }
+        ensures refused { IfErr result (λ e. IsUnsettled self.volume (F.File.calls e.file.device) e.why) }
+    {
+        let Running {
+            alloc,
+            own,
+            folder,
+            volume,
+            held,
+            mut talk,
+        } = self;
+        let volume = volume.settle(alloc)?;
+        let frames = frames_of(alloc, &mut talk);
+        Ok(Settled {
+            running: Running {
+                alloc,
+                own,
+                folder,
+                volume,
+                held: Vec::new(alloc),
+                talk,
+            },
+            leaving: Leaving::new(held, frames),
+        })
+    }
+}
+
+/// Takes the frames that a talk hands out, if there is one.
+fn frames_of(alloc: Global, talk: &mut Option<Talk>) -> Vec<Handed>
+    ensures frames { result.items ≡ handed_of talk.old }
+    ensures none { handed_of talk.new ≡ [] }
+{
+    match talk {
+        Some(talk) => talk.hand_out(),
+        None => Vec::new(alloc),
+    }
+}
+
+/// Holds an answer back behind the others, where there is room.
+fn hold<P: Drop>(held: &mut Vec<HeldAnswer<P>>, answer: HeldAnswer<P>)
+    requires { vec_len held.old < vec_capacity held.old }
+    ensures { held.new.items ≡ held.old.items ++ answer ∷ [] }
+{
+    let _in_place = held.push(answer);
+}

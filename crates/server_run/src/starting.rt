@@ -1,0 +1,174 @@
+//! The start of a server, with what its folder led to.
+
+ghost use Rattle.std.specs.Prelude.{◌≡◌, ◌-◌, ◌≤◌, ◌∷◌, [], length, IfOk};
+ghost use Rattle.torn_disk.specs.Disk.{opened};
+ghost use Rattle.volume_folder.specs.Names.{names_after, AreSettled};
+ghost use Rattle.order_book.specs.NextBook.{MayRoll};
+ghost use Rattle.order_book.specs.declared.order.Order.TheVariants.{Restart};
+ghost use Rattle.server_settings.specs.Settings.{opening};
+ghost use Rattle.locked_book.specs.declared.receipt.Receipt.{Receipt as ReceiptValue};
+ghost use Rattle.served_book.specs.Served.{IsApplied};
+ghost use Rattle.server_run.specs.Beginning.{Begins, BeginsBehind};
+ghost use Rattle.book_volumes.specs.Volumes.{going_on, HasVolume};
+
+use crate::error::BeginFault;
+use crate::live_volume::LiveVolume;
+use crate::rolling::rolled;
+use crate::running::Running;
+use book_volumes::{Begun, begin_first, begin_next, reopen, reopen_ended};
+use lead_time::Reading;
+use locked_book::Receipt;
+use order_book::{Book, Order};
+use served_book::ServedBook;
+use server_settings::Settings;
+use std::alloc::Global;
+use volume_folder::Folder;
+
+/// What a server begins by: its settings, what its clock reads, and the receipts of volumes before the last one.
+#[derive(Drop)]
+pub struct Beginning<'a> {
+    pub alloc: Global,
+    pub settings: &'a Settings,
+    pub now: Reading,
+    pub older: Vec<Receipt>,
+}
+
+/// The server of a volume that was begun behind these receipts.
+fn begun<F: Folder + Drop, P: Drop>(
+    with: Beginning<'_>,
+    folder: F,
+    begun: Begun<F::File>,
+) -> Result<Running<F, P>, BeginFault<F::File>>
+where
+    F::File: Drop,
+    requires names { AreSettled (F.calls folder) }
+    requires file { HasVolume (F.File.calls begun.file.device) (going_on begun.book) }
+    ensures { IfOk result (Begins with.entry.settings.now.duid with.entry.older.items begun.book
+        (length begun.book.lines)) }
+{
+    let Begun { book, file } = begun;
+    let kept = book.journal().len();
+    let served = ServedBook::new(with.alloc, book, with.older)?;
+    let volume = LiveVolume::new(served, file, kept);
+    Ok(Running::new(with.alloc, *with.settings.duid(), folder, volume))
+}
+
+/// Opens the first book of a server, and begins its first volume in a folder that has no file.
+pub fn first<F: Folder + Drop, P: Drop>(
+    with: Beginning<'_>,
+    mut folder: F,
+) -> Result<Running<F, P>, BeginFault<F::File>>
+where
+    F::File: Drop,
+    requires names { AreSettled (F.calls folder) }
+    requires none { (names_after (F.calls folder)).files ≡ 0 }
+    ensures { IfOk result (Begins with.entry.settings.now.duid with.entry.older.items
+        (opening with.entry.settings.now with.entry.now)
+        (length (opening with.entry.settings.now with.entry.now).lines)) }
+{
+    match begin_first(with.alloc, &mut folder, with.now, with.settings) {
+        Ok(first) => begun(with, folder, first),
+        Err(error) => Err(BeginFault::NotBegun(error)),
+    }
+}
+
+/// Goes on with a book whose last line, `restart`, its file lacks, which was opened and held this content.
+pub fn go_on<F: Folder + Drop, P: Drop>(
+    with: Beginning<'_>,
+    folder: F,
+    book: Book,
+    file: F::File,
+    content: &[u8],
+) -> Result<Running<F, P>, BeginFault<F::File>>
+where
+    F::File: Drop,
+    requires names { AreSettled (F.calls folder) }
+    requires opened { F.File.calls file ≡ opened content.now ∷ [] }
+    requires some { 1 ≤ length book.lines }
+    ensures { IfOk result (Begins with.entry.settings.now.duid with.entry.older.items book (length book.lines - 1)) }
+{
+    let lines = book.journal().len();
+    match reopen(with.alloc, file, content, &book, lines) {
+        Ok(file) => {
+            let served = ServedBook::new(with.alloc, book, with.older)?;
+            let volume = LiveVolume::new(served, file, lines - 1);
+            Ok(Running::new(with.alloc, *with.settings.duid(), folder, volume))
+        }
+        Err(error) => Err(BeginFault::NotReopened(error)),
+    }
+}
+
+/// Ends the volume of a closed book, whose file was opened and held this content, and goes on with the next one.
+pub fn end<F: Folder + Drop, P: Drop>(
+    with: Beginning<'_>,
+    mut folder: F,
+    book: Book,
+    file: F::File,
+    content: &[u8],
+) -> Result<Running<F, P>, BeginFault<F::File>>
+where
+    F::File: Drop,
+    requires names { AreSettled (F.calls folder) }
+    requires opened { F.File.calls file ≡ opened content.now ∷ [] }
+    ensures { IfOk result (BeginsBehind with.entry.settings.now.duid with.entry.older.items book with.entry.now) }
+{
+    let lines = book.journal().len();
+    let file = match reopen(with.alloc, file, content, &book, lines + 1) {
+        Ok(file) => file,
+        Err(error) => return Err(BeginFault::NotReopened(error)),
+    };
+    let served = ServedBook::new(with.alloc, book, with.older)?;
+    let volume = LiveVolume::new(served, file, lines);
+    match rolled(with.alloc, &mut folder, volume, with.now) {
+        Ok(volume) => Ok(Running::new(with.alloc, *with.settings.duid(), folder, volume)),
+        Err(fault) => Err(BeginFault::NotRolled(fault)),
+    }
+}
+
+/// Goes on behind a closed book, whose volume has ended in its file, which was opened and held this content.
+pub fn follow<F: Folder + Drop, P: Drop>(
+    with: Beginning<'_>,
+    mut folder: F,
+    book: Book,
+    file: F::File,
+    content: &[u8],
+) -> Result<Running<F, P>, BeginFault<F::File>>
+where
+    F::File: Drop,
+    requires names { AreSettled (F.calls folder) }
+    requires opened { F.File.calls file ≡ opened content.now ∷ [] }
+    requires rolls { MayRoll book }
+    ensures { IfOk result (BeginsBehind with.entry.settings.now.duid with.entry.older.items book with.entry.now) }
+{
+    let last = match reopen_ended(with.alloc, file, content, &book) {
+        Ok(last) => last,
+        Err(error) => return Err(BeginFault::NotReopened(error)),
+    };
+    match begin_next(with.alloc, &mut folder, &last, &book, with.now) {
+        Ok(Begun { book: next, file }) => {
+            let kept = next.journal().len();
+            let served = ServedBook::new(with.alloc, book, with.older)?.follow(next)?;
+            let volume = LiveVolume::new(served, file, kept);
+            Ok(Running::new(with.alloc, *with.settings.duid(), folder, volume))
+        }
+        Err(error) => Err(BeginFault::NotBegun(error)),
+    }
+}
+
+/// A server with one line more, `restart`: its partner may have taken it for down meanwhile. It waits for the partner's
+/// answer then.
+pub fn restarted<F: Folder + Drop, P: Drop>(
+    now: Reading,
+    mut running: Running<F, P>,
+) -> Result<Running<F, P>, BeginFault<F::File>>
+where
+    F::File: Drop,
+    ensures { IfOk result (λ r. (receipt : ReceiptValue)
+        × IsApplied running.volume.served r.volume.served now Restart receipt
+        × (r ≡ record running { volume = r.volume })) }
+{
+    match running.serve(now, &Order::Restart) {
+        Ok(_) => Ok(running),
+        Err(refusal) => Err(BeginFault::NotRestarted(refusal)),
+    }
+}
