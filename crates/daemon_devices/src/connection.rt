@@ -1,0 +1,161 @@
+//! A connection with the partner.
+
+ghost use Rattle.std.specs.Prelude.{◌≡◌, ◌≤◌, ◌↔◌, ℕ, length, IsTrue, if◌then◌else◌};
+ghost use Rattle.daemon_devices.specs.Silence.{seconds_from, IsGivenUp};
+
+use crate::unsent::Unsent;
+use std::alloc::Global;
+use std::io::{ErrorKind, Read, Write};
+use std::time::Instant;
+use thiserror::Error;
+
+/// So many octets may wait to be written: a partner that takes none for so long has lost the connection.
+const MOST_UNSENT: usize = 8 << 20;
+
+/// After how many seconds without a first octet it is given up.
+const FIRST_SILENCE: u64 = 10;
+
+/// After how many seconds without an octet it is given up where a second connection comes.
+const LONG_SILENCE: u64 = 60;
+
+/// After how many seconds without an octet it is given up.
+const LONGEST_SILENCE: u64 = 600;
+
+/// What has come over a connection by now.
+#[derive(Clone, Copy, Debug, PartialEq, Eq)]
+pub enum Got {
+    /// So many octets, at the front of the buffer.
+    Octets(usize),
+    /// None now.
+    Nothing,
+    /// None, and none will come.
+    End,
+}
+
+/// Why a connection is over.
+#[derive(Clone, Copy, Debug, PartialEq, Eq, Error)]
+pub enum Lost {
+    /// A write to it failed.
+    #[error("it can't be written to")]
+    Broken,
+    /// The partner takes no octets: more than 8 MiB wait.
+    #[error("its other end takes nothing")]
+    Stuck,
+    /// A growth was refused.
+    #[error("out of memory")]
+    Memory,
+}
+
+/// The only connection with the partner while it stands, by a stream that doesn't wait.
+#[derive(Drop)]
+pub struct Connection<S: Read + Write + Drop> {
+    stream: S,
+    unsent: Unsent,
+    /// When octets came last; before, when it began.
+    heard: Instant,
+    /// Whether any came.
+    has_heard: bool,
+}
+
+/// The seconds in which nothing came: each is told once.
+#[derive(Clone, Copy)]
+pub struct QuietSecond {
+    begun: Instant,
+}
+
+impl QuietSecond {
+    /// The first begins now.
+    pub fn new(now: Instant) -> QuietSecond {
+        QuietSecond { begun: now }
+    }
+
+    /// Begins again, since something came.
+    pub fn begin(&mut self, now: Instant)
+        ensures { self.new.begun ≡ now }
+    {
+        self.begun = now;
+    }
+
+    /// Returns whether a second is full; the next one then begins.
+    pub fn is_full(&mut self, now: Instant) -> bool
+        ensures full { IsTrue result ↔ (1 ≤ seconds_from self.old.begun now) }
+        ensures next { self.new.begun ≡ (if result then now else self.old.begun) }
+    {
+        let is_full = now.duration_since(self.begun).as_secs() >= 1;
+        if is_full {
+            self.begun = now;
+        }
+        is_full
+    }
+}
+
+impl<S: Read + Write + Drop> Connection<S> {
+    /// A connection that begins now.
+    pub fn new(alloc: Global, stream: S, now: Instant) -> Connection<S> {
+        Connection {
+            stream,
+            unsent: Unsent::new(alloc),
+            heard: now,
+            has_heard: false,
+        }
+    }
+
+    /// Puts the octets that have come at the front of the buffer. An error of the stream's is its end.
+    pub fn read(&mut self, buffer: &mut [u8], now: Instant) -> Got
+        ensures { (count : ℕ) → result ≡ Got.Octets count → count ≤ length buffer.new }
+    {
+        match self.stream.read(buffer) {
+            Ok(0) => Got::End,
+            Ok(count) => {
+                self.heard = now;
+                self.has_heard = true;
+                Got::Octets(count)
+            }
+            Err(error) => match error.kind() {
+                ErrorKind::WouldBlock | ErrorKind::Interrupted => Got::Nothing,
+                _ => Got::End,
+            },
+        }
+    }
+
+    /// Writes octets behind all others: now, or as soon as the stream takes them (`flush`).
+    pub fn write(&mut self, octets: &[u8]) -> Result<(), Lost> {
+        if self.unsent.add(octets).is_err() {
+            return Err(Lost::Memory);
+        }
+        self.flush()
+    }
+
+    /// Writes what waits, as far as the stream takes it now.
+    pub fn flush(&mut self) -> Result<(), Lost> {
+        if self.unsent.write_to(&mut self.stream).is_err() {
+            return Err(Lost::Broken);
+        }
+        if self.unsent.len() > MOST_UNSENT {
+            return Err(Lost::Stuck);
+        }
+        Ok(())
+    }
+
+    /// Returns whether all that was written has gone out.
+    pub fn has_sent_all(&self) -> bool {
+        self.unsent.len() == 0
+    }
+
+    /// Returns whether octets have come over it.
+    pub fn has_heard(&self) -> bool {
+        self.has_heard
+    }
+
+    /// Returns whether it is to be given up: nothing came at first, or for long, or a second connection has come
+    /// behind a minute of silence: its other end may have lost it without a word.
+    pub fn is_given_up(&self, now: Instant, has_other: bool) -> bool
+        ensures { IsTrue result ↔ IsGivenUp self.now.has_heard has_other (seconds_from self.now.heard now) }
+    {
+        let silence = now.duration_since(self.heard).as_secs();
+        if !self.has_heard {
+            return silence >= FIRST_SILENCE;
+        }
+        silence >= LONGEST_SILENCE || (has_other && silence >= LONG_SILENCE)
+    }
+}

@@ -1,0 +1,58 @@
+//! Datagrams that come and go.
+
+ghost use Rattle.std.specs.Prelude.{◌≤◌, length, IfOk, IfSome};
+
+use crate::rest::Watched;
+use mio::net::UdpSocket;
+use std::io;
+use std::io::ErrorKind;
+use std::net::{Net, SocketAddr};
+
+/// A way to those who send datagrams, that doesn't wait.
+pub trait Datagrams: Drop {
+    /// Who sent a datagram, and to whom its answer goes.
+    type Peer: Drop;
+
+    /// Puts a datagram that has come at the front of the buffer, and gives its length in octets and its sender; `None`
+    /// where none has come. An error where none will come any more.
+    fn receive(&mut self, buffer: &mut [u8]) -> io::Result<Option<(usize, Self::Peer)>>
+        ensures { IfOk result (λ came. IfSome came (λ got. got.0 ≤ length buffer.new)) };
+
+    /// Sends octets to a peer, if they can be sent now: a datagram may always be lost.
+    fn send(&mut self, peer: &Self::Peer, octets: &[u8]);
+}
+
+/// Datagrams by a socket of the system. An answer goes to the address, port and scope that its question came from.
+#[derive(Drop)]
+pub struct UdpDatagrams {
+    socket: UdpSocket,
+}
+
+impl UdpDatagrams {
+    /// Listens at an address; a rest ends when a datagram comes.
+    pub fn bind(net: &impl Net, listen: SocketAddr, watched: &Watched) -> io::Result<UdpDatagrams> {
+        let mut socket = UdpSocket::bind(net, listen)?;
+        watched.add_reads(&mut socket)?;
+        Ok(UdpDatagrams { socket })
+    }
+}
+
+impl Datagrams for UdpDatagrams {
+    type Peer = SocketAddr;
+
+    fn receive(&mut self, buffer: &mut [u8]) -> io::Result<Option<(usize, SocketAddr)>> {
+        match self.socket.recv_from(buffer) {
+            Ok(received) => Ok(Some(received)),
+            Err(error) => match error.kind() {
+                ErrorKind::WouldBlock | ErrorKind::Interrupted => Ok(None),
+                _ => Err(error),
+            },
+        }
+    }
+
+    // What a datagram's sender can cause (port 0, no route, an answer too large for the path, a refused port) is none
+    // of the daemon's: a socket that is dead fails at its next receive.
+    fn send(&mut self, peer: &SocketAddr, octets: &[u8]) {
+        let _ = self.socket.send_to(octets, *peer);
+    }
+}

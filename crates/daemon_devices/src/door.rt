@@ -1,0 +1,206 @@
+//! The door by which connections with the partner come.
+
+use crate::rest::Watched;
+use mio::net::{TcpListener, TcpStream};
+use std::io;
+use std::io::{Read, Write};
+use std::net::{Net, SocketAddr};
+use std::time::{Duration, Instant};
+
+/// How many seconds the primary waits before it calls again behind a connection that stood.
+const FIRST_PAUSE: u64 = 1;
+
+/// How many seconds it waits behind any other, and behind a call that came to none.
+const LATER_PAUSE: u64 = 10;
+
+/// How many seconds a call may last.
+const LONGEST_CALL: u64 = 5;
+
+/// Where connections with the partner come from.
+pub trait Door: Drop {
+    type Stream: Read + Write + Drop;
+
+    /// The next connection, where one has come by now. A side that calls begins a call where it is time for one.
+    fn admit(&mut self, now: Instant) -> Option<Self::Stream>;
+
+    /// Closes another connection, while one stands. Returns whether one had come.
+    fn turn_away(&mut self) -> bool;
+
+    /// A connection is over, which had stood for a while or not: the next call is a pause later.
+    fn rest_after(&mut self, has_stood: bool, now: Instant);
+}
+
+/// A call of the partner's address.
+#[derive(Drop)]
+struct Call {
+    stream: TcpStream,
+    begun: Instant,
+}
+
+/// The primary's way to the secondary: it calls its address.
+#[derive(Drop)]
+pub struct Calling<'a, R: Net> {
+    net: &'a R,
+    address: SocketAddr,
+    call: Option<Call>,
+    /// Not before this the next call begins.
+    next: Instant,
+}
+
+/// The door of a server by the system's sockets.
+#[derive(Drop)]
+pub struct SystemDoor<'a, R: Net> {
+    watched: Watched,
+    way: Way<'a, R>,
+}
+
+/// How connections come.
+#[derive(Drop)]
+enum Way<'a, R: Net> {
+    /// There is no partner.
+    None,
+    /// The secondary listens.
+    Listening(TcpListener),
+    /// The primary calls.
+    Calling(Calling<'a, R>),
+}
+
+/// How far a call has come.
+enum Ringing {
+    /// It goes on.
+    On(Call),
+    /// It has the connection.
+    Answered(TcpStream),
+    /// It failed, or lasted too long.
+    Over,
+}
+
+/// Looks how far a call has come.
+fn looked_at(call: Call, now: Instant) -> Ringing {
+    if let Ok(None) = call.stream.take_error() {
+        if call.stream.peer_addr().is_ok() {
+            return Ringing::Answered(call.stream);
+        }
+        if now.duration_since(call.begun).as_secs() < LONGEST_CALL {
+            return Ringing::On(call);
+        }
+    }
+    Ringing::Over
+}
+
+/// The moment that is so many seconds later.
+fn later(now: Instant, seconds: u64) -> Instant {
+    now.checked_add(Duration::from_secs(seconds)).unwrap_or(now)
+}
+
+impl<'a, R: Net> Calling<'a, R> {
+    /// Begins a call, where it is time for one.
+    fn begin(&mut self, watched: &Watched, now: Instant) {
+        if now < self.next {
+            return;
+        }
+        self.next = later(now, LATER_PAUSE);
+        let Ok(mut stream) = TcpStream::connect(self.net, self.address) else {
+            return;
+        };
+        if watched.add_both(&mut stream).is_ok() {
+            self.call = Some(Call { stream, begun: now });
+        }
+    }
+
+    /// The connection that a call came to by now.
+    fn answered(&mut self, watched: &Watched, now: Instant) -> Option<TcpStream> {
+        let Some(call) = self.call.take() else {
+            self.begin(watched, now);
+            return None;
+        };
+        match looked_at(call, now) {
+            Ringing::On(call) => {
+                self.call = Some(call);
+                None
+            }
+            Ringing::Answered(stream) => Some(stream),
+            Ringing::Over => {
+                self.next = later(now, LATER_PAUSE);
+                None
+            }
+        }
+    }
+}
+
+/// The next connection to a listener, where one has come.
+fn accepted(listener: &TcpListener, watched: &Watched) -> Option<TcpStream> {
+    let (mut stream, _) = listener.accept().ok()?;
+    watched.add_both(&mut stream).ok()?;
+    Some(stream)
+}
+
+impl<'a, R: Net> SystemDoor<'a, R> {
+    /// No connection comes.
+    pub fn shut(watched: Watched) -> SystemDoor<'a, R> {
+        SystemDoor {
+            watched,
+            way: Way::None,
+        }
+    }
+
+    /// Listens for the partner at an address.
+    pub fn listen(
+        net: &'a R,
+        address: SocketAddr,
+        watched: Watched,
+    ) -> io::Result<SystemDoor<'a, R>> {
+        let mut listener = TcpListener::bind(net, address)?;
+        watched.add_reads(&mut listener)?;
+        Ok(SystemDoor {
+            watched,
+            way: Way::Listening(listener),
+        })
+    }
+
+    /// Calls the partner at an address, from now on.
+    pub fn call(
+        net: &'a R,
+        address: SocketAddr,
+        watched: Watched,
+        now: Instant,
+    ) -> SystemDoor<'a, R> {
+        SystemDoor {
+            watched,
+            way: Way::Calling(Calling {
+                net,
+                address,
+                call: None,
+                next: now,
+            }),
+        }
+    }
+}
+
+impl<R: Net> Door for SystemDoor<'_, R> {
+    type Stream = TcpStream;
+
+    fn admit(&mut self, now: Instant) -> Option<TcpStream> {
+        let stream = match &mut self.way {
+            Way::None => None,
+            Way::Listening(listener) => accepted(listener, &self.watched),
+            Way::Calling(calling) => calling.answered(&self.watched, now),
+        }?;
+        stream.set_nodelay(true).ok()?;
+        Some(stream)
+    }
+
+    fn turn_away(&mut self) -> bool {
+        match &self.way {
+            Way::None | Way::Calling(_) => false,
+            Way::Listening(listener) => listener.accept().is_ok(),
+        }
+    }
+
+    fn rest_after(&mut self, has_stood: bool, now: Instant) {
+        if let Way::Calling(calling) = &mut self.way {
+            let pause = if has_stood { FIRST_PAUSE } else { LATER_PAUSE };
+            calling.next = later(now, pause);
+        }
+    }
+}

@@ -1,0 +1,73 @@
+//! Octets that wait to be written.
+
+ghost use Rattle.std.specs.Prelude.{◌≡◌, ◌≤◌, ◌++◌, [], ℕ, drop, length, IfOk, is_ok, if◌then◌else◌};
+
+use std::alloc::{AllocError, Global};
+use std::io;
+use std::io::{ErrorKind, Write};
+use std::marker::Model;
+
+/// Octets that wait to be written to a stream that doesn't wait, in their order. Contracts see the list of them.
+#[derive(Drop)]
+pub struct Unsent {
+    octets: Vec<u8>,
+}
+
+impl Model for Unsent {
+    ghost use Rattle.std.specs.Prelude.{List, ℕ};
+
+    ghost Value = { List ℕ };
+
+    ghost view = { λ u. u.octets.items };
+}
+
+/// How many octets a stream takes now: none where it would wait.
+fn taken<W: Write>(stream: &mut W, octets: &[u8]) -> io::Result<usize>
+    ensures { IfOk result (λ count. count ≤ length octets.now) }
+{
+    match stream.write(octets) {
+        Ok(0) => Err(io::Error::from(ErrorKind::WriteZero)),
+        Ok(count) => Ok(count),
+        Err(error) => match error.kind() {
+            ErrorKind::WouldBlock | ErrorKind::Interrupted => Ok(0),
+            _ => Err(error),
+        },
+    }
+}
+
+impl Unsent {
+    /// None wait.
+    pub fn new(alloc: Global) -> Unsent
+        ensures { result ≡ [] }
+    {
+        Unsent {
+            octets: Vec::new(alloc),
+        }
+    }
+
+    /// Returns how many octets wait.
+    pub fn len(&self) -> usize
+        ensures { result ≡ length self.now }
+    {
+        self.octets.len()
+    }
+
+    /// Adds octets behind the others; none of them where a growth is refused.
+    pub fn add(&mut self, octets: &[u8]) -> Result<(), AllocError>
+        ensures { self.new ≡ (if is_ok result then self.old ++ octets.now else self.old) }
+    {
+        self.octets.extend_from_slice(octets)
+    }
+
+    /// Writes as many from the front as the stream takes now. An error of the stream's, other than that it would wait.
+    pub fn write_to<W: Write>(&mut self, stream: &mut W) -> io::Result<()>
+        ensures { (count : ℕ) × (self.new ≡ drop count self.old) }
+    {
+        if self.octets.is_empty() {
+            return Ok(());
+        }
+        let count = taken(stream, &self.octets)?;
+        self.octets.drain(..count);
+        Ok(())
+    }
+}

@@ -1,0 +1,143 @@
+//! What clients and relays ask, and what they are told.
+
+use crate::clocks::Clocks;
+use crate::error::DaemonError;
+use daemon_devices::Datagrams;
+use dhcp6_pd::{ClientKind, PdError, ServerKind};
+use lead_time::{Reading, Transit};
+use server_run::{Heard, HeldAnswer, Running};
+use server_status::Traffic;
+use std::alloc::{AllocError, Global};
+use std::mem;
+use volume_folder::Folder;
+
+/// The longest datagram, in octets.
+const LONGEST: usize = 65_535;
+
+/// How many datagrams are heard in one turn, at most: their lines are put to the disk together.
+const MOST_HEARD: usize = 64;
+
+/// The clients of a server and their relays.
+#[derive(Drop)]
+pub struct Clients<G: Datagrams> {
+    alloc: Global,
+    datagrams: G,
+    buffer: Vec<u8>,
+    /// How long an answer may be under way: one whose lines were on the disk later isn't sent.
+    transit: Transit,
+    traffic: Traffic,
+    /// The types of the answers that are held back, in their order.
+    held: Vec<ServerKind>,
+}
+
+/// The type of the answer to a message of this type.
+fn answer_kind(kind: ClientKind) -> ServerKind {
+    match kind {
+        ClientKind::Solicit => ServerKind::Advertise,
+        ClientKind::Request | ClientKind::Renew | ClientKind::Rebind | ClientKind::Release => {
+            ServerKind::Reply
+        }
+    }
+}
+
+impl<G: Datagrams> Clients<G> {
+    /// Clients whose datagrams come there. An error where a growth was refused.
+    pub fn new(alloc: Global, datagrams: G, transit: Transit) -> Result<Clients<G>, AllocError> {
+        Ok(Clients {
+            alloc,
+            datagrams,
+            buffer: vec![in alloc; 0u8; LONGEST]?,
+            transit,
+            traffic: Traffic::NONE,
+            held: Vec::new(alloc),
+        })
+    }
+
+    /// What came and what was sent so far.
+    pub fn traffic(&self) -> Traffic {
+        Traffic {
+            held: self.held.len() as u64,
+            ..self.traffic
+        }
+    }
+
+    /// Counts what became of a datagram.
+    fn count(&mut self, heard: &Heard) {
+        match heard {
+            Heard::Answered(kind) => {
+                self.traffic.messages.add(*kind);
+                let _ = self.held.push(answer_kind(*kind));
+            }
+            Heard::Unanswered(_) => {
+                self.traffic.unanswered = self.traffic.unanswered.saturating_add(1);
+            }
+            Heard::Unread(PdError::Fault(fault)) => self.traffic.faults.add(*fault),
+            Heard::Unread(PdError::TooLong | PdError::Memory) => {}
+        }
+    }
+
+    /// Hears the datagrams that have come, 64 at most. The clock is read behind each: a line that was written for it
+    /// mustn't be older than what it answers. Their answers are held back. Returns how many came.
+    pub fn hear<F: Folder + Drop, C: Clocks>(
+        &mut self,
+        running: &mut Running<F, G::Peer>,
+        clocks: &C,
+    ) -> Result<usize, DaemonError>
+    where
+        F::File: Drop,
+    {
+        for count in 0..MOST_HEARD {
+            let (length, peer) = match self.datagrams.receive(&mut self.buffer) {
+                Ok(Some(came)) => came,
+                Ok(None) => return Ok(count),
+                Err(error) => return Err(DaemonError::Datagrams(error)),
+            };
+            let Some(now) = clocks.now() else {
+                return Err(DaemonError::Clock);
+            };
+            let heard = running.hear(now.reading, &self.buffer[..length], peer);
+            self.count(&heard);
+        }
+        Ok(MOST_HEARD)
+    }
+
+    /// Passes over the datagrams that have come, 64 at most: nobody answers them later. Returns how many.
+    pub fn pass_over(&mut self) -> Result<usize, DaemonError> {
+        for count in 0..MOST_HEARD {
+            match self.datagrams.receive(&mut self.buffer) {
+                Ok(Some(_)) => {}
+                Ok(None) => return Ok(count),
+                Err(error) => return Err(DaemonError::Datagrams(error)),
+            }
+        }
+        Ok(MOST_HEARD)
+    }
+
+    /// Returns whether an answer may still leave by now, by what the clock read when its message came.
+    fn is_in_time(&self, read: Reading, now: Reading) -> bool {
+        let transit = self.transit.milliseconds();
+        transit == 0 || now.milliseconds() <= read.milliseconds().saturating_add(transit)
+    }
+
+    /// Sends an answer to who asked, unless it is too late.
+    fn send_one(&mut self, held: &HeldAnswer<G::Peer>, kind: ServerKind, now: Reading) {
+        if self.is_in_time(held.read, now) {
+            self.datagrams
+                .send(held.answer.peer(), held.answer.octets());
+            self.traffic.answers.add(kind);
+        } else {
+            self.traffic.late = self.traffic.late.saturating_add(1);
+        }
+    }
+
+    /// Sends the answers that were held back, each to who asked, but for those that are too late.
+    pub fn send(&mut self, answers: &[HeldAnswer<G::Peer>], now: Reading) {
+        let kinds = mem::replace(&mut self.held, Vec::new(self.alloc));
+        let mut kinds = kinds.into_iter();
+        for held in answers {
+            if let Some(kind) = kinds.next() {
+                self.send_one(held, kind, now);
+            }
+        }
+    }
+}

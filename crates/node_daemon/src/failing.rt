@@ -1,0 +1,65 @@
+//! Why a server doesn't start.
+
+use crate::error::NotRolled;
+use book_volumes::{BeginVolumeError, ReopenError};
+use folder_recovery::FolderRecoveryError;
+use locked_book::ServeError;
+use server_run::BeginFault;
+use server_start::StartError;
+use std::io;
+use thiserror::Error;
+use torn_disk::DeviceError;
+
+/// Why a server doesn't start with its folder.
+#[derive(Debug, Drop, Error)]
+pub enum StartFailure {
+    /// The files can't be read.
+    #[error("the volumes can't be read: {0}")]
+    Unread(io::Error),
+    /// The folder leads to no book.
+    #[error("{0}")]
+    Folder(FolderRecoveryError),
+    /// A server of these settings, by this clock, doesn't start with the book.
+    #[error("{0}")]
+    Start(StartError),
+    /// There are other files than those that were read.
+    #[error("the volumes changed while they were read")]
+    Changed,
+    /// A file of which nobody was told can't be removed.
+    #[error("a file in which no volume was begun can't be removed: {0}")]
+    NotRemoved(DeviceError),
+    /// The last volume's file isn't opened again.
+    #[error("the last volume isn't opened: {0}")]
+    NotReopened(ReopenError),
+    /// No further volume can begin: all of a server's were used, or its head leaves no room.
+    #[error("no further volume can begin: both servers need new books")]
+    NoFurther,
+    /// The volume isn't begun: the disk failed, or it has no text.
+    #[error("the volume isn't begun")]
+    NotBegun,
+    /// The last volume isn't followed.
+    #[error("the last volume isn't followed: {0}")]
+    NotRolled(NotRolled),
+    /// The book takes no line `restart`.
+    #[error("the journal takes no line `restart`: {0}")]
+    NotRestarted(ServeError),
+    /// A growth was refused.
+    #[error("out of memory")]
+    Memory,
+}
+
+impl StartFailure {
+    /// What it is, without the files that were made.
+    pub(crate) fn of<D: Drop>(fault: BeginFault<D>) -> StartFailure {
+        match fault {
+            BeginFault::NotReopened(error) => StartFailure::NotReopened(error),
+            BeginFault::NotBegun(BeginVolumeError::Full) => StartFailure::NoFurther,
+            BeginFault::NotBegun(BeginVolumeError::Memory) | BeginFault::Memory => {
+                StartFailure::Memory
+            }
+            BeginFault::NotBegun(_) => StartFailure::NotBegun,
+            BeginFault::NotRolled(fault) => StartFailure::NotRolled(NotRolled::of(fault)),
+            BeginFault::NotRestarted(refusal) => StartFailure::NotRestarted(refusal),
+        }
+    }
+}

@@ -1,0 +1,331 @@
+//! The connection with the partner, turn by turn.
+
+ghost use Rattle.std.specs.Prelude.{◌≡◌, ◌≤◌, ℕ, length};
+
+use crate::clocks::{Clocks, Moment};
+use crate::error::DaemonError;
+use crate::happening::{Happening, Log, Parting};
+use binding_rules::Counter;
+use daemon_devices::{Connection, Door, Got, QuietSecond};
+use failover_message::{Frame, FrameKind, encode};
+use lead_time::Reading;
+use link_talk::{Came, Handed, Stage, TalkError};
+use server_run::Running;
+use server_settings::Settings;
+use std::alloc::{AllocError, Global};
+use std::time::Instant;
+use volume_folder::Folder;
+
+/// How many octets are read at once, at most.
+const READ_SIZE: usize = 65_536;
+
+/// How many seconds a connection stands that has stood for a while.
+const A_WHILE: u64 = 10;
+
+/// A connection that stands.
+#[derive(Drop)]
+struct Standing<D: Door> {
+    connection: Connection<D::Stream>,
+    quiet: QuietSecond,
+    begun: Moment,
+    /// When the partner was heard last.
+    heard: Option<Reading>,
+    /// Why it is over once all that is held back has gone out.
+    parting: Option<Parting>,
+}
+
+/// The way to the partner.
+#[derive(Drop)]
+pub struct Partner<D: Door> {
+    alloc: Global,
+    door: D,
+    buffer: Vec<u8>,
+    standing: Option<Standing<D>>,
+}
+
+/// What came over a connection. Where nothing did, a second of it is told as nothing, and less than that as no octets
+/// yet.
+fn came<'a>(got: Got, buffer: &'a [u8], quiet: &mut QuietSecond, now: &Moment) -> Came<'a>
+    requires { (count : ℕ) → got ≡ Got.Octets count → count ≤ length buffer.now }
+{
+    match got {
+        Got::Octets(count) => {
+            quiet.begin(now.instant);
+            Came::Octets(&buffer[..count])
+        }
+        Got::Nothing => {
+            if quiet.is_full(now.instant) {
+                Came::Nothing
+            } else {
+                Came::Octets(&[])
+            }
+        }
+        Got::End => Came::End,
+    }
+}
+
+/// What a server says last.
+const DISCONNECT: Frame = Frame {
+    term: 0,
+    serial: Counter::ZERO,
+    kind: FrameKind::Disconnect,
+};
+
+/// Why a connection is over by the stage of its talk, if it is.
+fn parting_at(stage: Stage) -> Option<Parting> {
+    match stage {
+        Stage::Greeting | Stage::Joined { .. } => None,
+        Stage::Refused => Some(Parting::Refused),
+        Stage::Ended { .. } => Some(Parting::PartnerLeft),
+    }
+}
+
+/// Why the talk of a connection is over by an error of it.
+fn parting_of(error: TalkError) -> Parting {
+    match error {
+        TalkError::Frame => Parting::Refused,
+        TalkError::Serve(refusal) => Parting::Book(refusal),
+        TalkError::Memory => Parting::Memory,
+    }
+}
+
+/// Returns whether a server can tell its partner all that it lacks.
+fn can_tell<F: Folder + Drop, P: Drop>(running: &Running<F, P>, stage: &Stage) -> bool
+where
+    F::File: Drop,
+{
+    match stage {
+        Stage::Joined { last } => running.has_all_above(*last),
+        Stage::Greeting | Stage::Refused | Stage::Ended { .. } => true,
+    }
+}
+
+impl<D: Door> Standing<D> {
+    /// A connection that begins now.
+    fn new(alloc: Global, stream: D::Stream, now: &Moment) -> Standing<D> {
+        Standing {
+            connection: Connection::new(alloc, stream, now.instant),
+            quiet: QuietSecond::new(now.instant),
+            begun: *now,
+            heard: None,
+            parting: None,
+        }
+    }
+
+    /// Reads what has come, and does what follows from it. The clock is read behind that: a line that takes a message
+    /// mustn't be older than the message. Returns whether octets came.
+    fn hear<F: Folder + Drop, P: Drop, C: Clocks>(
+        &mut self,
+        running: &mut Running<F, P>,
+        settings: &Settings,
+        buffer: &mut [u8],
+        begun: Instant,
+        clocks: &C,
+    ) -> Result<bool, DaemonError>
+    where
+        F::File: Drop,
+    {
+        let got = self.connection.read(buffer, begun);
+        let Some(now) = clocks.now() else {
+            return Err(DaemonError::Clock);
+        };
+        let came = came(got, buffer, &mut self.quiet, &now);
+        match running.heed(settings, now.reading, &came) {
+            Ok(()) => self.look_at_stage(running),
+            Err(error) => self.parting = Some(parting_of(error)),
+        }
+        match got {
+            Got::Octets(_) => {
+                self.heard = Some(now.reading);
+                Ok(true)
+            }
+            Got::Nothing => Ok(false),
+            Got::End => {
+                self.parting = Some(Parting::Lost);
+                Ok(true)
+            }
+        }
+    }
+
+    /// Parts with a partner that lacks messages which this server can't tell again: nothing is said to it.
+    fn look_at_stage<F: Folder + Drop, P: Drop>(&mut self, running: &mut Running<F, P>)
+    where
+        F::File: Drop,
+    {
+        let stage = running.stage();
+        if let Some(stage) = &stage {
+            if !can_tell(running, stage) {
+                running.part();
+                self.parting = Some(Parting::Lacks);
+            }
+        }
+    }
+
+    /// Writes frames, in their order.
+    fn write(&mut self, alloc: Global, frames: &[Handed]) {
+        for handed in frames {
+            self.write_frame(alloc, &handed.frame);
+        }
+        if self.connection.flush().is_err() {
+            self.parting = Some(Parting::Lost);
+        }
+    }
+
+    /// Writes a frame.
+    fn write_frame(&mut self, alloc: Global, frame: &Frame) {
+        let is_written = match encode(alloc, frame) {
+            Ok(octets) => self.connection.write(octets.as_slice()).is_ok(),
+            Err(_) => false,
+        };
+        if !is_written {
+            self.parting = Some(Parting::Lost);
+        }
+    }
+
+    /// Gives it up where nothing came over it for too long, the shorter where another has come.
+    fn give_up(&mut self, has_other: bool, now: &Moment) {
+        if self.parting.is_none() && self.connection.is_given_up(now.instant, has_other) {
+            self.parting = Some(Parting::Silent);
+        }
+    }
+
+    /// Why it is over, if it is, by the stage of its talk too.
+    fn parting_at(&self, stage: Option<Stage>) -> Option<Parting> {
+        match self.parting {
+            Some(parting) => Some(parting),
+            None => parting_at(stage?),
+        }
+    }
+
+    /// Returns whether it stood for a while, so that the next one may begin soon.
+    fn has_stood(&self, now: &Moment) -> bool {
+        self.connection.has_heard()
+            && now.instant.duration_since(self.begun.instant).as_secs() >= A_WHILE
+    }
+}
+
+impl<D: Door> Partner<D> {
+    /// A partner who comes by a door. An error where a growth was refused.
+    pub fn new(alloc: Global, door: D) -> Result<Partner<D>, AllocError> {
+        Ok(Partner {
+            alloc,
+            door,
+            buffer: vec![in alloc; 0u8; READ_SIZE]?,
+            standing: None,
+        })
+    }
+
+    /// Since when there is a connection; none where there is none.
+    pub fn connected(&self) -> Option<Reading> {
+        Some(self.standing.as_ref()?.begun.reading)
+    }
+
+    /// When the partner was heard last over the connection that stands.
+    pub fn heard(&self) -> Option<Reading> {
+        self.standing.as_ref()?.heard
+    }
+
+    /// Admits the partner, where it has come: the talk begins.
+    fn meet<F: Folder + Drop, P: Drop, L: Print>(
+        &mut self,
+        running: &mut Running<F, P>,
+        settings: &Settings,
+        now: &Moment,
+        log: &Log<L>,
+    ) -> bool
+    where
+        F::File: Drop,
+    {
+        let Some(stream) = self.door.admit(now.instant) else {
+            return false;
+        };
+        log.tell(&Happening::Met);
+        let mut standing = Standing::new(self.alloc, stream, now);
+        if let Err(error) = running.meet(settings) {
+            standing.parting = Some(parting_of(error));
+        }
+        self.standing = Some(standing);
+        true
+    }
+
+    /// Hears the partner: over the connection that stands, or by one that has come. Returns whether anything came.
+    pub fn hear<F: Folder + Drop, P: Drop, C: Clocks, L: Print>(
+        &mut self,
+        running: &mut Running<F, P>,
+        settings: &Settings,
+        now: &Moment,
+        clocks: &C,
+        log: &Log<L>,
+    ) -> Result<bool, DaemonError>
+    where
+        F::File: Drop,
+    {
+        let Some(mut standing) = self.standing.take() else {
+            return Ok(self.meet(running, settings, now, log));
+        };
+        let has_other = self.door.turn_away();
+        if has_other {
+            log.tell(&Happening::TurnedAway);
+        }
+        let has_come = standing.hear(running, settings, &mut self.buffer, now.instant, clocks)?;
+        standing.give_up(has_other, now);
+        self.standing = Some(standing);
+        Ok(has_come)
+    }
+
+    /// Says the frames that were held back, and ends the connection where it is over.
+    pub fn say<F: Folder + Drop, P: Drop, L: Print>(
+        &mut self,
+        running: &mut Running<F, P>,
+        frames: &[Handed],
+        now: &Moment,
+        log: &Log<L>,
+    )
+    where
+        F::File: Drop,
+    {
+        let Some(mut standing) = self.standing.take() else {
+            return;
+        };
+        standing.write(self.alloc, frames);
+        if matches!(standing.parting, Some(Parting::Rolled)) {
+            standing.write_frame(self.alloc, &DISCONNECT);
+            let _ = standing.connection.flush();
+        }
+        match standing.parting_at(running.stage()) {
+            Some(parting) => {
+                log.tell(&Happening::Parted(parting));
+                running.part();
+                self.door.rest_after(standing.has_stood(now), now.instant);
+            }
+            None => self.standing = Some(standing),
+        }
+    }
+
+    /// Ends the connection behind this turn, where there is one: in the next one the partner names what it has taken, and
+    /// receipts of older volumes are forgotten.
+    pub fn meet_anew(&mut self) {
+        if let Some(standing) = &mut self.standing {
+            if standing.parting.is_none() {
+                standing.parting = Some(Parting::Rolled);
+            }
+        }
+    }
+
+    /// Says DISCONNECT, where there is a connection.
+    pub fn say_goodbye(&mut self) {
+        if let Some(standing) = &mut self.standing {
+            standing.write_frame(self.alloc, &DISCONNECT);
+        }
+    }
+
+    /// Reads on behind DISCONNECT, and passes it over: a connection that is closed with octets unread may lose what was
+    /// written last. Returns whether the other end goes on.
+    pub fn hear_out(&mut self, now: &Moment) -> bool {
+        let Some(standing) = &mut self.standing else {
+            return false;
+        };
+        let _ = standing.connection.flush();
+        standing.connection.read(&mut self.buffer, now.instant) != Got::End
+    }
+}

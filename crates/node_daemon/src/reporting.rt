@@ -1,0 +1,96 @@
+//! How a server is: what its status says.
+
+use binding_rules::Role;
+use book_state::Pool;
+use journal_lines::Event;
+use lead_time::Reading;
+use order_book::Book;
+use server_status::{Standing, UnitCounts, VolumeStatus};
+use server_upkeep::{Growth, Owed};
+
+/// Counts the units of a pool.
+fn count_units(book: &Book, pool: &Pool, counts: &mut UnitCounts) {
+    if pool.prefix.len() > pool.unit_length || pool.unit_length > 128 || !pool.is_small() {
+        return;
+    }
+    for place in 0..pool.count() {
+        if let Some(unit) = book.unit(pool.unit(place)) {
+            counts.add(book.role(), &unit);
+        }
+    }
+}
+
+/// Counts the units of a server's pools, by what its book says of them.
+pub(crate) fn units_of(book: &Book, pools: &[Pool]) -> UnitCounts {
+    let mut counts = UnitCounts::NONE;
+    for pool in pools {
+        count_units(book, pool, &mut counts);
+    }
+    counts
+}
+
+/// When a server began again last.
+fn restarted(book: &Book) -> Option<Reading> {
+    let line = book
+        .journal()
+        .iter()
+        .rev()
+        .find(|line| matches!(line.event, Event::Restart(_)))?;
+    Some(line.reading)
+}
+
+/// What a server takes its partner for.
+pub(crate) fn standing_of(book: &Book, now: Reading) -> Standing {
+    match book.down() {
+        Some(since) => Standing::Down { since },
+        None if book.waiting() => Standing::Waiting {
+            since: restarted(book).unwrap_or(now),
+        },
+        None => Standing::Normal,
+    }
+}
+
+/// Returns whether it is the event of a line that a volume begins with.
+fn is_head(event: &Event) -> bool {
+    matches!(
+        event,
+        Event::Open { .. }
+            | Event::Pool { .. }
+            | Event::Transit(_)
+            | Event::Base(_)
+            | Event::Carry(_)
+            | Event::Unit(_)
+    )
+}
+
+/// How many head lines a book's volume begins with.
+pub(crate) fn head_lines_of(book: &Book) -> usize {
+    book.journal()
+        .iter()
+        .take_while(|line| is_head(&line.event))
+        .count()
+}
+
+/// How far a book's volume has grown, which begins with so many head lines.
+pub(crate) fn growth_of(book: &Book, head_lines: usize, now: Reading) -> Growth {
+    let lines = book.journal();
+    Growth {
+        lines: lines.len(),
+        head_lines,
+        opened: lines.first().map_or(now, |line| line.reading),
+        written: lines.last().map_or(now, |line| line.reading),
+    }
+}
+
+/// How the open volume is.
+pub(crate) fn volume_of(book: &Book, kept: usize, growth: &Growth, owed: &Owed) -> VolumeStatus {
+    VolumeStatus {
+        number: book.head().volume(),
+        lines: growth.lines,
+        synced: kept,
+        opened: growth.opened,
+        written: growth.written,
+        roll: owed.roll,
+        room: owed.room,
+    }
+}

@@ -1,0 +1,296 @@
+//! The daemon of a directory: the system's files, sockets and clocks.
+
+ghost use Rattle.std.specs.Prelude.{◌≡◌, [], ◌∷◌, IfOk};
+ghost use Rattle.volume_folder.specs.Names.{held};
+
+use crate::clients::Clients;
+use crate::clocks::{Clocks, Moment, SystemClocks};
+use crate::daemon::Daemon;
+use crate::desk::Desk;
+use crate::error::DaemonError;
+use crate::failing::StartFailure;
+use crate::happening::{Happening, Log};
+use crate::partner::Partner;
+use crate::reporting::head_lines_of;
+use crate::starting::{Began, Pairing, Started, start};
+use crate::watch::Watch;
+use binding_rules::Role;
+use daemon_devices::{ControlSocket, Readiness, SystemDoor, UdpDatagrams, Watched};
+use real_files::{FolderError, RealFolder, RealVolumes};
+use serve_settings::ServeSettings;
+use server_settings::Settings;
+use server_status::SyncTimes;
+use server_upkeep::Told;
+use std::alloc::{AllocError, Global};
+use std::fs::Files;
+use std::io;
+use std::net::{Net, SocketAddr};
+use std::path::Path;
+use std::sync::Wait;
+use std::time::Clock as Handle;
+use thiserror::Error;
+
+/// The name of the control socket in its directory.
+pub const CONTROL: &str = "control";
+
+/// The daemon over the system's sockets and clocks.
+type SystemDaemon<'a, R, L> = Daemon<
+    'a,
+    UdpDatagrams,
+    SystemDoor<'a, R>,
+    ControlSocket,
+    SystemClocks<'a, R>,
+    Readiness,
+    L,
+>;
+
+/// Why a directory isn't served, or isn't served any more.
+#[derive(Debug, Drop, Error)]
+pub enum ServeFailure {
+    /// The directory isn't opened: another process has the lock, say.
+    #[error("{0}")]
+    Folder(FolderError),
+    /// The server doesn't start with what the directory has.
+    #[error("{0}")]
+    Start(StartFailure),
+    /// A socket can't be opened at this address.
+    #[error("can't listen at {address}: {error}")]
+    Listen {
+        address: SocketAddr,
+        error: io::Error,
+    },
+    /// The control socket can't be made.
+    #[error("the control socket can't be made: {0}")]
+    Control(io::Error),
+    /// The daemon ended by itself.
+    #[error("{0}")]
+    Ended(DaemonError),
+}
+
+/// What a daemon hears and tells by.
+#[derive(Drop)]
+struct Sockets<'a, R: Net> {
+    datagrams: UdpDatagrams,
+    door: SystemDoor<'a, R>,
+    control: ControlSocket,
+    rest: Readiness,
+}
+
+/// The volumes of a server in a directory, which this process alone writes to.
+fn opened(rt: &HostRuntime, directory: &str, role: Role) -> Result<RealVolumes, ServeFailure>
+    ensures { IfOk result (λ v. v.noted.calls ≡ held v.count ∷ []) }
+{
+    let folder = match RealFolder::open(rt, directory) {
+        Ok(folder) => folder,
+        Err(error) => return Err(ServeFailure::Folder(error)),
+    };
+    match RealVolumes::open(*rt, folder, role) {
+        Ok(volumes) => Ok(volumes),
+        Err(error) => Err(ServeFailure::Folder(error)),
+    }
+}
+
+/// What the clocks read, or that they tell no time.
+fn moment<R: Handle>(clocks: &SystemClocks<'_, R>) -> Result<Moment, ServeFailure> {
+    clocks.now().ok_or(ServeFailure::Ended(DaemonError::Clock))
+}
+
+/// The door by which the partner comes, by a server's role; shut where it has none.
+fn door_of<'a, R: Net, L: Print>(
+    net: &'a R,
+    role: Role,
+    link: Option<SocketAddr>,
+    watched: Watched,
+    now: &Moment,
+    log: &Log<'_, L>,
+) -> Result<SystemDoor<'a, R>, ServeFailure> {
+    let Some(address) = link else {
+        log.tell(&Happening::IsAlone);
+        return Ok(SystemDoor::shut(watched));
+    };
+    match role {
+        Role::Primary => {
+            log.tell(&Happening::Calls(address));
+            Ok(SystemDoor::call(net, address, watched, now.instant))
+        }
+        Role::Secondary => match SystemDoor::listen(net, address, watched) {
+            Ok(door) => {
+                log.tell(&Happening::ListensForPartner(address));
+                Ok(door)
+            }
+            Err(error) => Err(ServeFailure::Listen { address, error }),
+        },
+    }
+}
+
+/// What a daemon rests by.
+fn readiness(net: &impl Net, alloc: Global) -> Result<Readiness, ServeFailure> {
+    match Readiness::new(net, alloc) {
+        Ok(rest) => Ok(rest),
+        Err(error) => Err(ServeFailure::Ended(DaemonError::Rest(error))),
+    }
+}
+
+/// The sockets that end a rest.
+fn watched_by(rest: &Readiness) -> Result<Watched, ServeFailure> {
+    match rest.watched() {
+        Ok(watched) => Ok(watched),
+        Err(error) => Err(ServeFailure::Ended(DaemonError::Rest(error))),
+    }
+}
+
+/// The control socket of a directory, `control`.
+fn control_of<R: Files + Net>(
+    rt: &R,
+    alloc: Global,
+    directory: &str,
+    watched: Watched,
+) -> Result<ControlSocket, ServeFailure> {
+    let Ok(path) = Path::new(directory).join(alloc, CONTROL) else {
+        return Err(ServeFailure::Ended(DaemonError::Memory));
+    };
+    match ControlSocket::bind(rt, alloc, path.as_path().as_str(), watched) {
+        Ok(control) => Ok(control),
+        Err(error) => Err(ServeFailure::Control(error)),
+    }
+}
+
+/// Opens the sockets of a daemon.
+fn open_sockets<'a, R: Files + Net, L: Print>(
+    rt: &'a R,
+    alloc: Global,
+    directory: &str,
+    settings: &ServeSettings,
+    now: &Moment,
+    log: &Log<'_, L>,
+) -> Result<Sockets<'a, R>, ServeFailure> {
+    let rest = readiness(rt, alloc)?;
+    let node = &settings.node;
+    let address = node.ways.listen;
+    let datagrams = match UdpDatagrams::bind(rt, address, &watched_by(&rest)?) {
+        Ok(datagrams) => datagrams,
+        Err(error) => return Err(ServeFailure::Listen { address, error }),
+    };
+    log.tell(&Happening::Listens(address));
+    let door = door_of(
+        rt,
+        node.server.role(),
+        node.ways.link,
+        watched_by(&rest)?,
+        now,
+        log,
+    )?;
+    let control = control_of(rt, alloc, directory, watched_by(&rest)?)?;
+    Ok(Sockets {
+        datagrams,
+        door,
+        control,
+        rest,
+    })
+}
+
+/// Starts the server of a directory.
+#[tactic(auto, using(crate::proofs::Opened::held_is_settled, crate::proofs::Opened::held_count))]
+fn start_server(
+    alloc: Global,
+    volumes: RealVolumes,
+    settings: &Settings,
+    pairing: Pairing,
+    now: &Moment,
+) -> Result<Started<RealVolumes, SocketAddr>, ServeFailure>
+    requires { volumes.noted.calls ≡ held volumes.count ∷ [] }
+{
+    let count = volumes.count();
+    match start(alloc, volumes, count, settings, pairing, now.reading) {
+        Ok(started) => Ok(started),
+        Err(error) => Err(ServeFailure::Start(error)),
+    }
+}
+
+/// Whether a server has a partner, by where its link is.
+fn pairing_of(link: Option<SocketAddr>) -> Pairing {
+    match link {
+        Some(_) => Pairing::Paired,
+        None => Pairing::Alone,
+    }
+}
+
+/// Tells with what a server has started.
+fn tell_start<L: Print>(log: &Log<'_, L>, started: &Started<RealVolumes, SocketAddr>) {
+    if started.torn > 0 {
+        log.tell(&Happening::Cut {
+            octets: started.torn,
+        });
+    }
+    let volume = started.running.book().head().volume();
+    log.tell(&match started.began {
+        Began::First | Began::Next => Happening::Begins { volume },
+        Began::Again => Happening::GoesOn {
+            volume,
+            lines: started.running.kept(),
+        },
+    });
+}
+
+/// The daemon of settings and sockets, for a server whose volume begins with so many head lines.
+fn daemon_of<'a, R: Net + Handle, L: Print>(
+    rt: &'a R,
+    alloc: Global,
+    settings: &'a ServeSettings,
+    sockets: Sockets<'a, R>,
+    head_lines: usize,
+    log: Log<'a, L>,
+) -> Result<SystemDaemon<'a, R, L>, AllocError> {
+    let server = &settings.node.server;
+    Ok(Daemon {
+        alloc,
+        settings: server,
+        upkeep: settings.upkeep,
+        clients: Clients::new(alloc, sockets.datagrams, server.transit())?,
+        partner: Partner::new(alloc, sockets.door)?,
+        desk: Desk::new(alloc, sockets.control),
+        clocks: SystemClocks::new(rt),
+        rest: sockets.rest,
+        log,
+        watch: Watch::new(),
+        syncs: SyncTimes::new(alloc),
+        told: Told::Nothing,
+        is_alone: settings.node.ways.link.is_none(),
+        leave: None,
+        head_lines,
+    })
+}
+
+/// Serves a directory by settings until a person tells it to stop. What happens meanwhile is told in notes, a line
+/// each. The refusals are those of [`ServeFailure`]. Both handles are of one runtime.
+pub fn serve<R: Wait + Files + Net + Handle, L: Print>(
+    rt: &HostRuntime,
+    handles: &R,
+    directory: &str,
+    settings: &ServeSettings,
+    notes: &L,
+) -> Result<(), ServeFailure> {
+    let server = &settings.node.server;
+    let log = Log::new(notes);
+    let volumes = opened(rt, directory, server.role())?;
+    let alloc = rt.alloc();
+    let now = moment(&SystemClocks::new(handles))?;
+    let sockets = open_sockets(handles, alloc, directory, settings, &now, &log)?;
+    let started = start_server(
+        alloc,
+        volumes,
+        server,
+        pairing_of(settings.node.ways.link),
+        &now,
+    )?;
+    tell_start(&log, &started);
+    let Started { running, .. } = started;
+    let head_lines = head_lines_of(running.book());
+    let Ok(daemon) = daemon_of(handles, alloc, settings, sockets, head_lines, log) else {
+        return Err(ServeFailure::Ended(DaemonError::Memory));
+    };
+    match daemon.run(handles, running) {
+        Ok(()) => Ok(()),
+        Err(error) => Err(ServeFailure::Ended(error)),
+    }
+}
