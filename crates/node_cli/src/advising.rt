@@ -87,7 +87,7 @@ pub fn advise<P: Print>(
     notes: &P,
     alloc: Global,
     text: &[u8],
-    read: &Result<NodeSettings, OpenError>,
+    read: Result<&NodeSettings, OpenError>,
 ) {
     if text.len() > MOST_OCTETS {
         let _ = println!(notes; "node: settings: are longer than {MOST_OCTETS} octets");

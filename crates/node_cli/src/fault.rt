@@ -28,6 +28,12 @@ pub enum Fault {
     /// A growth was refused.
     #[error("fault Memory")]
     Memory,
+    /// The words that vouch for the partner's stop aren't said.
+    #[error("partner-down wants the words \"the partner is stopped\": say them only of a partner that serves nobody")]
+    NotVouched,
+    /// No server answers.
+    #[error("no server answers in this directory")]
+    Silent,
     /// A worker has ended.
     #[error("{0}")]
     Node(NodeError),

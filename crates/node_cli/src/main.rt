@@ -1,25 +1,31 @@
-//! A node as a program: its words are the command, standard input has the settings, standard output gets what they are
-//! worth or the journal, and the status says whether the node ran (0), its settings were refused (1) or a fault kept it
-//! from that (2).
+//! A node as a program: its words are the command. Of `check` and `run` standard input has the settings, standard output
+//! gets what they are worth or the journal, and the status says whether the node ran (0), its settings were refused (1)
+//! or a fault kept it from that (2). `serve` serves a directory as a daemon, and ends by 3 where the disk failed; the
+//! others ask the daemon of a directory, and print what it answers.
 #![tactic(auto)]
 
 ghost use Rattle.std.specs.Prelude.{◌<◌, ◌^◌, length, IsErrOf};
 
 mod advising;
+mod asking;
 mod connection;
 mod fault;
 mod linking;
 mod meeting;
 mod running;
+mod serving;
 mod telling;
 mod words;
 
 use advising::advise;
+use asking::ask;
 use fault::Fault;
 use node_threads::NodeSettings;
 use running::{Run, run_node};
 use server_book::OpenError;
+use serving::serve_directory;
 use std::alloc::Global;
+use std::fs::Files;
 use std::io::{Read, Write};
 use std::net::Net;
 use std::process::ExitCode;
@@ -27,7 +33,7 @@ use std::sync::Wait;
 use std::thread::Threads;
 use std::time::Clock;
 use std::{env, io};
-use words::{Command, command_of};
+use words::{Command, Once, command_of};
 
 /// The most octets of settings: sixteen pools and all keys take two thousand, so an endless input ends here.
 const MOST_OCTETS: usize = 1 << 20;
@@ -82,7 +88,7 @@ impl Outcome {
 fn answer<R: Threads + Wait + Sync + Net + Clock, P: Print + Sync>(
     rt: &R,
     alloc: Global,
-    command: Command,
+    command: Once,
     text: &[u8],
     notes: &P,
 ) -> Result<Outcome, Fault>
@@ -91,19 +97,24 @@ where
     R::Listener: Send + Drop,
 {
     let settings = settings_in(alloc, text);
-    advise(notes, alloc, text, &settings);
+    advise(
+        notes,
+        alloc,
+        text,
+        settings.as_ref().map_err(|error| *error),
+    );
     match (command, settings) {
         (_, Err(OpenError::Memory)) => Err(Fault::Memory),
         (_, Err(refusal)) => {
             let line = format!(in alloc; "{refusal}\n")?;
             Ok(Outcome::of(line.into_bytes(), 1))
         }
-        (Command::Check, Ok(settings)) => {
+        (Once::Check, Ok(settings)) => {
             let units = units_of(&settings);
             let line = format!(in alloc; "ok {units}\n")?;
             Ok(Outcome::of(line.into_bytes(), 0))
         }
-        (Command::Run { count, partner }, Ok(settings)) => {
+        (Once::Run { count, partner }, Ok(settings)) => {
             match run_node(rt, alloc, &settings, count, partner, notes) {
                 Ok(run) => Ok(Outcome::of_run(run)),
                 Err(fault) => Err(fault),
@@ -130,16 +141,16 @@ fn memory_or(error: io::Error, fault: Fault) -> Fault {
     }
 }
 
-fn answered<R: Threads + Wait + Sync + Net + Clock>(
+/// Does a command that takes its settings on standard input.
+fn done_once<R: Threads + Wait + Sync + Net + Clock>(
     rt: &HostRuntime,
     handles: &R,
+    command: Once,
 ) -> Result<u8, Fault>
 where
     R::Stream: Send + Drop,
     R::Listener: Send + Drop,
 {
-    let words = words_given(rt)?;
-    let command = command_of(rt.alloc(), &words)?;
     let mut text = Vec::new(rt.alloc());
     let mut input = rt.stdin().take(MOST_OCTETS as u64 + 1);
     if let Err(error) = input.read_to_end(&mut text) {
@@ -152,6 +163,23 @@ where
     match rt.stdout().write_all(&outcome.octets) {
         Ok(()) => outcome.status,
         Err(_) => Err(Fault::Write),
+    }
+}
+
+/// Does what the words of the command line ask, and gives the status.
+fn answered<R: Threads + Wait + Sync + Files + Net + Clock>(
+    rt: &HostRuntime,
+    handles: &R,
+) -> Result<u8, Fault>
+where
+    R::Stream: Send + Drop,
+    R::Listener: Send + Drop,
+{
+    let words = words_given(rt)?;
+    match command_of(rt.alloc(), &words)? {
+        Command::Once(command) => done_once(rt, handles, command),
+        Command::Serve(served) => serve_directory(rt, handles, &served),
+        Command::Ask { directory, request } => { ask(rt, handles, directory.as_str(), &request) }
     }
 }
 

@@ -4,6 +4,7 @@ use crate::fault::Fault;
 use clap::error::ErrorKind;
 use clap::{Arg, ArgAction, ArgMatches, Command as ClapCommand, Error as ClapError};
 use node_threads::Partner;
+use server_status::{Form, Leave, PARTNER_STOPPED, Request};
 use std::alloc::{AllocError, Global};
 use text_fields::number_of;
 
@@ -11,12 +12,30 @@ use text_fields::number_of;
 const MOST_DATAGRAMS: u32 = 1_000_000;
 
 /// A command of the node.
-#[derive(Clone, Copy, Debug, PartialEq, Eq)]
+#[derive(Debug, Drop)]
 pub enum Command {
-    /// Say what the settings on standard input are worth.
+    /// By the settings on standard input.
+    Once(Once),
+    /// Serve a directory until a person says to stop.
+    Serve(Served),
+    /// Ask the server of a directory.
+    Ask { directory: String, request: Request },
+}
+
+/// A command that takes its settings on standard input.
+#[derive(Clone, Copy, Debug, PartialEq, Eq)]
+pub enum Once {
+    /// Say what the settings are worth.
     Check,
     /// Serve so many datagrams, and write the journal.
     Run { count: u32, partner: Partner },
+}
+
+/// What is served: a directory, by the settings of a file, or of the directory's own where none is named.
+#[derive(Debug, Drop)]
+pub struct Served {
+    pub directory: String,
+    pub settings: Option<String>,
 }
 
 /// A command with one option more.
@@ -47,14 +66,66 @@ fn run_command<'a>(alloc: Global) -> Result<ClapCommand<'a>, AllocError> {
     with_option(alloc, run, "partner-down", false, ArgAction::SetTrue)
 }
 
-/// `check`, and `run` with its options.
+/// A command about a directory: `NAME --dir DIR`.
+fn directory_command<'a>(alloc: Global, name: &'a str) -> Result<ClapCommand<'a>, AllocError> {
+    with_option(
+        alloc,
+        ClapCommand::new(alloc, name),
+        "dir",
+        true,
+        ArgAction::Set,
+    )
+}
+
+/// `serve --dir DIR [--settings FILE]`.
+fn serve_command<'a>(alloc: Global) -> Result<ClapCommand<'a>, AllocError> {
+    let serve = directory_command(alloc, "serve")?;
+    with_option(alloc, serve, "settings", false, ArgAction::Set)
+}
+
+/// `status --dir DIR [--json] [--metrics]`.
+fn status_command<'a>(alloc: Global) -> Result<ClapCommand<'a>, AllocError> {
+    let status = directory_command(alloc, "status")?;
+    let status = with_option(alloc, status, "json", false, ArgAction::SetTrue)?;
+    with_option(alloc, status, "metrics", false, ArgAction::SetTrue)
+}
+
+/// `stop --dir DIR [--close]`.
+fn stop_command<'a>(alloc: Global) -> Result<ClapCommand<'a>, AllocError> {
+    let stop = directory_command(alloc, "stop")?;
+    with_option(alloc, stop, "close", false, ArgAction::SetTrue)
+}
+
+/// `partner-down --dir DIR WORDS`.
+fn partner_down_command<'a>(alloc: Global) -> Result<ClapCommand<'a>, AllocError> {
+    let down = directory_command(alloc, "partner-down")?;
+    down.arg(
+        Arg::new(alloc, "words")
+            .required(true)
+            .action(ArgAction::Set),
+    )
+}
+
+/// The commands that take their settings on standard input, and those about a directory.
 fn node_command<'a>(alloc: Global) -> Result<ClapCommand<'a>, AllocError> {
     let run = run_command(alloc)?;
+    let serve = serve_command(alloc)?;
+    let status = status_command(alloc)?;
+    let stop = stop_command(alloc)?;
+    let roll = directory_command(alloc, "roll")?;
+    let down = partner_down_command(alloc)?;
+    let normal = directory_command(alloc, "partner-normal")?;
     ClapCommand::new(alloc, "node_cli")
         .subcommand_required(true)
         .disable_help_subcommand(true)
         .subcommand(ClapCommand::new(alloc, "check"))?
-        .subcommand(run)
+        .subcommand(run)?
+        .subcommand(serve)?
+        .subcommand(status)?
+        .subcommand(stop)?
+        .subcommand(roll)?
+        .subcommand(down)?
+        .subcommand(normal)
 }
 
 /// Returns how many datagrams, 1 to 1,000,000, written as numbers are in a journal.
@@ -75,15 +146,80 @@ fn partner_given(options: &ArgMatches) -> Partner {
     }
 }
 
-fn command_in(matches: &ArgMatches) -> Option<Command> {
-    let (name, options) = matches.subcommand()?;
+/// How a status is to be written; of both forms none.
+fn form_given(options: &ArgMatches) -> Option<Form> {
+    match (options.get_flag("json"), options.get_flag("metrics")) {
+        (false, false) => Some(Form::Lines),
+        (true, false) => Some(Form::Json),
+        (false, true) => Some(Form::Metrics),
+        (true, true) => None,
+    }
+}
+
+fn leave_given(options: &ArgMatches) -> Leave {
+    if options.get_flag("close") {
+        Leave::Closed
+    } else {
+        Leave::Open
+    }
+}
+
+/// The words of an option or an argument.
+fn text_given(alloc: Global, options: &ArgMatches, name: &str) -> Result<String, Fault> {
+    match options.get_str(name) {
+        Some(words) => Ok(String::from_str(alloc, words)?),
+        None => Err(Fault::Usage),
+    }
+}
+
+/// What is served.
+fn served_given(alloc: Global, options: &ArgMatches) -> Result<Served, Fault> {
+    let settings = match options.get_str("settings") {
+        Some(file) => Some(String::from_str(alloc, file)?),
+        None => None,
+    };
+    Ok(Served {
+        directory: text_given(alloc, options, "dir")?,
+        settings,
+    })
+}
+
+/// What is asked of a server by a command of this name.
+fn request_given(name: &str, options: &ArgMatches) -> Result<Request, Fault> {
     match name {
-        "check" => Some(Command::Check),
-        "run" => Some(Command::Run {
-            count: count_given(options)?,
-            partner: partner_given(options),
+        "status" => match form_given(options) {
+            Some(form) => Ok(Request::Status(form)),
+            None => Err(Fault::Usage),
+        },
+        "stop" => Ok(Request::Stop(leave_given(options))),
+        "roll" => Ok(Request::Roll),
+        "partner-down" if options.get_str("words") == Some(PARTNER_STOPPED) => {
+            Ok(Request::PartnerDown)
+        }
+        "partner-down" => Err(Fault::NotVouched),
+        "partner-normal" => Ok(Request::PartnerNormal),
+        _ => Err(Fault::Usage),
+    }
+}
+
+fn command_in(alloc: Global, matches: &ArgMatches) -> Result<Command, Fault> {
+    let Some((name, options)) = matches.subcommand() else {
+        return Err(Fault::Usage);
+    };
+    match name {
+        "check" => Ok(Command::Once(Once::Check)),
+        "run" => match count_given(options) {
+            Some(count) => Ok(Command::Once(Once::Run {
+                count,
+                partner: partner_given(options),
+            })),
+            None => Err(Fault::Usage),
+        },
+        "serve" => Ok(Command::Serve(served_given(alloc, options)?)),
+        _ => Ok(Command::Ask {
+            request: request_given(name, options)?,
+            directory: text_given(alloc, options, "dir")?,
         }),
-        _ => None,
     }
 }
 
@@ -98,7 +234,7 @@ fn usage_fault(error: ClapError) -> Fault {
 /// The command that the words give, the first of which is the program's name.
 pub fn command_of(alloc: Global, words: &[String]) -> Result<Command, Fault> {
     match node_command(alloc)?.try_get_matches_from(words) {
-        Ok(matches) => command_in(&matches).ok_or(Fault::Usage),
+        Ok(matches) => command_in(alloc, &matches),
         Err(error) => Err(usage_fault(error)),
     }
 }

@@ -1,0 +1,68 @@
+//! Asking the server of a directory, by its control socket.
+
+use crate::fault::Fault;
+use node_daemon::CONTROL;
+use server_status::{Answer, Request, Verdict};
+use std::alloc::Global;
+use std::io::{Read, Write};
+use std::net::Net;
+use std::os::unix::net::UnixStream;
+use std::path::Path;
+use std::time::Duration;
+
+/// How many seconds the server may take to answer.
+const LONGEST_WAIT: u64 = 30;
+
+/// The most octets of an answer.
+const MOST_OCTETS: u64 = 1 << 20;
+
+/// What the server answers to a request; `None` where no server runs in the directory, or it doesn't answer.
+fn answer_of(net: &impl Net, alloc: Global, directory: &str, request: &Request) -> Option<Vec<u8>> {
+    let path = Path::new(directory).join(alloc, CONTROL).ok()?;
+    let mut stream = UnixStream::connect(net, path.as_path().as_str()).ok()?;
+    let longest = Some(Duration::from_secs(LONGEST_WAIT));
+    stream.set_read_timeout(longest).ok()?;
+    stream.write_all(request.words().as_bytes()).ok()?;
+    stream.write_all(b"\n").ok()?;
+    let mut octets = Vec::new(alloc);
+    stream.take(MOST_OCTETS).read_to_end(&mut octets).ok()?;
+    Some(octets)
+}
+
+/// Asks the server of a directory, and says what it answers: its text on standard output, or on standard error why it
+/// refuses. Gives the status: 0 where it was done, 1 where it was refused. `Silent` where no server runs there, or what
+/// it says is no answer.
+pub fn ask(
+    rt: &HostRuntime,
+    net: &impl Net,
+    directory: &str,
+    request: &Request,
+) -> Result<u8, Fault> {
+    let Some(octets) = answer_of(net, rt.alloc(), directory, request) else {
+        return Err(Fault::Silent);
+    };
+    let Ok(words) = str::from_utf8(&octets) else {
+        return Err(Fault::Silent);
+    };
+    match Answer::read(words) {
+        Some(
+            Answer {
+                verdict: Verdict::Done,
+                text,
+            },
+        ) => match rt.stdout().write_all(text.as_bytes()) {
+            Ok(()) => Ok(0),
+            Err(_) => Err(Fault::Write),
+        },
+        Some(
+            Answer {
+                verdict: Verdict::Refused(reason),
+                ..
+            },
+        ) => {
+            let _ = eprintln!(rt; "node: refused: {reason}");
+            Ok(1)
+        }
+        None => Err(Fault::Silent),
+    }
+}

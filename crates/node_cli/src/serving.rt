@@ -1,0 +1,99 @@
+//! Serving a directory until a person says to stop.
+
+use crate::MOST_OCTETS;
+use crate::advising::advise;
+use crate::fault::Fault;
+use crate::words::Served;
+use node_daemon::{ServeFailure, serve};
+use serve_settings::{ServeSettings, ServeSettingsError};
+use std::alloc::Global;
+use std::fs::{File, Files};
+use std::io;
+use std::io::Read;
+use std::net::Net;
+use std::path::Path;
+use std::sync::Wait;
+use std::time::Clock;
+
+/// The settings' file of a directory.
+const SETTINGS: &str = "settings.toml";
+
+/// What the file of this name holds, as far as settings go.
+fn content_of(rt: &HostRuntime, alloc: Global, path: Path<'_>) -> io::Result<Vec<u8>> {
+    let file = File::open(rt, path)?;
+    let mut text = Vec::new(alloc);
+    file.take(MOST_OCTETS as u64 + 1).read_to_end(&mut text)?;
+    Ok(text)
+}
+
+/// The text of the settings: of the file that is named, or of the directory's own.
+fn text_of(rt: &HostRuntime, alloc: Global, served: &Served) -> io::Result<Vec<u8>> {
+    match &served.settings {
+        Some(file) => content_of(rt, alloc, Path::new(file.as_str())),
+        None => {
+            let path = Path::new(served.directory.as_str()).join(alloc, SETTINGS)?;
+            content_of(rt, alloc, path.as_path())
+        }
+    }
+}
+
+/// The settings that a text has; why they are refused, and what in them is odd, is said on standard error.
+fn settings_in(rt: &HostRuntime, alloc: Global, text: &[u8]) -> Option<ServeSettings> {
+    let notes = rt.stderr();
+    match ServeSettings::read(alloc, text) {
+        Ok(settings) => {
+            advise(&notes, alloc, text, Ok(&settings.node));
+            Some(settings)
+        }
+        Err(error) => {
+            if let ServeSettingsError::Node(error) = error {
+                advise(&notes, alloc, text, Err(error));
+            }
+            let _ = eprintln!(rt; "<3>node: settings: {error}");
+            None
+        }
+    }
+}
+
+/// The status by which a daemon ends that failed: 1 where it was refused to start, 3 where the disk failed while it
+/// served, and 2 for any other fault.
+fn status_of(failure: &ServeFailure) -> u8 {
+    match failure {
+        ServeFailure::Folder(_) | ServeFailure::Start(_) => 1,
+        ServeFailure::Ended(error) if error.is_disk() => 3,
+        ServeFailure::Ended(_) | ServeFailure::Listen { .. } | ServeFailure::Control(_) => 2,
+    }
+}
+
+/// Serves a directory until a person says to stop. Gives the status: 0 then, 1 where the settings or the journal are
+/// refused, 3 where the disk failed; what was wrong is said on standard error.
+pub fn serve_directory<R: Wait + Files + Net + Clock>(
+    rt: &HostRuntime,
+    handles: &R,
+    served: &Served,
+) -> Result<u8, Fault> {
+    let alloc = rt.alloc();
+    let text = match text_of(rt, alloc, served) {
+        Ok(text) => text,
+        Err(error) => {
+            let _ = eprintln!(rt; "<3>node: the settings can't be read: {error}");
+            return Ok(1);
+        }
+    };
+    let Some(settings) = settings_in(rt, alloc, &text) else {
+        return Ok(1);
+    };
+    match serve(
+        rt,
+        handles,
+        served.directory.as_str(),
+        &settings,
+        &rt.stderr(),
+    ) {
+        Ok(()) => Ok(0),
+        Err(failure) => {
+            let _ = eprintln!(rt; "<3>node: {failure}");
+            Ok(status_of(&failure))
+        }
+    }
+}
