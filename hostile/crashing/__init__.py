@@ -1,0 +1,1 @@
+"""Two daemons that are killed at random instants, their clients, and what is held against their journals at the end."""
