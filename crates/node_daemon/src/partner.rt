@@ -197,7 +197,16 @@ impl<D: Door> Standing<D> {
         }
     }
 
-    /// Returns whether it stood for a while, so that the next one may begin soon.
+    /// Returns whether the next one may begin soon: where one of the two began its next volume or stopped, or where this
+    /// one stood for a while.
+    fn is_followed_soon(&self, parting: &Parting, now: &Moment) -> bool {
+        match parting {
+            Parting::Rolled | Parting::PartnerLeft => true,
+            _ => self.has_stood(now),
+        }
+    }
+
+    /// Returns whether it stood for a while.
     fn has_stood(&self, now: &Moment) -> bool {
         self.connection.has_heard()
             && now.instant.duration_since(self.begun.instant).as_secs() >= A_WHILE
@@ -296,7 +305,8 @@ impl<D: Door> Partner<D> {
             Some(parting) => {
                 log.tell(&Happening::Parted(parting));
                 running.part();
-                self.door.rest_after(standing.has_stood(now), now.instant);
+                self.door
+                    .rest_after(standing.is_followed_soon(&parting, now), now.instant);
             }
             None => self.standing = Some(standing),
         }
