@@ -3,15 +3,15 @@
 ghost use Rattle.std.specs.Prelude.{◌≡◌};
 ghost use Rattle.node_daemon.specs.declared.commands.Refusal.TheVariants.{Memory};
 
-use crate::clocks::{Clocks, Moment};
 use crate::daemon::Daemon;
-use crate::happening::Happening;
 use crate::reporting::{standing_of, units_of, volume_of};
 use binding_rules::ServerState;
 use daemon_devices::{Control, Datagrams, Door, Rest};
+use daemon_parties::{Clocks, Moment};
 use lead_time::Reading;
 use locked_book::ServeError;
 use order_book::Order;
+use server_notices::Happening;
 use server_run::Running;
 use server_status::{ClockState, Form, Leave, Link, Request, Status};
 use server_upkeep::{Bar, Roll, Told};

@@ -1,7 +1,7 @@
 //! A server of a pair as a daemon of one thread.
 //!
 //! A [`Daemon`] runs a server (`server_run`) over devices that don't wait (`daemon_devices`), a turn after another: it
-//! hears datagrams, the partner and the control socket, does what is owed, puts all new lines to the disk by one write
+//! hears clients, the partner and the control socket (`daemon_parties`), does what is owed, puts all new lines to the disk by one write
 //! and one sync, and only then tells: answers to their clients, frames to the partner, and the control socket. So
 //! nothing is told that a loss of power could take back.
 //!
@@ -17,24 +17,12 @@
 //! ```
 #![tactic(auto)]
 
-mod clients;
-mod clocks;
 mod commands;
 mod daemon;
-mod desk;
 mod error;
-mod failing;
-mod happening;
-mod older;
-mod partner;
 mod reporting;
 mod serving;
-mod starting;
-mod watch;
 
-pub use clocks::{Clocks, Moment, SystemClocks};
 pub use daemon::Daemon;
-pub use error::{DaemonError, NotRolled};
-pub use failing::StartFailure;
+pub use error::DaemonError;
 pub use serving::{CONTROL, ServeFailure, serve};
-pub use starting::{Began, Pairing, Started, VolumeFiles, start};

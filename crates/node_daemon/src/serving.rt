@@ -3,21 +3,16 @@
 ghost use Rattle.std.specs.Prelude.{◌≡◌, [], ◌∷◌, IfOk};
 ghost use Rattle.volume_folder.specs.Names.{held};
 
-use crate::clients::Clients;
-use crate::clocks::{Clocks, Moment, SystemClocks};
 use crate::daemon::Daemon;
-use crate::desk::Desk;
 use crate::error::DaemonError;
-use crate::failing::StartFailure;
-use crate::happening::{Happening, Log};
-use crate::partner::Partner;
 use crate::reporting::head_lines_of;
-use crate::starting::{Began, Pairing, Started, start};
-use crate::watch::Watch;
 use binding_rules::Role;
 use daemon_devices::{ControlSocket, Readiness, SystemDoor, UdpDatagrams, Watched};
+use daemon_parties::{Clients, Clocks, Desk, HearingError, Moment, Partner, SystemClocks};
+use folder_start::{Began, Pairing, StartFailure, Started, start};
 use real_files::{FolderError, RealFolder, RealVolumes};
 use serve_settings::ServeSettings;
+use server_notices::{Happening, Log, Watch};
 use server_settings::Settings;
 use server_status::SyncTimes;
 use server_upkeep::Told;
@@ -92,7 +87,7 @@ fn opened(rt: &HostRuntime, directory: &str, role: Role) -> Result<RealVolumes, 
 
 /// What the clocks read, or that they tell no time.
 fn moment<R: Handle>(clocks: &SystemClocks<'_, R>) -> Result<Moment, ServeFailure> {
-    clocks.now().ok_or(ServeFailure::Ended(DaemonError::Clock))
+    clocks.now().ok_or(ServeFailure::Ended(DaemonError::Hearing(HearingError::Clock)))
 }
 
 /// The door by which the partner comes, by a server's role; shut where it has none.

@@ -1,14 +1,47 @@
 //! Why a server doesn't start.
 
-use crate::error::NotRolled;
-use book_volumes::{BeginVolumeError, ReopenError};
+use book_volumes::{BeginVolumeError, PutError, ReopenError, RollError};
 use folder_recovery::FolderRecoveryError;
 use locked_book::ServeError;
-use server_run::BeginFault;
+use server_run::{BeginFault, RollFault};
 use server_start::StartError;
 use std::io;
 use thiserror::Error;
 use torn_disk::DeviceError;
+
+/// Why a roll wasn't done.
+#[derive(Clone, Copy, Debug, PartialEq, Eq, Error)]
+pub enum NotRolled {
+    /// The book doesn't take its close line.
+    #[error("the journal takes no close line: {0}")]
+    NotClosed(ServeError),
+    /// The rules let no volume follow.
+    #[error("no volume may follow")]
+    Barred,
+    /// The volume wasn't ended.
+    #[error("the volume isn't ended: {0}")]
+    NotEnded(PutError),
+    /// The next volume wasn't begun.
+    #[error("the next volume isn't begun")]
+    NotBegun,
+    /// A growth was refused.
+    #[error("out of memory")]
+    Memory,
+}
+
+impl NotRolled {
+    /// What it is, without the files that were made.
+    pub fn of<D: Drop>(fault: RollFault<D>) -> NotRolled {
+        match fault {
+            RollFault::NotClosed(refusal) => NotRolled::NotClosed(refusal),
+            RollFault::Barred => NotRolled::Barred,
+            RollFault::NotRolled(RollError::NotEnded(error)) => NotRolled::NotEnded(error),
+            RollFault::NotRolled(RollError::NotBegun(BeginVolumeError::Memory))
+            | RollFault::Memory => NotRolled::Memory,
+            RollFault::NotRolled(RollError::NotBegun(_)) => NotRolled::NotBegun,
+        }
+    }
+}
 
 /// Why a server doesn't start with its folder.
 #[derive(Debug, Drop, Error)]

@@ -3,13 +3,13 @@
 ghost use Rattle.std.specs.Prelude.{◌≡◌, ◌≤◌, ℕ, length};
 
 use crate::clocks::{Clocks, Moment};
-use crate::error::DaemonError;
-use crate::happening::{Happening, Log, Parting};
+use crate::hearing::HearingError;
 use binding_rules::Counter;
 use daemon_devices::{Connection, Door, Got, QuietSecond};
 use failover_message::{Frame, FrameKind, encode};
 use lead_time::Reading;
 use link_talk::{Came, Handed, Stage, TalkError};
+use server_notices::{Happening, Log, Parting};
 use server_run::Running;
 use server_settings::Settings;
 use std::alloc::{AllocError, Global};
@@ -121,13 +121,13 @@ impl<D: Door> Standing<D> {
         buffer: &mut [u8],
         begun: Instant,
         clocks: &C,
-    ) -> Result<bool, DaemonError>
+    ) -> Result<bool, HearingError>
     where
         F::File: Drop,
     {
         let got = self.connection.read(buffer, begun);
         let Some(now) = clocks.now() else {
-            return Err(DaemonError::Clock);
+            return Err(HearingError::Clock);
         };
         let came = came(got, buffer, &mut self.quiet, &now);
         match running.heed(settings, now.reading, &came) {
@@ -265,7 +265,7 @@ impl<D: Door> Partner<D> {
         now: &Moment,
         clocks: &C,
         log: &Log<L>,
-    ) -> Result<bool, DaemonError>
+    ) -> Result<bool, HearingError>
     where
         F::File: Drop,
     {

@@ -6,7 +6,7 @@ use server_upkeep::{Owed, Roll, Room};
 
 /// What was seen last of what lasts: each change is told once.
 #[derive(Clone, Copy)]
-pub(crate) struct Watch {
+pub struct Watch {
     clock: ClockState,
     roll: Roll,
     room: Room,
@@ -14,7 +14,7 @@ pub(crate) struct Watch {
 
 impl Watch {
     /// All was well.
-    pub(crate) fn new() -> Watch {
+    pub fn new() -> Watch {
         Watch {
             clock: ClockState::Right,
             roll: Roll::NotDue,
@@ -23,12 +23,12 @@ impl Watch {
     }
 
     /// Whether the clock may go on with the journal, by what was seen last.
-    pub(crate) fn clock(&self) -> ClockState {
+    pub fn clock(&self) -> ClockState {
         self.clock
     }
 
     /// Sees how the clock is.
-    pub(crate) fn see_clock<L: Print>(&mut self, clock: ClockState, log: &Log<'_, L>) {
+    pub fn see_clock<L: Print>(&mut self, clock: ClockState, log: &Log<'_, L>) {
         if clock == self.clock {
             return;
         }
@@ -40,7 +40,7 @@ impl Watch {
     }
 
     /// Sees what is owed.
-    pub(crate) fn see_owed<L: Print>(&mut self, owed: &Owed, log: &Log<'_, L>) {
+    pub fn see_owed<L: Print>(&mut self, owed: &Owed, log: &Log<'_, L>) {
         if owed.roll != self.roll {
             self.roll = owed.roll;
             if let Roll::Forbidden(bar) = owed.roll {

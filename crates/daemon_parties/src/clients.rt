@@ -1,7 +1,7 @@
 //! What clients and relays ask, and what they are told.
 
 use crate::clocks::Clocks;
-use crate::error::DaemonError;
+use crate::hearing::HearingError;
 use daemon_devices::Datagrams;
 use dhcp6_pd::{ClientKind, PdError, ServerKind};
 use lead_time::{Reading, Transit};
@@ -82,7 +82,7 @@ impl<G: Datagrams> Clients<G> {
         &mut self,
         running: &mut Running<F, G::Peer>,
         clocks: &C,
-    ) -> Result<usize, DaemonError>
+    ) -> Result<usize, HearingError>
     where
         F::File: Drop,
     {
@@ -90,10 +90,10 @@ impl<G: Datagrams> Clients<G> {
             let (length, peer) = match self.datagrams.receive(&mut self.buffer) {
                 Ok(Some(came)) => came,
                 Ok(None) => return Ok(count),
-                Err(error) => return Err(DaemonError::Datagrams(error)),
+                Err(error) => return Err(HearingError::Datagrams(error)),
             };
             let Some(now) = clocks.now() else {
-                return Err(DaemonError::Clock);
+                return Err(HearingError::Clock);
             };
             let heard = running.hear(now.reading, &self.buffer[..length], peer);
             self.count(&heard);
@@ -102,12 +102,12 @@ impl<G: Datagrams> Clients<G> {
     }
 
     /// Passes over the datagrams that have come, 64 at most: nobody answers them later. Returns how many.
-    pub fn pass_over(&mut self) -> Result<usize, DaemonError> {
+    pub fn pass_over(&mut self) -> Result<usize, HearingError> {
         for count in 0..MOST_HEARD {
             match self.datagrams.receive(&mut self.buffer) {
                 Ok(Some(_)) => {}
                 Ok(None) => return Ok(count),
-                Err(error) => return Err(DaemonError::Datagrams(error)),
+                Err(error) => return Err(HearingError::Datagrams(error)),
             }
         }
         Ok(MOST_HEARD)

@@ -1,0 +1,18 @@
+//! A server's start over the folder of its volumes.
+//!
+//! [`start`] reads the last files of a folder, and goes on with what they lead to (`folder_recovery`), if a server of these
+//! settings may (`server_start`): with a first volume, the last one, or the one that follows it. Of the volumes before, it
+//! reads the messages that the partner may lack.
+//!
+//! ```text
+//! let count = volumes.count();
+//! let Started { running, began, torn } = start(alloc, volumes, count, &settings, Pairing::Paired, now)?;
+//! ```
+#![tactic(auto)]
+
+mod failing;
+mod older;
+mod starting;
+
+pub use failing::{NotRolled, StartFailure};
+pub use starting::{Began, Pairing, Started, VolumeFiles, start};
