@@ -1,49 +1,53 @@
 //! Why the program has no answer.
 
 ghost use Rattle.std.specs.Prelude.{◌≡◌};
-ghost use Rattle.node_cli.specs.declared.fault.Fault.TheVariants.{Node, Memory};
+ghost use Rattle.node_cli.specs.declared.fault.Fault.TheVariants.{Words, Run, Memory};
 
+use node_run::RunError;
 use node_threads::NodeError;
-use std::alloc::{AllocError, AllocFailed};
+use node_words::WordsError;
+use std::alloc::AllocError;
 use thiserror::Error;
 
 /// Why the program has no answer.
 #[derive(Clone, Copy, Debug, PartialEq, Eq, Error)]
 pub enum Fault {
     /// The words are none of its commands.
-    #[error("fault Usage")]
-    Usage,
+    #[error("{0}")]
+    Words(WordsError),
     /// Standard input can't be read.
     #[error("fault Read")]
     Read,
     /// Standard output can't be written.
     #[error("fault Write")]
     Write,
-    /// The address can't be listened at, or the clock tells no time.
-    #[error("fault Net")]
-    Net,
-    /// The book and its receipts disagree.
-    #[error("fault Book")]
-    Book,
     /// A growth was refused.
     #[error("fault Memory")]
     Memory,
-    /// The words that vouch for the partner's stop aren't said.
-    #[error("partner-down wants the words \"the partner is stopped\": say them only of a partner that serves nobody")]
-    NotVouched,
     /// No server answers.
     #[error("no server answers in this directory")]
     Silent,
+    /// The run has no journal.
+    #[error("{0}")]
+    Run(RunError),
     /// A worker has ended.
     #[error("{0}")]
     Node(NodeError),
 }
 
-impl From<NodeError> for Fault {
-    ghost from_gives = { λ fault e. e ≡ Node fault };
+impl From<WordsError> for Fault {
+    ghost from_gives = { λ error e. e ≡ Words error };
 
-    fn from(fault: NodeError) -> Fault {
-        Fault::Node(fault)
+    fn from(error: WordsError) -> Fault {
+        Fault::Words(error)
+    }
+}
+
+impl From<RunError> for Fault {
+    ghost from_gives = { λ error e. e ≡ Run error };
+
+    fn from(error: RunError) -> Fault {
+        Fault::Run(error)
     }
 }
 
@@ -51,14 +55,6 @@ impl From<AllocError> for Fault {
     ghost from_gives = { λ _ e. e ≡ Memory };
 
     fn from(_error: AllocError) -> Fault {
-        Fault::Memory
-    }
-}
-
-impl<T: Drop> From<AllocFailed<T>> for Fault {
-    ghost from_gives = { λ _ e. e ≡ Memory };
-
-    fn from(_error: AllocFailed<T>) -> Fault {
         Fault::Memory
     }
 }

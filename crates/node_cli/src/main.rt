@@ -8,20 +8,15 @@ ghost use Rattle.std.specs.Prelude.{◌<◌, ◌^◌, length, IsErrOf};
 
 mod advising;
 mod asking;
-mod connection;
 mod fault;
-mod linking;
-mod meeting;
-mod running;
 mod serving;
-mod telling;
-mod words;
 
 use advising::advise;
 use asking::ask;
 use fault::Fault;
+use node_run::{Run, run_node};
 use node_threads::NodeSettings;
-use running::{Run, run_node};
+use node_words::{Command, Once, WordsError, command_of};
 use server_book::OpenError;
 use serving::serve_directory;
 use std::alloc::Global;
@@ -33,7 +28,6 @@ use std::sync::Wait;
 use std::thread::Threads;
 use std::time::Clock;
 use std::{env, io};
-use words::{Command, Once, command_of};
 
 /// The most octets of settings: sixteen pools and all keys take two thousand, so an endless input ends here.
 const MOST_OCTETS: usize = 1 << 20;
@@ -117,7 +111,7 @@ where
         (Once::Run { count, partner }, Ok(settings)) => {
             match run_node(rt, alloc, &settings, count, partner, notes) {
                 Ok(run) => Ok(Outcome::of_run(run)),
-                Err(fault) => Err(fault),
+                Err(error) => Err(Fault::Run(error)),
             }
         }
     }
@@ -127,7 +121,7 @@ where
 fn words_given(rt: &HostRuntime) -> Result<Vec<String>, Fault> {
     let words = match env::args(rt) {
         Ok(words) => words,
-        Err(error) => return Err(memory_or(error, Fault::Usage)),
+        Err(error) => return Err(memory_or(error, Fault::Words(WordsError::Usage))),
     };
     words.collect(rt.alloc()).map_err(|_| Fault::Memory)
 }

@@ -3,8 +3,8 @@
 use crate::MOST_OCTETS;
 use crate::advising::advise;
 use crate::fault::Fault;
-use crate::words::Served;
 use node_daemon::{ServeFailure, serve};
+use node_words::Served;
 use serve_settings::{ServeSettings, ServeSettingsError};
 use std::alloc::Global;
 use std::fs::{File, Files};

@@ -6,6 +6,7 @@ ghost use Rattle.node_daemon.specs.declared.commands.Refusal.TheVariants.{Memory
 use crate::daemon::Daemon;
 use crate::reporting::{standing_of, units_of, volume_of};
 use binding_rules::ServerState;
+use control_words::{Form, Leave, Request};
 use daemon_devices::{Control, Datagrams, Door, Rest};
 use daemon_parties::{Clocks, Moment};
 use lead_time::Reading;
@@ -13,7 +14,7 @@ use locked_book::ServeError;
 use order_book::Order;
 use server_notices::Happening;
 use server_run::Running;
-use server_status::{ClockState, Form, Leave, Link, Request, Status};
+use server_status::{ClockState, Link, Status};
 use server_upkeep::{Bar, Roll, Told};
 use std::alloc::AllocError;
 use thiserror::Error;

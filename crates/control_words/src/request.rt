@@ -2,8 +2,8 @@
 
 ghost use Rattle.std.specs.Prelude.{◌≡◌, ◌↔◌, Some};
 ghost use Rattle.text_fields.specs.Parsing.{Finds};
-ghost use Rattle.server_status.specs.declared.request.Request.{Request as RequestValue};
-ghost use Rattle.server_status.specs.Words.{request_words, request_of};
+ghost use Rattle.control_words.specs.declared.request.Request.{Request as RequestValue};
+ghost use Rattle.control_words.specs.Words.{request_words, request_of};
 
 use std::fmt;
 use std::fmt::Write;

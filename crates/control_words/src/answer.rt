@@ -2,9 +2,9 @@
 
 ghost use Rattle.std.specs.Prelude.{◌≡◌, ◌++◌, OnOk, MatchOption};
 ghost use Rattle.std.specs.String.{string_bytes};
-ghost use Rattle.server_status.specs.declared.answer.Answer.{Answer as AnswerValue};
-ghost use Rattle.server_status.specs.declared.answer.Verdict.{Verdict as VerdictValue};
-ghost use Rattle.server_status.specs.Words.{verdict_words, answer_words, IsAnswer};
+ghost use Rattle.control_words.specs.declared.answer.Answer.{Answer as AnswerValue};
+ghost use Rattle.control_words.specs.declared.answer.Verdict.{Verdict as VerdictValue};
+ghost use Rattle.control_words.specs.Words.{verdict_words, answer_words, IsAnswer};
 
 use std::alloc::AllocError;
 
@@ -24,7 +24,6 @@ pub struct Answer<'a> {
 }
 
 /// Returns what a line, without its line feed, says of a request.
-
 fn verdict_of<'a>(line: &'a str) -> Option<Verdict<'a>>
     ensures { MatchOption result ((v : VerdictValue) → line.entry.now ≡ verdict_words v → ⊥)
         (λ v. line.entry.now ≡ verdict_words v) }

@@ -1,10 +1,10 @@
 //! What the words of the command line ask.
 
-use crate::fault::Fault;
+use crate::error::WordsError;
 use clap::error::ErrorKind;
 use clap::{Arg, ArgAction, ArgMatches, Command as ClapCommand, Error as ClapError};
-use node_threads::Partner;
-use server_status::{Form, Leave, PARTNER_STOPPED, Request};
+use client_service::Partner;
+use control_words::{Form, Leave, PARTNER_STOPPED, Request};
 use std::alloc::{AllocError, Global};
 use text_fields::number_of;
 
@@ -165,15 +165,15 @@ fn leave_given(options: &ArgMatches) -> Leave {
 }
 
 /// The words of an option or an argument.
-fn text_given(alloc: Global, options: &ArgMatches, name: &str) -> Result<String, Fault> {
+fn text_given(alloc: Global, options: &ArgMatches, name: &str) -> Result<String, WordsError> {
     match options.get_str(name) {
         Some(words) => Ok(String::from_str(alloc, words)?),
-        None => Err(Fault::Usage),
+        None => Err(WordsError::Usage),
     }
 }
 
 /// What is served.
-fn served_given(alloc: Global, options: &ArgMatches) -> Result<Served, Fault> {
+fn served_given(alloc: Global, options: &ArgMatches) -> Result<Served, WordsError> {
     let settings = match options.get_str("settings") {
         Some(file) => Some(String::from_str(alloc, file)?),
         None => None,
@@ -185,26 +185,26 @@ fn served_given(alloc: Global, options: &ArgMatches) -> Result<Served, Fault> {
 }
 
 /// What is asked of a server by a command of this name.
-fn request_given(name: &str, options: &ArgMatches) -> Result<Request, Fault> {
+fn request_given(name: &str, options: &ArgMatches) -> Result<Request, WordsError> {
     match name {
         "status" => match form_given(options) {
             Some(form) => Ok(Request::Status(form)),
-            None => Err(Fault::Usage),
+            None => Err(WordsError::Usage),
         },
         "stop" => Ok(Request::Stop(leave_given(options))),
         "roll" => Ok(Request::Roll),
         "partner-down" if options.get_str("words") == Some(PARTNER_STOPPED) => {
             Ok(Request::PartnerDown)
         }
-        "partner-down" => Err(Fault::NotVouched),
+        "partner-down" => Err(WordsError::NotVouched),
         "partner-normal" => Ok(Request::PartnerNormal),
-        _ => Err(Fault::Usage),
+        _ => Err(WordsError::Usage),
     }
 }
 
-fn command_in(alloc: Global, matches: &ArgMatches) -> Result<Command, Fault> {
+fn command_in(alloc: Global, matches: &ArgMatches) -> Result<Command, WordsError> {
     let Some((name, options)) = matches.subcommand() else {
-        return Err(Fault::Usage);
+        return Err(WordsError::Usage);
     };
     match name {
         "check" => Ok(Command::Once(Once::Check)),
@@ -213,7 +213,7 @@ fn command_in(alloc: Global, matches: &ArgMatches) -> Result<Command, Fault> {
                 count,
                 partner: partner_given(options),
             })),
-            None => Err(Fault::Usage),
+            None => Err(WordsError::Usage),
         },
         "serve" => Ok(Command::Serve(served_given(alloc, options)?)),
         _ => Ok(Command::Ask {
@@ -223,18 +223,18 @@ fn command_in(alloc: Global, matches: &ArgMatches) -> Result<Command, Fault> {
     }
 }
 
-fn usage_fault(error: ClapError) -> Fault {
+fn usage_error(error: ClapError) -> WordsError {
     if error.kind() == ErrorKind::OutOfMemory {
-        Fault::Memory
+        WordsError::Memory
     } else {
-        Fault::Usage
+        WordsError::Usage
     }
 }
 
 /// The command that the words give, the first of which is the program's name.
-pub fn command_of(alloc: Global, words: &[String]) -> Result<Command, Fault> {
+pub fn command_of(alloc: Global, words: &[String]) -> Result<Command, WordsError> {
     match node_command(alloc)?.try_get_matches_from(words) {
         Ok(matches) => command_in(alloc, &matches),
-        Err(error) => Err(usage_fault(error)),
+        Err(error) => Err(usage_error(error)),
     }
 }

@@ -2,7 +2,7 @@
 
 ghost use Rattle.std.specs.Prelude.{◌≡◌, ◌≤◌, ◌+◌, length, IfSome};
 
-use crate::fault::Fault;
+use crate::error::RunError;
 use crate::linking::keep_link;
 use crate::telling::Lines;
 use binding_rules::ServerState;
@@ -139,16 +139,16 @@ where
         blank: Blank,
         book: Book,
         passes: usize,
-    ) -> Result<(Book, Result<u32, NodeError>), Fault>
+    ) -> Result<(Book, Result<u32, NodeError>), RunError>
         requires name { blank.name ≡ N.name }
         requires passes { (blank.parts ≡ N.parts) × (N.parts ≡ passes) × (N.passes ≡ passes) }
         requires lines { N.opened ≡ length book.lines }
     {
         let Ok((shared, mut passes)) = SharedBook::<N>::open(self.alloc, blank, book, passes) else {
-            return Err(Fault::Memory);
+            return Err(RunError::Memory);
         };
         let Some(mut link) = passes.pop() else {
-            return Err(Fault::Book);
+            return Err(RunError::Book);
         };
         let lent = &shared;
         let (link, done) = thread::join(
@@ -164,7 +164,7 @@ where
             },
         );
         let Some(done) = done else {
-            return Err(Fault::Memory);
+            return Err(RunError::Memory);
         };
         let Done {
             mut passes,
@@ -173,19 +173,19 @@ where
         passes.push(link)?;
         match shared.close(passes) {
             Ok(book) => Ok((book, received)),
-            Err(_) => Err(Fault::Book),
+            Err(_) => Err(RunError::Book),
         }
     }
 }
 
 /// Closes a book, if it may be closed.
-fn closes<C: Clock>(book: &mut Book, clock: &C) -> Result<(), Fault> {
+fn closes<C: Clock>(book: &mut Book, clock: &C) -> Result<(), RunError> {
     let Ok(now) = clock.now() else {
-        return Err(Fault::Net);
+        return Err(RunError::Net);
     };
     match book.apply(now, &Order::Close) {
         Ok(_) => Ok(()),
-        Err(_) => Err(Fault::Book),
+        Err(_) => Err(RunError::Book),
     }
 }
 
@@ -195,18 +195,18 @@ fn opened<C: Clock>(
     settings: &NodeSettings,
     partner: Partner,
     clock: &C,
-) -> Result<Book, Fault> {
+) -> Result<Book, RunError> {
     let Ok(now) = clock.now() else {
-        return Err(Fault::Net);
+        return Err(RunError::Net);
     };
     let Ok(mut book) = Book::open(alloc, now, &settings.server) else {
-        return Err(Fault::Memory);
+        return Err(RunError::Memory);
     };
     match partner {
         Partner::Up => Ok(book),
         Partner::Down => match book.apply(now, &Order::State(ServerState::Down)) {
             Ok(_) => Ok(book),
-            Err(_) => Err(Fault::Memory),
+            Err(_) => Err(RunError::Memory),
         },
     }
 }
@@ -221,14 +221,14 @@ pub fn run_node<R: Threads + Wait + Sync + Net + Handle, P: Print + Sync>(
     count: u32,
     partner: Partner,
     notes: &P,
-) -> Result<Run, Fault>
+) -> Result<Run, RunError>
 where
     R::Stream: Send + Drop,
     R::Listener: Send + Drop,
 {
     let listen = settings.ways.listen;
     let Ok(socket) = UdpSocket::bind(rt, listen) else {
-        return Err(Fault::Net);
+        return Err(RunError::Net);
     };
     let _ = println!(notes; "node: listens for clients and relays at {listen}");
     let clock = SystemClock::new(rt);
@@ -259,6 +259,6 @@ where
     closes(&mut book, &clock)?;
     match write(alloc, book.role(), book.head(), book.journal()) {
         Ok(journal) => Ok(Run { journal, received }),
-        Err(_) => Err(Fault::Memory),
+        Err(_) => Err(RunError::Memory),
     }
 }

@@ -1,13 +1,13 @@
 -- The lines by which a person tells a server something, and what it answers.
 use Rattle.std.specs.Prelude.{◌≡◌, ◌≢◌, ℕ, ◌<◌, List, ◌∷◌, ◌++◌, length, get_or, codes, Option, Some, None}
 use Rattle.std.specs.Prelude.{bytes_eq, if◌then◌else◌}
-use Rattle.server_status.specs.declared.request.Request.{Request}
-use Rattle.server_status.specs.declared.request.Request.TheVariants.{Status, Stop, Roll, PartnerDown, PartnerNormal}
-use Rattle.server_status.specs.declared.request.Form.TheVariants.{Lines, Json, Metrics}
-use Rattle.server_status.specs.declared.request.Leave.TheVariants.{Open, Closed}
-use Rattle.server_status.specs.declared.answer.Verdict.{Verdict}
-use Rattle.server_status.specs.declared.answer.Verdict.TheVariants.{Done, Refused}
-use Rattle.server_status.specs.declared.answer.Answer.{Answer}
+use Rattle.control_words.specs.declared.request.Request.{Request}
+use Rattle.control_words.specs.declared.request.Request.TheVariants.{Status, Stop, Roll, PartnerDown, PartnerNormal}
+use Rattle.control_words.specs.declared.request.Form.TheVariants.{Lines, Json, Metrics}
+use Rattle.control_words.specs.declared.request.Leave.TheVariants.{Open, Closed}
+use Rattle.control_words.specs.declared.answer.Verdict.{Verdict}
+use Rattle.control_words.specs.declared.answer.Verdict.TheVariants.{Done, Refused}
+use Rattle.control_words.specs.declared.answer.Answer.{Answer}
 
 -- ---- requests
 

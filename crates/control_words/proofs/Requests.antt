@@ -4,11 +4,11 @@ use Rattle.std.specs.Prelude.{if◌then◌else◌, refl}
 use Rattle.std.proofs.Common.{ap, sym, ◌∙◌}
 use Rattle.std.proofs.lemmas.Slice.Eq.{bytes_eq-Decides}
 use Rattle.std.proofs.lemmas.Option.{same_Some, none-some}
-use Rattle.server_status.specs.declared.request.Request.{Request}
-use Rattle.server_status.specs.declared.request.Request.TheVariants.{Status, Stop, Roll, PartnerDown, PartnerNormal}
-use Rattle.server_status.specs.declared.request.Form.TheVariants.{Lines, Json, Metrics}
-use Rattle.server_status.specs.declared.request.Leave.TheVariants.{Open, Closed}
-use Rattle.server_status.specs.Words.{request_words, request_of}
+use Rattle.control_words.specs.declared.request.Request.{Request}
+use Rattle.control_words.specs.declared.request.Request.TheVariants.{Status, Stop, Roll, PartnerDown, PartnerNormal}
+use Rattle.control_words.specs.declared.request.Form.TheVariants.{Lines, Json, Metrics}
+use Rattle.control_words.specs.declared.request.Leave.TheVariants.{Open, Closed}
+use Rattle.control_words.specs.Words.{request_words, request_of}
 
 words_read : (r : Request) → request_of (request_words r) ≡ Some r
 unfolding request_of

@@ -1,5 +1,5 @@
 use Rattle.std.proofs.Common.{length}
-use Rattle.node_cli.proofs.running.run_node.Given as goal
+use Rattle.node_run.proofs.running.run_node.Given as goal
 
 abbrev pub ghosts-serve-N-Ledger : goal.ghosts-serve-N-Ledger
 ghosts-serve-N-Ledger g a = record { name = a.blank.name; parts = a.blank.parts }

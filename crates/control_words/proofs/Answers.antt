@@ -3,9 +3,9 @@ use Rattle.std.specs.Prelude.{◌≡◌, ◌≢◌, ℕ, ◌<◌, List, ◌∷�
 use Rattle.std.specs.Borrow.{Bor}
 use Rattle.std.proofs.Common.{subst, arith}
 use Rattle.std.proofs.lemmas.Str.Pattern.{IsSplitOnceResult, split_after, split_parts}
-use Rattle.server_status.specs.declared.answer.Verdict.{Verdict}
-use Rattle.server_status.specs.declared.answer.Answer.{Answer}
-use Rattle.server_status.specs.Words.{verdict_words, IsOneLine, IsAnswer}
+use Rattle.control_words.specs.declared.answer.Verdict.{Verdict}
+use Rattle.control_words.specs.declared.answer.Answer.{Answer}
+use Rattle.control_words.specs.Words.{verdict_words, IsOneLine, IsAnswer}
 
 abbrev Parts : Type 0
 Parts = Bor (List ℕ) × Bor (List ℕ)

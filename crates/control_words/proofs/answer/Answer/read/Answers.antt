@@ -1,5 +1,5 @@
-use Rattle.server_status.proofs.Answers.{no_line, no_verdict, with_verdict}
-use Rattle.server_status.proofs.answer.Answer.read.Goals as goal
+use Rattle.control_words.proofs.Answers.{no_line, no_verdict, with_verdict}
+use Rattle.control_words.proofs.answer.Answer.read.Goals as goal
 
 -- src/answer.rt:48:13
 pub returns-in_default : goal.returns-in_default
