@@ -12,6 +12,7 @@
 
 mod failing;
 mod older;
+mod reached;
 mod starting;
 
 pub use failing::{NotRolled, StartFailure};

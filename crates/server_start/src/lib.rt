@@ -5,6 +5,7 @@
 //! below the book's last line ([`is_behind`], which a server also asks while it runs). A book that goes on gets one
 //! line, `restart`. What needs a disk is a step of [`Start`], which a caller takes by `book_volumes`; the book of the
 //! next volume then gets its `restart` by [`restart`], since the partner may have taken this server for down meanwhile.
+//! Of a server that nobody can have taken for down [`may_start`] asks the same, and its book goes on as it is.
 //!
 //! ```text
 //! match start_with(alloc, recover_folder(alloc, role, &files)?.step, &settings, now)? {
@@ -25,4 +26,4 @@ pub use clock::is_behind;
 pub use error::StartError;
 pub use opening::{Opening, opening_of};
 pub use setting::{Differing, Setting};
-pub use starting::{Start, restart, start_with};
+pub use starting::{Start, may_start, restart, start_with};

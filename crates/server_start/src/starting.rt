@@ -43,8 +43,9 @@ pub fn restart(mut book: Book, now: Reading) -> Result<Book, BookError>
     }
 }
 
-/// Returns whether a book may be started with, by the settings first and then by the clock.
-fn may_start(
+/// Asks whether a book may be started with, by the settings first and then by the clock: `Settings`, `ClockBehind`;
+/// `Memory` where a growth was refused.
+pub fn may_start(
     alloc: Global,
     book: &Book,
     settings: &Settings,
