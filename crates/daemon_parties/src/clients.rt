@@ -3,8 +3,9 @@
 use crate::clocks::Clocks;
 use crate::hearing::HearingError;
 use daemon_devices::Datagrams;
-use dhcp6_pd::{ClientKind, PdError, ServerKind};
+use dhcp6_pd::{ClientKind, PdError, PdFault, ServerKind};
 use lead_time::{Reading, Transit};
+use server_notices::{Happening, Log};
 use server_run::{Heard, HeldAnswer, Running};
 use server_status::Traffic;
 use std::alloc::{AllocError, Global};
@@ -40,6 +41,12 @@ fn answer_kind(kind: ClientKind) -> ServerKind {
     }
 }
 
+/// Returns whether a datagram with this fault is ordinary traffic: it was meant for another server, or has a type that
+/// others read.
+fn is_ordinary(fault: PdFault) -> bool {
+    matches!(fault, PdFault::NotOurs | PdFault::Ignored)
+}
+
 impl<G: Datagrams> Clients<G> {
     /// Clients whose datagrams come there. An error where a growth was refused.
     pub fn new(alloc: Global, datagrams: G, transit: Transit) -> Result<Clients<G>, AllocError> {
@@ -61,8 +68,8 @@ impl<G: Datagrams> Clients<G> {
         }
     }
 
-    /// Counts what became of a datagram.
-    fn count(&mut self, heard: &Heard) {
+    /// Counts what became of a datagram. A fault that isn't ordinary is told.
+    fn count<L: Print>(&mut self, heard: &Heard, now: Reading, log: &mut Log<'_, L>) {
         match heard {
             Heard::Answered(kind) => {
                 self.traffic.messages.add(*kind);
@@ -71,17 +78,23 @@ impl<G: Datagrams> Clients<G> {
             Heard::Unanswered(_) => {
                 self.traffic.unanswered = self.traffic.unanswered.saturating_add(1);
             }
-            Heard::Unread(PdError::Fault(fault)) => self.traffic.faults.add(*fault),
+            Heard::Unread(PdError::Fault(fault)) => {
+                self.traffic.faults.add(*fault);
+                if !is_ordinary(*fault) {
+                    log.tell_often(&Happening::Refused(*fault), now);
+                }
+            }
             Heard::Unread(PdError::TooLong | PdError::Memory) => {}
         }
     }
 
     /// Hears the datagrams that have come, 64 at most. The clock is read behind each: a line that was written for it
     /// mustn't be older than what it answers. Their answers are held back. Returns how many came.
-    pub fn hear<F: Folder + Drop, C: Clocks>(
+    pub fn hear<F: Folder + Drop, C: Clocks, L: Print>(
         &mut self,
         running: &mut Running<F, G::Peer>,
         clocks: &C,
+        log: &mut Log<'_, L>,
     ) -> Result<usize, HearingError>
     where
         F::File: Drop,
@@ -96,7 +109,7 @@ impl<G: Datagrams> Clients<G> {
                 return Err(HearingError::Clock);
             };
             let heard = running.hear(now.reading, &self.buffer[..length], peer);
-            self.count(&heard);
+            self.count(&heard, now.reading, log);
         }
         Ok(MOST_HEARD)
     }
@@ -119,24 +132,36 @@ impl<G: Datagrams> Clients<G> {
         transit == 0 || now.milliseconds() <= read.milliseconds().saturating_add(transit)
     }
 
-    /// Sends an answer to who asked, unless it is too late.
-    fn send_one(&mut self, held: &HeldAnswer<G::Peer>, kind: ServerKind, now: Reading) {
+    /// Sends an answer to who asked, unless it is too late: that is told.
+    fn send_one<L: Print>(
+        &mut self,
+        held: &HeldAnswer<G::Peer>,
+        kind: ServerKind,
+        now: Reading,
+        log: &mut Log<'_, L>,
+    ) {
         if self.is_in_time(held.read, now) {
             self.datagrams
                 .send(held.answer.peer(), held.answer.octets());
             self.traffic.answers.add(kind);
         } else {
             self.traffic.late = self.traffic.late.saturating_add(1);
+            log.tell_often(&Happening::Late, now);
         }
     }
 
     /// Sends the answers that were held back, each to who asked, but for those that are too late.
-    pub fn send(&mut self, answers: &[HeldAnswer<G::Peer>], now: Reading) {
+    pub fn send<L: Print>(
+        &mut self,
+        answers: &[HeldAnswer<G::Peer>],
+        now: Reading,
+        log: &mut Log<'_, L>,
+    ) {
         let kinds = mem::replace(&mut self.held, Vec::new(self.alloc));
         let mut kinds = kinds.into_iter();
         for held in answers {
             if let Some(kind) = kinds.next() {
-                self.send_one(held, kind, now);
+                self.send_one(held, kind, now, log);
             }
         }
     }

@@ -4,11 +4,11 @@
 //! They stand on devices that don't wait (`daemon_devices`), and on a server that runs (`server_run`).
 //!
 //! ```text
-//! clients.hear(&mut running, &clocks)?;
-//! partner.hear(&mut running, &settings, &now, &clocks, &log)?;
+//! clients.hear(&mut running, &clocks, &mut log)?;
+//! partner.hear(&mut running, &settings, &now, &clocks, &mut log)?;
 //! .. running.settle() ..
-//! clients.send(&answers, now.reading);
-//! partner.say(&mut running, &frames, &now, &log);
+//! clients.send(&answers, now.reading, &mut log);
+//! partner.say(&mut running, &frames, &now, &mut log);
 //! desk.tell(now.instant);
 //! ```
 #![tactic(auto)]

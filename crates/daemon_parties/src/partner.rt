@@ -22,6 +22,10 @@ const READ_SIZE: usize = 65_536;
 /// How many seconds a connection stands that has stood for a while.
 const A_WHILE: u64 = 10;
 
+/// After how many seconds without an octet a person is told of it: twice what a server lets pass without a line, where
+/// its settings don't say it.
+const LONG_SILENCE: u64 = 120;
+
 /// A connection that stands.
 #[derive(Drop)]
 struct Standing<D: Door> {
@@ -30,6 +34,10 @@ struct Standing<D: Door> {
     begun: Moment,
     /// When the partner was heard last.
     heard: Option<Reading>,
+    /// When octets came last, or it was told that none did; before, when it began.
+    listened: Instant,
+    /// Whether the two have joined: each has named what it took last.
+    has_joined: bool,
     /// Why it is over once all that is held back has gone out.
     parting: Option<Parting>,
 }
@@ -108,6 +116,8 @@ impl<D: Door> Standing<D> {
             quiet: QuietSecond::new(now.instant),
             begun: *now,
             heard: None,
+            listened: now.instant,
+            has_joined: false,
             parting: None,
         }
     }
@@ -137,6 +147,7 @@ impl<D: Door> Standing<D> {
         match got {
             Got::Octets(_) => {
                 self.heard = Some(now.reading);
+                self.listened = now.instant;
                 Ok(true)
             }
             Got::Nothing => Ok(false),
@@ -179,6 +190,32 @@ impl<D: Door> Standing<D> {
         };
         if !is_written {
             self.parting = Some(Parting::Lost);
+        }
+    }
+
+    /// Tells that the two have joined, once they have.
+    fn tell_joined<L: Print>(&mut self, stage: Option<Stage>, log: &Log<'_, L>) {
+        if !self.has_joined && matches!(stage, Some(Stage::Joined { .. })) {
+            self.has_joined = true;
+            log.tell(&Happening::Met);
+        }
+    }
+
+    /// Tells why it is over: each time of one that had joined, and of others as of what may happen often.
+    fn tell_parting<L: Print>(&self, parting: Parting, now: &Moment, log: &mut Log<'_, L>) {
+        let happening = Happening::Parted(parting);
+        if self.has_joined {
+            log.tell(&happening);
+        } else {
+            log.tell_often(&happening, now.reading);
+        }
+    }
+
+    /// Tells that nothing came over it for long, once for each time that it is so long.
+    fn tell_silence<L: Print>(&mut self, now: &Moment, log: &mut Log<'_, L>) {
+        if now.instant.duration_since(self.listened).as_secs() >= LONG_SILENCE {
+            self.listened = now.instant;
+            log.tell_often(&Happening::PartnerSilent, now.reading);
         }
     }
 
@@ -235,12 +272,11 @@ impl<D: Door> Partner<D> {
     }
 
     /// Admits the partner, where it has come: the talk begins.
-    fn meet<F: Folder + Drop, P: Drop, L: Print>(
+    fn meet<F: Folder + Drop, P: Drop>(
         &mut self,
         running: &mut Running<F, P>,
         settings: &Settings,
         now: &Moment,
-        log: &Log<L>,
     ) -> bool
     where
         F::File: Drop,
@@ -248,7 +284,6 @@ impl<D: Door> Partner<D> {
         let Some(stream) = self.door.admit(now.instant) else {
             return false;
         };
-        log.tell(&Happening::Met);
         let mut standing = Standing::new(self.alloc, stream, now);
         if let Err(error) = running.meet(settings) {
             standing.parting = Some(parting_of(error));
@@ -264,19 +299,21 @@ impl<D: Door> Partner<D> {
         settings: &Settings,
         now: &Moment,
         clocks: &C,
-        log: &Log<L>,
+        log: &mut Log<'_, L>,
     ) -> Result<bool, HearingError>
     where
         F::File: Drop,
     {
         let Some(mut standing) = self.standing.take() else {
-            return Ok(self.meet(running, settings, now, log));
+            return Ok(self.meet(running, settings, now));
         };
         let has_other = self.door.turn_away();
         if has_other {
-            log.tell(&Happening::TurnedAway);
+            log.tell_often(&Happening::TurnedAway, now.reading);
         }
         let has_come = standing.hear(running, settings, &mut self.buffer, now.instant, clocks)?;
+        standing.tell_joined(running.stage(), log);
+        standing.tell_silence(now, log);
         standing.give_up(has_other, now);
         self.standing = Some(standing);
         Ok(has_come)
@@ -288,7 +325,7 @@ impl<D: Door> Partner<D> {
         running: &mut Running<F, P>,
         frames: &[Handed],
         now: &Moment,
-        log: &Log<L>,
+        log: &mut Log<'_, L>,
     )
     where
         F::File: Drop,
@@ -303,7 +340,7 @@ impl<D: Door> Partner<D> {
         }
         match standing.parting_at(running.stage()) {
             Some(parting) => {
-                log.tell(&Happening::Parted(parting));
+                standing.tell_parting(parting, now, log);
                 running.part();
                 self.door
                     .rest_after(standing.is_followed_soon(&parting, now), now.instant);

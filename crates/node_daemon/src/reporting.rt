@@ -1,8 +1,8 @@
 //! How a server is: what its status says.
 
-use binding_rules::Role;
+use binding_rules::{Body, Role};
 use book_state::Pool;
-use journal_lines::Event;
+use journal_lines::{Event, Line};
 use lead_time::Reading;
 use order_book::Book;
 use server_status::{Standing, UnitCounts, VolumeStatus};
@@ -92,5 +92,18 @@ pub(crate) fn volume_of(book: &Book, kept: usize, growth: &Growth, owed: &Owed) 
         written: growth.written,
         roll: owed.roll,
         room: owed.room,
+    }
+}
+
+/// Returns whether a line of a book shows that its partner has other settings: a unit is asked back whose move the
+/// partner refused, or the partner told of one that isn't there.
+pub(crate) fn shows_other_settings(book: &Book, line: &Line) -> bool {
+    match &line.event {
+        Event::Reclaim(_) => true,
+        Event::Take(message) => match &message.body {
+            Body::Update(update) => book.unit(update.prefix).is_none(),
+            Body::Reply(_) | Body::Contact { .. } => false,
+        },
+        _ => false,
     }
 }

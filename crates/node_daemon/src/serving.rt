@@ -266,9 +266,9 @@ pub fn serve<R: Wait + Files + Net + Handle, L: Print>(
     notes: &L,
 ) -> Result<(), ServeFailure> {
     let server = &settings.node.server;
-    let log = Log::new(notes);
-    let volumes = opened(rt, directory, server.role())?;
     let alloc = rt.alloc();
+    let log = Log::new(alloc, notes);
+    let volumes = opened(rt, directory, server.role())?;
     let now = moment(&SystemClocks::new(handles))?;
     let sockets = open_sockets(handles, alloc, directory, settings, &now, &log)?;
     let started = start_server(

@@ -1,6 +1,7 @@
 //! What lasts, and is told a person once.
 
-use crate::happening::{Happening, Log};
+use crate::happening::Happening;
+use crate::log::Log;
 use server_status::ClockState;
 use server_upkeep::{Owed, Roll, Room};
 
