@@ -1,10 +1,9 @@
 //! What workers answer to datagrams, and the journal that they leave.
 
-use crate::books::{A_OPENED, book_of, check_closed};
-use crate::posts::{Letter, Meeting, Post, Scene, Still};
+use crate::books::{A_OPENED, book_of, closed};
+use crate::posts::{Letter, Post, Scene};
 use client_id::Duid;
 use node_threads::{Left, NodeError, Partner, Turns, Unheard, serve_all};
-use server_book::Book;
 use std::alloc::Global;
 use std::marker::Brand;
 use std::process::Abort;
@@ -52,50 +51,11 @@ const NOTHING: &str = "pd-journal 1 A
 end 3
 ";
 
-/// Mailboxes at which letters come, one from each number up to this.
-fn posts_of(alloc: Global, scene: &Scene, count: usize) -> Result<Vec<Post<'_>>, Fail> {
-    let mut posts = Vec::new(alloc);
-    for next in 0..count {
-        posts.push(Post { scene, next })?;
-    }
-    Ok(posts)
-}
-
-/// Returns what so many workers of the primary leave of so many turns.
-pub fn left(
-    rt: &(impl Threads + Wait + Sync),
-    alloc: Global,
-    book: Book,
-    scene: &Scene,
-    workers: usize,
-    clock: &Still,
-    turns: u32,
-) -> Result<Left, Fail> {
-    let posts = posts_of(alloc, scene, workers)?;
-    let own = Duid::from_hex(b"00030001020000000009")?;
-    let turns = Turns::new(turns);
-    let blank = Blank::new(posts.len() as u64);
-    match serve_all::<Brand, _, _, _, _>(
-        rt,
-        alloc,
-        blank,
-        book,
-        posts,
-        &own,
-        clock,
-        &turns,
-        Partner::Up,
-        &Unheard,
-    ) {
-        Ok(left) => Ok(left),
-        Err(_) => Err(Fail::from("not closed")),
-    }
-}
-
-/// Datagrams that come to one worker, and what is to come of them.
+/// Datagrams that come to workers, one to each at once, and what is to come of them.
 #[derive(Drop)]
 struct Exchange {
     letters: &'static [Letter],
+    workers: usize,
     turns: u32,
     /// What the clock shows; none where it fails.
     at: Option<u64>,
@@ -112,6 +72,7 @@ struct Exchange {
 /// The worked SOLICIT and REQUEST.
 const WORKED: Exchange = Exchange {
     letters: BOTH,
+    workers: 1,
     turns: 2,
     at: Some(10_000),
     sends: true,
@@ -121,9 +82,14 @@ const WORKED: Exchange = Exchange {
     journal: WHOLE_HOUR,
 };
 
-/// What one worker does: what is no message asks no clock, and a call that fails ends it.
-const EXCHANGES: [Exchange; 5] = [
+/// What workers do: what is no message asks no clock, and a call that fails ends one.
+const EXCHANGES: [Exchange; 6] = [
     WORKED,
+    // Two receive, ask the clock and send at once.
+    Exchange {
+        workers: 2,
+        ..WORKED
+    },
     Exchange {
         letters: &[(SHORT, "")],
         turns: 1,
@@ -160,50 +126,71 @@ const EXCHANGES: [Exchange; 5] = [
     },
 ];
 
+/// Returns what the workers of an exchange leave.
+fn left(
+    rt: &(impl Threads + Wait + Sync),
+    alloc: Global,
+    exchange: &Exchange,
+    scene: &Scene,
+) -> Result<Left, Fail> {
+    let book = book_of(alloc, A_OPENED)?;
+    let mut posts = Vec::new(alloc);
+    for next in 0..exchange.workers {
+        posts.push(Post { scene, next })?;
+    }
+    let own = Duid::from_hex(b"00030001020000000009")?;
+    let turns = Turns::new(exchange.turns);
+    let blank = Blank::new(posts.len() as u64);
+    match serve_all::<Brand, _, _, _, _>(
+        rt,
+        alloc,
+        blank,
+        book,
+        posts,
+        &own,
+        scene,
+        &turns,
+        Partner::Up,
+        &Unheard,
+    ) {
+        Ok(left) => Ok(left),
+        Err(_) => Err(Fail::from("not closed")),
+    }
+}
+
 /// That all comes of an exchange which is to come of it.
 fn check(
     rt: &(impl Abort + Threads + Wait + Sync),
     alloc: Global,
     exchange: &Exchange,
 ) -> Result<(), Fail> {
-    let mut scene = Scene::of(alloc, exchange.letters, 1);
+    let workers = exchange.workers;
+    let mut scene = Scene::of(alloc, exchange.letters, exchange.at, workers);
     scene.sends = exchange.sends;
-    let clock = Still {
-        at: exchange.at,
-        asking: Meeting::of(1),
-    };
-    let book = book_of(alloc, A_OPENED)?;
-    let mut left = left(rt, alloc, book, &scene, 1, &clock, exchange.turns)?;
+    let mut left = left(rt, alloc, exchange, &scene)?;
     assert_eq!(rt; left.received, exchange.received);
     assert!(rt; !scene.is_other.load(Ordering::SeqCst));
     assert_eq!(rt; scene.sending.begun.load(Ordering::SeqCst), exchange.sent);
-    assert_eq!(rt; clock.asking.begun.load(Ordering::SeqCst), exchange.asked);
-    check_closed(rt, alloc, &mut left.book, 3_700_000, Some(exchange.journal))
-}
-
-#[test]
-fn one_worker_answers(rt: HostRuntime) -> Result<(), Fail> {
-    for exchange in &EXCHANGES {
-        check(&rt, rt.alloc(), exchange)?;
-    }
+    assert_eq!(rt; scene.asking.begun.load(Ordering::SeqCst), exchange.asked);
+    let text = closed(alloc, &mut left.book, 3_700_000)?;
+    assert_eq!(rt; text.as_slice(), exchange.journal.as_bytes());
+    // Each call that was made by all was made by all at once.
+    assert!(rt; scene.receiving.has_met.load(Ordering::SeqCst));
+    assert_eq!(rt;
+        scene.asking.has_met.load(Ordering::SeqCst),
+        exchange.asked >= workers
+    );
+    assert_eq!(rt;
+        scene.sending.has_met.load(Ordering::SeqCst),
+        exchange.sent >= workers
+    );
     Ok(())
 }
 
 #[test]
-fn two_workers_receive_ask_and_send_at_once(rt: HostRuntime) -> Result<(), Fail> {
-    let scene = Scene::of(rt.alloc(), BOTH, 2);
-    let clock = Still {
-        at: Some(10_000),
-        asking: Meeting::of(2),
-    };
-    let book = book_of(rt.alloc(), A_OPENED)?;
-    let left = left(&rt, rt.alloc(), book, &scene, 2, &clock, 2)?;
-    assert_eq!(rt; left.received, Ok(2));
-    assert!(rt; !scene.is_other.load(Ordering::SeqCst));
-    assert_eq!(rt; scene.sending.begun.load(Ordering::SeqCst), 2);
-    assert!(rt; scene.receiving.has_met.load(Ordering::SeqCst));
-    assert!(rt; clock.asking.has_met.load(Ordering::SeqCst));
-    assert!(rt; scene.sending.has_met.load(Ordering::SeqCst));
-    assert_eq!(rt; left.book.journal().len(), 3);
+fn workers_answer(rt: HostRuntime) -> Result<(), Fail> {
+    for exchange in &EXCHANGES {
+        check(&rt, rt.alloc(), exchange)?;
+    }
     Ok(())
 }

@@ -13,8 +13,6 @@ mod ends;
 #[cfg(test)]
 mod frames;
 #[cfg(test)]
-mod full_books;
-#[cfg(test)]
 mod node_settings;
 #[cfg(test)]
 mod posts;

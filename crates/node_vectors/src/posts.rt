@@ -1,14 +1,15 @@
 //! Mailboxes and a clock in memory, whose first calls wait for others.
 
-ghost use Rattle.std.specs.Prelude.{◌≤◌, length, IfOk, OnErr};
+ghost use Rattle.std.specs.Prelude.{IfOk, OnErr};
 
+use crate::books::octets;
 use client_service::Answer;
 use lead_time::Reading;
 use node_threads::{Clock, Mailbox, NetFault};
 use std::alloc::Global;
 use std::sync::atomic::{AtomicBool, AtomicUsize, Ordering};
 use std::thread;
-use text_fields::{is_hex, octets_of, push_octets};
+use text_fields::push_octets;
 
 /// How often a first caller looks for the others.
 const LOOKS: usize = 1_000_000;
@@ -48,14 +49,17 @@ impl Meeting {
 /// A datagram and the answer that it should get, as digits.
 pub type Letter = (&'static str, &'static str);
 
-/// What the mailboxes of a test have in common.
+/// What the mailboxes of a test have in common, and its clock.
 #[derive(Drop)]
 pub struct Scene {
     pub alloc: Global,
     pub letters: &'static [Letter],
+    /// What the clock always shows; none where it fails.
+    at: Option<u64>,
     /// Whether what is sent goes out, or the call fails.
     pub sends: bool,
     pub receiving: Meeting,
+    pub asking: Meeting,
     pub sending: Meeting,
     /// Whether an answer was sent that wasn't the one wanted.
     pub is_other: AtomicBool,
@@ -63,23 +67,21 @@ pub struct Scene {
 
 impl Scene {
     /// Letters to so many mailboxes at once. What is sent goes out.
-    pub fn of(alloc: Global, letters: &'static [Letter], mailboxes: usize) -> Scene {
+    pub fn of(
+        alloc: Global,
+        letters: &'static [Letter],
+        at: Option<u64>,
+        mailboxes: usize,
+    ) -> Scene {
         Scene {
             alloc,
             letters,
+            at,
             sends: true,
             receiving: Meeting::of(mailboxes),
+            asking: Meeting::of(mailboxes),
             sending: Meeting::of(mailboxes),
             is_other: AtomicBool::new(false),
-        }
-    }
-
-    /// Returns whether these octets are the answer to the letter of a number.
-    fn is_wanted(&self, number: usize, octets: &[u8]) -> bool {
-        let mut digits = Vec::new(self.alloc);
-        match (push_octets(&mut digits, octets), self.letters.get(number)) {
-            (Ok(()), Some((_, answer))) => answer.as_bytes() == digits.as_slice(),
-            _ => false,
         }
     }
 }
@@ -89,23 +91,6 @@ impl Scene {
 pub struct Post<'a> {
     pub scene: &'a Scene,
     pub next: usize,
-}
-
-/// Puts the octets of digits at the front of a buffer, and gives how many there are.
-fn put(digits: &[u8], buffer: &mut [u8]) -> Result<usize, NetFault>
-    ensures { IfOk result (λ count. count ≤ length buffer.new) }
-{
-    if !is_hex(digits) {
-        return Err(NetFault);
-    }
-    let count = digits.len() / 2;
-    let Some(front) = buffer.get_mut(..count) else {
-        return Err(NetFault);
-    };
-    match octets_of(digits, front) {
-        Some(()) => Ok(count),
-        None => Err(NetFault),
-    }
 }
 
 impl Mailbox for Post<'_> {
@@ -124,8 +109,14 @@ impl Mailbox for Post<'_> {
             return Err(NetFault);
         };
         self.next = number.saturating_add(1);
-        let count = put(datagram.as_bytes(), buffer)?;
-        Ok((count, number))
+        let Some(octets) = octets(self.scene.alloc, datagram) else {
+            return Err(NetFault);
+        };
+        let Some(front) = buffer.get_mut(..octets.len()) else {
+            return Err(NetFault);
+        };
+        front.copy_from_slice(&octets);
+        Ok((octets.len(), number))
     }
 
     fn send(&mut self, answer: Answer<usize>) -> Result<(), NetFault>
@@ -136,21 +127,17 @@ impl Mailbox for Post<'_> {
             return Err(NetFault);
         }
         self.scene.sending.begin();
-        if !self.scene.is_wanted(*answer.peer(), answer.octets()) {
-            self.scene.is_other.store(true, Ordering::SeqCst);
+        let wanted = self.scene.letters.get(*answer.peer());
+        let mut digits = Vec::new(self.scene.alloc);
+        match (push_octets(&mut digits, answer.octets()), wanted) {
+            (Ok(()), Some((_, wanted))) if wanted.as_bytes() == digits.as_slice() => {}
+            _ => self.scene.is_other.store(true, Ordering::SeqCst),
         }
         Ok(())
     }
 }
 
-/// A clock that always shows this time, or none and fails.
-#[derive(Drop)]
-pub struct Still {
-    pub at: Option<u64>,
-    pub asking: Meeting,
-}
-
-impl Clock for Still {
+impl Clock for Scene {
     fn now(&self) -> Result<Reading, NetFault> {
         self.asking.begin();
         let Some(at) = self.at else {

@@ -1,81 +1,54 @@
 //! A wire in memory.
 
-use crate::posts::Meeting;
+use crate::books::octets;
 use node_threads::{Got, NetFault, PAUSES_A_SECOND, Wire};
 use std::alloc::Global;
+use std::test::Fail;
 
-/// When a wire fails.
-#[derive(Clone, Copy)]
-pub enum Cut {
-    Never,
-    /// Behind so many writes.
-    Write(usize),
-    /// Behind so many reads.
-    Read(usize),
-}
+/// How many reads or writes succeed of a wire that never fails.
+pub const NEVER: usize = usize::MAX;
 
 /// A wire that brings octets, so many a read at most, then is idle for two seconds, and then ends. It keeps what is
 /// written.
 #[derive(Drop)]
-pub struct Script<'a, 'p> {
-    octets: &'a [u8],
+pub struct Script {
+    octets: Vec<u8>,
+    /// How many of them came.
+    place: usize,
     step: usize,
     idles: u32,
-    /// What its first pause waits for.
-    pause: &'p Meeting,
-    /// How many reads and how many writes succeed.
-    reads: usize,
-    writes: usize,
+    /// How many reads and how many writes still succeed.
+    pub reads: usize,
+    pub writes: usize,
     pub written: Vec<u8>,
 }
 
-impl<'a, 'p> Script<'a, 'p> {
-    /// A wire whose reads bring `step` octets at most.
-    pub fn new(
-        alloc: Global,
-        octets: &'a [u8],
-        step: usize,
-        cut: Cut,
-        pause: &'p Meeting,
-    ) -> Script<'a, 'p> {
-        Script {
-            octets,
+/// The octets of frames.
+pub fn joined(alloc: Global, frames: &[&str]) -> Result<Vec<u8>, Fail> {
+    let mut all = Vec::new(alloc);
+    for frame in frames {
+        let octets = octets(alloc, frame).ok_or("no digits")?;
+        all.extend_from_slice(&octets)?;
+    }
+    Ok(all)
+}
+
+impl Script {
+    /// A wire that brings these frames, by reads of `step` octets at most, and never fails.
+    pub fn new(alloc: Global, frames: &[&str], step: usize) -> Result<Script, Fail> {
+        Ok(Script {
+            octets: joined(alloc, frames)?,
+            place: 0,
             step,
             idles: 2 * PAUSES_A_SECOND,
-            pause,
-            reads: if let Cut::Read(count) = cut {
-                count
-            } else {
-                usize::MAX
-            },
-            writes: if let Cut::Write(count) = cut {
-                count
-            } else {
-                usize::MAX
-            },
+            reads: NEVER,
+            writes: NEVER,
             written: Vec::new(alloc),
-        }
-    }
-
-    /// Returns whether it brings any octets.
-    pub fn brings_any(&self) -> bool {
-        !self.octets.is_empty()
-    }
-
-    /// Is idle once more, if its two seconds aren't over.
-    fn is_idle(&mut self) -> bool {
-        self.pause.begin();
-        match self.idles.checked_sub(1) {
-            Some(left) => {
-                self.idles = left;
-                true
-            }
-            None => false,
-        }
+        })
     }
 }
 
-impl Wire for Script<'_, '_> {
+impl Wire for Script {
     ghost brings = { λ old octets new. Unit };
 
     ghost writes = { λ old octets new. Unit };
@@ -87,14 +60,18 @@ impl Wire for Script<'_, '_> {
             return Err(NetFault);
         };
         self.reads = left;
-        let count = self.octets.len().min(self.step).min(buffer.len());
-        if count == 0 {
-            return Ok(if self.is_idle() { Got::Idle } else { Got::End });
+        let rest = self.octets.get(self.place..).unwrap_or(&[]);
+        let count = rest.len().min(self.step).min(buffer.len());
+        if count > 0 {
+            buffer[..count].copy_from_slice(&rest[..count]);
+            self.place = self.place.saturating_add(count);
+            return Ok(Got::Octets(count));
         }
-        let (front, rest) = self.octets.split_at(count);
-        buffer[..count].copy_from_slice(front);
-        self.octets = rest;
-        Ok(Got::Octets(count))
+        let Some(left) = self.idles.checked_sub(1) else {
+            return Ok(Got::End);
+        };
+        self.idles = left;
+        Ok(Got::Idle)
     }
 
     fn write(&mut self, octets: &[u8]) -> Result<(), NetFault> {
