@@ -1,0 +1,6 @@
+mod HmacLaws
+mod CompareLaws
+mod RecordLaws
+mod StreamLaws
+mod ApartLaws
+mod MessageLaws

@@ -1,0 +1,99 @@
+//! Two ends that share a key.
+
+use link_records::{Heard, Joined, LinkKey, Opening, Side};
+use std::alloc::Global;
+use std::test::Fail;
+
+/// 32 octets, from 0 on.
+const KEY: &[u8] = b"000102030405060708090a0b0c0d0e0f101112131415161718191a1b1c1d1e1f\n";
+
+/// What the end that calls draws.
+pub(crate) const CALLER: [u8; 32] = [1; 32];
+
+/// What the end that was called draws.
+pub(crate) const CALLED: [u8; 32] = [2; 32];
+
+/// An end that begins, by the key.
+pub(crate) fn opening(alloc: Global, side: Side, nonce: [u8; 32]) -> Result<Opening, Fail> {
+    let key = LinkKey::from_text(KEY)?;
+    Ok(Opening::new(alloc, key, side, nonce))
+}
+
+/// What is to be sent now.
+pub(crate) fn answer(heard: &Heard) -> Option<[u8; 32]> {
+    match heard {
+        Heard::More { answer, .. } => *answer,
+        Heard::Joined { answer, .. } => *answer,
+    }
+}
+
+/// The end, where more is to come.
+pub(crate) fn waiting(heard: Heard) -> Option<Opening> {
+    match heard {
+        Heard::More { opening, .. } => Some(opening),
+        Heard::Joined { .. } => None,
+    }
+}
+
+/// The end that hears this proof.
+fn after(heard: Heard, proof: Option<[u8; 32]>) -> Result<Option<Joined>, Fail> {
+    let (Some(opening), Some(proof)) = (waiting(heard), proof) else {
+        return Ok(None);
+    };
+    let heard = opening.hear(&proof)?;
+    Ok(joined(heard))
+}
+
+/// The connection, where the other end's proof has come.
+pub(crate) fn joined(heard: Heard) -> Option<Joined> {
+    match heard {
+        Heard::More { .. } => None,
+        Heard::Joined { joined, .. } => Some(joined),
+    }
+}
+
+/// Both ends of a connection: the one that called, and the one that was called.
+pub(crate) fn pair(alloc: Global) -> Result<Option<(Joined, Joined)>, Fail> {
+    let caller = opening(alloc, Side::Caller, CALLER)?.hear(&CALLED)?;
+    let called = opening(alloc, Side::Called, CALLED)?.hear(&CALLER)?;
+    let one = answer(&caller);
+    let other = answer(&called);
+    let (Some(caller), Some(called)) = (after(caller, other)?, after(called, one)?) else {
+        return Ok(None);
+    };
+    Ok(Some((caller, called)))
+}
+
+/// The proofs and the records of a program that others wrote.
+#[test]
+fn send_what_others_make_of_the_same(rt: HostRuntime) -> Result<(), Fail> {
+    let alloc = rt.alloc();
+    let caller = opening(alloc, Side::Caller, CALLER)?.hear(&CALLED)?;
+    let Some(proof) = answer(&caller) else {
+        return Err(Fail::new(format_args!("no proof")));
+    };
+    let proof = hex::encode(alloc, proof)?;
+    assert_eq!(rt;
+        proof.as_str(),
+        "b180e3e97b24cde45585bfb9d8662df10d4ec5127cf68918a3576c04def43d20"
+    );
+    let Some((mut caller, mut called)) = pair(alloc)? else {
+        return Err(Fail::new(format_args!("no pair")));
+    };
+    let mut stream = caller.writer.write(b"abc")?;
+    stream.extend_from_slice(&caller.writer.write(b"defgh")?)?;
+    let text = hex::encode(alloc, &stream)?;
+    assert_eq!(rt;
+        text.as_str(),
+        "000361626324e1318ddaf1b7504a8bef4a622b5009\
+00056465666768fa3bddedd2b760daeba16ef0b3044ff5"
+    );
+    let mut octets = Vec::new(alloc);
+    for octet in &stream {
+        octets.extend_from_slice(&called.reader.feed(&[*octet])?)?;
+    }
+    assert_eq!(rt; octets.as_slice(), b"abcdefgh".as_slice());
+    let back = hex::encode(alloc, called.writer.write(b"abc")?)?;
+    assert_eq!(rt; back.as_str(), "000361626311ff4d813cc229d066fd2d7938c692c4");
+    Ok(())
+}

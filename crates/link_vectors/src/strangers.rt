@@ -1,0 +1,67 @@
+//! Who hasn't the key.
+
+use crate::ends::{CALLED, CALLER, answer, opening, pair, waiting};
+use link_records::{Heard, Joined, LinkFault, LinkKey, Opening, Side};
+use std::test::Fail;
+
+/// Why an end refuses a proof.
+fn fault_of(heard: Heard, proof: Option<[u8; 32]>) -> Option<LinkFault> {
+    let proof = proof?;
+    waiting(heard)?.hear(&proof).err()
+}
+
+/// The proof of who has another key, and the end's own greeting and proof sent back.
+#[test]
+fn prove_nothing(rt: HostRuntime) -> Result<(), Fail> {
+    let alloc = rt.alloc();
+    let stranger = Opening::new(
+        alloc,
+        LinkKey::from_text(&[b'a'; 64])?,
+        Side::Called,
+        CALLED,
+    );
+    let proof = answer(&stranger.hear(&CALLER)?);
+    let caller = opening(alloc, Side::Caller, CALLER)?.hear(&CALLED)?;
+    assert_eq!(rt; fault_of(caller, proof), Some(LinkFault::Forged));
+    let caller = opening(alloc, Side::Caller, CALLER)?.hear(&CALLER)?;
+    let own = answer(&caller);
+    assert_eq!(rt; fault_of(caller, own), Some(LinkFault::Forged));
+    Ok(())
+}
+
+/// Why an end refuses a chunk.
+fn fault_in(joined: &mut Joined, chunk: &[u8]) -> Option<LinkFault> {
+    joined.reader.feed(chunk).err()
+}
+
+/// A record left out, sent back and repeated.
+#[test]
+fn move_no_record(rt: HostRuntime) -> Result<(), Fail> {
+    let Some((mut caller, mut called)) = pair(rt.alloc())? else {
+        return Err(Fail::new(format_args!("no pair")));
+    };
+    let first = caller.writer.write(b"grant")?;
+    let second = caller.writer.write(b"close")?;
+    assert_eq!(rt; fault_in(&mut called, &second), Some(LinkFault::Forged));
+    assert_eq!(rt; fault_in(&mut caller, &first), Some(LinkFault::Forged));
+    assert_eq!(rt; fault_in(&mut called, &first), None);
+    assert_eq!(rt; fault_in(&mut called, &first), Some(LinkFault::Forged));
+    assert_eq!(rt; fault_in(&mut called, &second), None);
+    Ok(())
+}
+
+/// A record changed in its piece, and one that is too long.
+#[test]
+fn make_no_record(rt: HostRuntime) -> Result<(), Fail> {
+    let Some((mut caller, mut called)) = pair(rt.alloc())? else {
+        return Err(Fail::new(format_args!("no pair")));
+    };
+    let mut record = caller.writer.write(b"grant")?;
+    if let Some(octet) = record.get_mut(3) {
+        *octet = b'G';
+    }
+    assert_eq!(rt; fault_in(&mut called, &record), Some(LinkFault::Forged));
+    assert_eq!(rt; fault_in(&mut called, &[0x40, 0]), None);
+    assert_eq!(rt; fault_in(&mut caller, &[0x40, 1]), Some(LinkFault::TooLong));
+    Ok(())
+}
