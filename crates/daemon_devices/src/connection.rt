@@ -1,11 +1,15 @@
 //! A connection with the partner.
 
-ghost use Rattle.std.specs.Prelude.{◌≡◌, ◌≤◌, ◌↔◌, ℕ, length, IsTrue, if◌then◌else◌};
+ghost use Rattle.std.specs.Prelude.{◌≡◌, ◌≤◌, ◌↔◌, ℕ, Err, length, IsTrue, if◌then◌else◌};
+ghost use Rattle.daemon_devices.specs.declared.connection.Lost.TheVariants.{Memory};
+ghost use Rattle.std.specs.Io.KnownBytes.{Keeps};
+ghost use Rattle.daemon_devices.specs.Giving.{IsGiven};
 ghost use Rattle.daemon_devices.specs.Silence.{seconds_from, IsGivenUp};
 
 use crate::unsent::Unsent;
 use std::alloc::Global;
 use std::io::{ErrorKind, Read, Write};
+use std::marker::Model;
 use std::time::Instant;
 use thiserror::Error;
 
@@ -55,6 +59,18 @@ pub struct Connection<S: Read + Write + Drop> {
     heard: Instant,
     /// Whether any came.
     has_heard: bool,
+}
+
+impl<S: Read + Write + Drop> Model for Connection<S> {
+    ghost use Rattle.daemon_devices.specs.Giving.{ConnectionState, given};
+
+    ghost Value = { ConnectionState };
+
+    ghost view = { λ c. record {
+      given = given (S.contents c.stream) c.unsent;
+      heard = c.heard;
+      has_heard = c.has_heard;
+    } };
 }
 
 /// The seconds in which nothing came: each is told once.
@@ -119,7 +135,10 @@ impl<S: Read + Write + Drop> Connection<S> {
     }
 
     /// Writes octets behind all others: now, or as soon as the stream takes them (`flush`).
-    pub fn write(&mut self, octets: &[u8]) -> Result<(), Lost> {
+    #[tactic(auto, using(crate::proofs::Given::added_is_given, crate::proofs::Given::given_and_kept, crate::proofs::Given::stays))]
+    pub fn write(&mut self, octets: &[u8]) -> Result<(), Lost>
+        ensures given { IsGiven octets.now self.old.given self.new.given result }
+    {
         if self.unsent.add(octets).is_err() {
             return Err(Lost::Memory);
         }
@@ -127,7 +146,11 @@ impl<S: Read + Write + Drop> Connection<S> {
     }
 
     /// Writes what waits, as far as the stream takes it now.
-    pub fn flush(&mut self) -> Result<(), Lost> {
+    #[tactic(auto, using(crate::proofs::Given::passed_is_kept))]
+    pub fn flush(&mut self) -> Result<(), Lost>
+        ensures same { Keeps self.old.given self.new.given }
+        ensures memory { result ≡ Err Memory → ⊥ }
+    {
         if self.unsent.write_to(&mut self.stream).is_err() {
             return Err(Lost::Broken);
         }
@@ -143,7 +166,9 @@ impl<S: Read + Write + Drop> Connection<S> {
     }
 
     /// Returns whether octets have come over it.
-    pub fn has_heard(&self) -> bool {
+    pub fn has_heard(&self) -> bool
+        ensures { result ≡ self.now.has_heard }
+    {
         self.has_heard
     }
 

@@ -1,6 +1,8 @@
 //! Octets that wait to be written.
 
-ghost use Rattle.std.specs.Prelude.{◌≡◌, ◌≤◌, ◌++◌, [], ℕ, drop, length, IfOk, is_ok, if◌then◌else◌};
+ghost use Rattle.std.specs.Prelude.{◌≡◌, ◌≤◌, ◌++◌, [], length, take, IfOk, OnErr, is_ok, if◌then◌else◌};
+ghost use Rattle.std.specs.Io.KnownBytes.{Appends, Keeps};
+ghost use Rattle.daemon_devices.specs.Giving.{IsPassedOn};
 
 use std::alloc::{AllocError, Global};
 use std::io;
@@ -22,8 +24,12 @@ impl Model for Unsent {
 }
 
 /// How many octets a stream takes now: none where it would wait.
+#[tactic(auto, using(crate::proofs::Given::kept_adds_none, crate::proofs::Given::none_is_kept))]
 fn taken<W: Write>(stream: &mut W, octets: &[u8]) -> io::Result<usize>
-    ensures { IfOk result (λ count. count ≤ length octets.now) }
+    ensures count { IfOk result (λ count. count ≤ length octets.now) }
+    ensures passed { IfOk result (λ count.
+        Appends (W.contents stream.old) (W.contents stream.new) (take count octets.now)) }
+    ensures kept { OnErr result (Keeps (W.contents stream.old) (W.contents stream.new)) }
 {
     match stream.write(octets) {
         Ok(0) => Err(io::Error::from(ErrorKind::WriteZero)),
@@ -60,8 +66,9 @@ impl Unsent {
     }
 
     /// Writes as many from the front as the stream takes now. An error of the stream's, other than that it would wait.
+    #[tactic(auto, using(crate::proofs::Given::none_passed, crate::proofs::Given::stays))]
     pub fn write_to<W: Write>(&mut self, stream: &mut W) -> io::Result<()>
-        ensures { (count : ℕ) × (self.new ≡ drop count self.old) }
+        ensures { IsPassedOn (W.contents stream.old) self.old (W.contents stream.new) self.new }
     {
         if self.octets.is_empty() {
             return Ok(());

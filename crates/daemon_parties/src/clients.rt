@@ -1,5 +1,9 @@
 //! What clients and relays ask, and what they are told.
 
+ghost use Rattle.std.specs.Prelude.{◌≡◌, ◌↔◌, IsTrue};
+ghost use Rattle.daemon_parties.specs.Telling.{IsInTime, Leaves, AllLeave};
+ghost use Rattle.daemon_parties.specs.Hearing.{MayHear, HasSameFiles};
+
 use crate::clocks::Clocks;
 use crate::hearing::HearingError;
 use daemon_devices::Datagrams;
@@ -69,7 +73,9 @@ impl<G: Datagrams> Clients<G> {
     }
 
     /// Counts what became of a datagram. A fault that isn't ordinary is told.
-    fn count<L: Print>(&mut self, heard: &Heard, now: Reading, log: &mut Log<'_, L>) {
+    fn count<L: Print>(&mut self, heard: &Heard, now: Reading, log: &mut Log<'_, L>)
+        ensures { (self.new.datagrams ≡ self.old.datagrams) × (self.new.transit ≡ self.old.transit) }
+    {
         match heard {
             Heard::Answered(kind) => {
                 self.traffic.messages.add(*kind);
@@ -98,6 +104,9 @@ impl<G: Datagrams> Clients<G> {
     ) -> Result<usize, HearingError>
     where
         F::File: Drop,
+        ensures hears { MayHear G.listens self.old.datagrams self.new.datagrams }
+        ensures transit { self.new.transit ≡ self.old.transit }
+        ensures files { HasSameFiles running.old running.new }
     {
         for count in 0..MOST_HEARD {
             let (length, peer) = match self.datagrams.receive(&mut self.buffer) {
@@ -115,7 +124,10 @@ impl<G: Datagrams> Clients<G> {
     }
 
     /// Passes over the datagrams that have come, 64 at most: nobody answers them later. Returns how many.
-    pub fn pass_over(&mut self) -> Result<usize, HearingError> {
+    pub fn pass_over(&mut self) -> Result<usize, HearingError>
+        ensures hears { MayHear G.listens self.old.datagrams self.new.datagrams }
+        ensures transit { self.new.transit ≡ self.old.transit }
+    {
         for count in 0..MOST_HEARD {
             match self.datagrams.receive(&mut self.buffer) {
                 Ok(Some(_)) => {}
@@ -127,26 +139,33 @@ impl<G: Datagrams> Clients<G> {
     }
 
     /// Returns whether an answer may still leave by now, by what the clock read when its message came.
-    fn is_in_time(&self, read: Reading, now: Reading) -> bool {
+    fn is_in_time(&self, read: Reading, now: Reading) -> bool
+        ensures { IsTrue result ↔ IsInTime self.now.transit read now }
+    {
         let transit = self.transit.milliseconds();
         transit == 0 || now.milliseconds() <= read.milliseconds().saturating_add(transit)
     }
 
-    /// Sends an answer to who asked, unless it is too late: that is told.
+    /// Sends an answer to who asked, and counts it, unless it is too late: that is told.
     fn send_one<L: Print>(
         &mut self,
         held: &HeldAnswer<G::Peer>,
-        kind: ServerKind,
+        kind: Option<ServerKind>,
         now: Reading,
         log: &mut Log<'_, L>,
-    ) {
-        if self.is_in_time(held.read, now) {
-            self.datagrams
-                .send(held.answer.peer(), held.answer.octets());
-            self.traffic.answers.add(kind);
-        } else {
+    )
+        ensures leaves { Leaves G.sends self.old.transit now self.old.datagrams held.now self.new.datagrams }
+        ensures transit { self.new.transit ≡ self.old.transit }
+    {
+        if !self.is_in_time(held.read, now) {
             self.traffic.late = self.traffic.late.saturating_add(1);
             log.tell_often(&Happening::Late, now);
+            return;
+        }
+        self.datagrams
+            .send(held.answer.peer(), held.answer.octets());
+        if let Some(kind) = kind {
+            self.traffic.answers.add(kind);
         }
     }
 
@@ -156,13 +175,14 @@ impl<G: Datagrams> Clients<G> {
         answers: &[HeldAnswer<G::Peer>],
         now: Reading,
         log: &mut Log<'_, L>,
-    ) {
+    )
+        ensures leave { AllLeave G.sends self.old.transit now self.old.datagrams answers.now self.new.datagrams }
+        ensures transit { self.new.transit ≡ self.old.transit }
+    {
         let kinds = mem::replace(&mut self.held, Vec::new(self.alloc));
         let mut kinds = kinds.into_iter();
         for held in answers {
-            if let Some(kind) = kinds.next() {
-                self.send_one(held, kind, now, log);
-            }
+            self.send_one(held, kinds.next(), now, log);
         }
     }
 }

@@ -1,11 +1,17 @@
 //! The connection with the partner, turn by turn.
 
-ghost use Rattle.std.specs.Prelude.{◌≡◌, ◌≤◌, ℕ, length};
+ghost use Rattle.std.specs.Prelude.{◌≡◌, ◌≤◌, ℕ, List, Option, Some, length, IfSome};
+ghost use Rattle.daemon_devices.specs.Giving.{IsGiven};
+ghost use Rattle.failover_message.specs.Frames.{frame_octets};
+ghost use Rattle.daemon_parties.specs.Hearing.{HasSameFiles};
+ghost use Rattle.daemon_parties.specs.Saying.{frames_of, AreGiven, AreFirstGiven, Says, IsLastWord};
+ghost use Rattle.failover_message.specs.declared.frame.Frame.{Frame as FrameValue};
+ghost use Rattle.server_notices.specs.declared.happening.Parting.TheVariants.{Lost as HasLost};
 
 use crate::clocks::{Clocks, Moment};
 use crate::hearing::HearingError;
 use binding_rules::Counter;
-use daemon_devices::{Connection, Door, Got, QuietSecond};
+use daemon_devices::{Connection, Door, Got, Lost, QuietSecond};
 use failover_message::{Frame, FrameKind, encode};
 use lead_time::Reading;
 use link_talk::{Came, Handed, Stage, TalkError};
@@ -134,6 +140,7 @@ impl<D: Door> Standing<D> {
     ) -> Result<bool, HearingError>
     where
         F::File: Drop,
+        ensures files { HasSameFiles running.old running.new }
     {
         let got = self.connection.read(buffer, begun);
         let Some(now) = clocks.now() else {
@@ -162,6 +169,7 @@ impl<D: Door> Standing<D> {
     fn look_at_stage<F: Folder + Drop, P: Drop>(&mut self, running: &mut Running<F, P>)
     where
         F::File: Drop,
+        ensures files { HasSameFiles running.old running.new }
     {
         let stage = running.stage();
         if let Some(stage) = &stage {
@@ -172,24 +180,32 @@ impl<D: Door> Standing<D> {
         }
     }
 
-    /// Writes frames, in their order.
-    fn write(&mut self, alloc: Global, frames: &[Handed]) {
+    /// Gives the connection frames, in their order: all of them, or it is over.
+    fn write(&mut self, alloc: Global, frames: &[Handed])
+        ensures { AreFirstGiven (frames_of frames.now) self.old.connection.given
+            self.new.connection.given (self.new.parting ≡ Some HasLost) }
+    {
         for handed in frames {
-            self.write_frame(alloc, &handed.frame);
+            match self.write_frame(alloc, &handed.frame) {
+                Ok(()) => {}
+                Err(_) => {
+                    self.parting = Some(Parting::Lost);
+                    return;
+                }
+            }
         }
         if self.connection.flush().is_err() {
             self.parting = Some(Parting::Lost);
         }
     }
 
-    /// Writes a frame.
-    fn write_frame(&mut self, alloc: Global, frame: &Frame) {
-        let is_written = match encode(alloc, frame) {
-            Ok(octets) => self.connection.write(octets.as_slice()).is_ok(),
-            Err(_) => false,
-        };
-        if !is_written {
-            self.parting = Some(Parting::Lost);
+    /// Gives the connection a frame.
+    fn write_frame(&mut self, alloc: Global, frame: &Frame) -> Result<(), Lost>
+        ensures given { IsGiven (frame_octets frame.now) self.old.connection.given self.new.connection.given result }
+    {
+        match encode(alloc, frame) {
+            Ok(octets) => self.connection.write(octets.as_slice()),
+            Err(_) => Err(Lost::Memory),
         }
     }
 
@@ -219,6 +235,25 @@ impl<D: Door> Standing<D> {
         }
     }
 
+    /// Says the frames that were held back, and DISCONNECT where this server begins its next volume.
+    fn say(&mut self, alloc: Global, frames: &[Handed])
+        ensures { Says (frames_of frames.now) self.old.connection.given self.new.connection.given }
+    {
+        self.write(alloc, frames);
+        if matches!(self.parting, Some(Parting::Rolled)) {
+            self.say_goodbye(alloc);
+        }
+    }
+
+    /// Says DISCONNECT.
+    fn say_goodbye(&mut self, alloc: Global)
+        ensures { (words : List FrameValue) × IsLastWord words
+            × AreGiven self.old.connection.given words self.new.connection.given }
+    {
+        let _ = self.write_frame(alloc, &DISCONNECT);
+        let _ = self.connection.flush();
+    }
+
     /// Gives it up where nothing came over it for too long, the shorter where another has come.
     fn give_up(&mut self, has_other: bool, now: &Moment) {
         if self.parting.is_none() && self.connection.is_given_up(now.instant, has_other) {
@@ -234,8 +269,8 @@ impl<D: Door> Standing<D> {
         }
     }
 
-    /// Returns whether the next one may begin soon: where one of the two began its next volume or stopped, or where this
-    /// one stood for a while.
+    /// Returns whether the next one may begin soon: where one of the two began its next volume or stopped, or where
+    /// this one stood for a while.
     fn is_followed_soon(&self, parting: &Parting, now: &Moment) -> bool {
         match parting {
             Parting::Rolled | Parting::PartnerLeft => true,
@@ -280,6 +315,7 @@ impl<D: Door> Partner<D> {
     ) -> bool
     where
         F::File: Drop,
+        ensures files { HasSameFiles running.old running.new }
     {
         let Some(stream) = self.door.admit(now.instant) else {
             return false;
@@ -303,6 +339,7 @@ impl<D: Door> Partner<D> {
     ) -> Result<bool, HearingError>
     where
         F::File: Drop,
+        ensures files { HasSameFiles running.old running.new }
     {
         let Some(mut standing) = self.standing.take() else {
             return Ok(self.meet(running, settings, now));
@@ -329,15 +366,15 @@ impl<D: Door> Partner<D> {
     )
     where
         F::File: Drop,
+        ensures files { HasSameFiles running.old running.new }
+        ensures said { IfSome self.old.standing (λ s. (last : Option (List ℕ))
+            × Says (frames_of frames.now) s.connection.given last
+            × IfSome self.new.standing (λ t. t.connection.given ≡ last)) }
     {
         let Some(mut standing) = self.standing.take() else {
             return;
         };
-        standing.write(self.alloc, frames);
-        if matches!(standing.parting, Some(Parting::Rolled)) {
-            standing.write_frame(self.alloc, &DISCONNECT);
-            let _ = standing.connection.flush();
-        }
+        standing.say(self.alloc, frames);
         match standing.parting_at(running.stage()) {
             Some(parting) => {
                 standing.tell_parting(parting, now, log);
@@ -349,8 +386,8 @@ impl<D: Door> Partner<D> {
         }
     }
 
-    /// Ends the connection behind this turn, where there is one: in the next one the partner names what it has taken, and
-    /// receipts of older volumes are forgotten.
+    /// Ends the connection behind this turn, where there is one: in the next one the partner names what it has taken,
+    /// and receipts of older volumes are forgotten.
     pub fn meet_anew(&mut self) {
         if let Some(standing) = &mut self.standing {
             if standing.parting.is_none() {
@@ -362,7 +399,7 @@ impl<D: Door> Partner<D> {
     /// Says DISCONNECT, where there is a connection.
     pub fn say_goodbye(&mut self) {
         if let Some(standing) = &mut self.standing {
-            standing.write_frame(self.alloc, &DISCONNECT);
+            standing.say_goodbye(self.alloc);
         }
     }
 

@@ -1,6 +1,7 @@
 //! What a running server does as a person tells it.
 
 ghost use Rattle.std.specs.Prelude.{◌≡◌};
+ghost use Rattle.daemon_parties.specs.Hearing.{HasSameFiles};
 ghost use Rattle.node_daemon.specs.declared.commands.Refusal.TheVariants.{Memory};
 
 use crate::daemon::Daemon;
@@ -69,6 +70,8 @@ impl<G: Datagrams, D: Door, K: Control, C: Clocks, T: Rest, L: Print> Daemon<'_,
     ) -> bool
     where
         F::File: Drop,
+        ensures clients { self.new.clients ≡ self.old.clients }
+        ensures files { HasSameFiles running.old running.new }
     {
         let Some(request) = self.desk.hear(now.instant) else {
             return false;
@@ -81,7 +84,9 @@ impl<G: Datagrams, D: Door, K: Control, C: Clocks, T: Rest, L: Print> Daemon<'_,
     }
 
     /// Refuses a request.
-    fn refuse(&mut self, refusal: &Refusal) {
+    fn refuse(&mut self, refusal: &Refusal)
+        ensures clients { self.new.clients ≡ self.old.clients }
+    {
         match format!(in self.alloc; "{refusal}") {
             Ok(words) => self.desk.refuse(words.as_str()),
             Err(_) => self.desk.refuse("out of memory"),
@@ -97,6 +102,8 @@ impl<G: Datagrams, D: Door, K: Control, C: Clocks, T: Rest, L: Print> Daemon<'_,
     ) -> Result<String, Refusal>
     where
         F::File: Drop,
+        ensures clients { self.new.clients ≡ self.old.clients }
+        ensures files { HasSameFiles running.old running.new }
     {
         if let Request::Status(form) = request {
             return Ok(self.status(running, now)?.text(self.alloc, form)?);
@@ -126,6 +133,8 @@ impl<G: Datagrams, D: Door, K: Control, C: Clocks, T: Rest, L: Print> Daemon<'_,
     ) -> Result<(), Refusal>
     where
         F::File: Drop,
+        ensures clients { self.new.clients ≡ self.old.clients }
+        ensures files { HasSameFiles running.old running.new }
     {
         if leave == Leave::Closed {
             order(running, now, &Order::Close)?;
@@ -139,6 +148,7 @@ impl<G: Datagrams, D: Door, K: Control, C: Clocks, T: Rest, L: Print> Daemon<'_,
     fn ask_roll<F: Folder + Drop>(&mut self, running: &Running<F, G::Peer>) -> Result<(), Refusal>
     where
         F::File: Drop,
+        ensures clients { self.new.clients ≡ self.old.clients }
     {
         match running.bar() {
             Some(bar) => Err(Refusal::from(bar)),
@@ -157,6 +167,8 @@ impl<G: Datagrams, D: Door, K: Control, C: Clocks, T: Rest, L: Print> Daemon<'_,
     ) -> Result<(), Refusal>
     where
         F::File: Drop,
+        ensures clients { self.new.clients ≡ self.old.clients }
+        ensures files { HasSameFiles running.old running.new }
     {
         if self.partner.connected().is_some() {
             return Err(Refusal::PartnerConnected);
@@ -210,6 +222,7 @@ fn order<F: Folder + Drop, P: Drop>(
 ) -> Result<(), Refusal>
 where
     F::File: Drop,
+    ensures files { HasSameFiles running.old running.new }
 {
     match running.serve(now.reading, order) {
         Ok(_) => Ok(()),

@@ -253,6 +253,7 @@ fn daemon_of<'a, R: Net + Handle, L: Print>(
         is_alone: settings.node.ways.link.is_none(),
         leave: None,
         head_lines,
+        is_idle: false,
     })
 }
 
@@ -281,7 +282,7 @@ pub fn serve<R: Wait + Files + Net + Handle, L: Print>(
     tell_start(&log, &started);
     let Started { running, .. } = started;
     let head_lines = head_lines_of(running.book());
-    let Ok(daemon) = daemon_of(handles, alloc, settings, sockets, head_lines, log) else {
+    let Ok(mut daemon) = daemon_of(handles, alloc, settings, sockets, head_lines, log) else {
         return Err(ServeFailure::Ended(DaemonError::Memory));
     };
     match daemon.run(handles, running) {

@@ -3,7 +3,8 @@
 //! [`command_of`] gives the [`Command`] that clap finds in the words, or says why there is none.
 //!
 //! ```text
-//! let command = command_of(alloc, &words)?; // Command::Ask { directory, request: Request::Roll } of `node roll --dir DIR`
+//! // of `node roll --dir DIR`: Command::Ask { directory, request: Request::Roll }
+//! let command = command_of(alloc, &words)?;
 //! ```
 #![tactic(auto)]
 

@@ -1,7 +1,7 @@
 //! What a person is told while a server runs: a line each on standard error, with a level that journald knows.
 //!
-//! A [`Happening`] is told by a [`Log`]: each time, or, where it may happen often, at once and then a count a minute. Of
-//! what lasts a [`Watch`] tells each change.
+//! A [`Happening`] is told by a [`Log`]: each time, or, where it may happen often, at once and then a count a minute.
+//! Of what lasts a [`Watch`] tells each change.
 //!
 //! ```text
 //! let mut log = Log::new(alloc, &rt.stderr());

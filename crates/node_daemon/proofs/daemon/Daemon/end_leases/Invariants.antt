@@ -1,0 +1,5 @@
+use Rattle.daemon_parties.specs.Hearing.{HasSameFiles}
+use Rattle.node_daemon.proofs.daemon.Daemon.end_leases.Given as goal
+
+abbrev pub invariant-loop-lease : goal.invariant-loop-lease
+invariant-loop-lease g l = HasSameFiles l.initial.running l.running
