@@ -69,7 +69,8 @@ in_right : {X : Type 0} (xs ys : List X) (x : X) → In ys x → In (xs ++ ys) x
 in_right [] ys x h = h
 in_right (y ∷ xs) ys x h = in_next y (xs ++ ys) x (in_right xs ys x h)
 
-in_left_at : {X : Type 0} (xs ys : List X) (x : X) (k : ℕ) → slice_get xs k ≡ Some x → slice_get (xs ++ ys) k ≡ Some x
+pub in_left_at : {X : Type 0} (xs ys : List X) (x : X) (k : ℕ) → slice_get xs k ≡ Some x
+    → slice_get (xs ++ ys) k ≡ Some x
 in_left_at [] ys x k h = absurd (cc)
 in_left_at (y ∷ xs) ys x zero h = h
 in_left_at (y ∷ xs) ys x (suc k) h = in_left_at xs ys x k h
@@ -101,7 +102,7 @@ module _ (b : BookState) (v w : List Line) (next : AreNextHead b v (head_lines w
       let r = in_lines (head_events b next.carried next.kept) 1 next.reading e h.0 h.1 in
       (h.0, r.0, in_head w h.0 r.0 (ap (λ ls. slice_get ls h.0) next.is ∙ r.1), r.2, r.3)
 
-  opens_at : (l : Line) × (slice_get w 0 ≡ Some l) × (l.reading ≡ next.reading)
+  pub opens_at : (l : Line) × (slice_get w 0 ≡ Some l) × (l.reading ≡ next.reading)
   opens_at =
       let r = in_lines (head_events b next.carried next.kept) 1 next.reading _ 0 refl in
       (r.0, in_head w 0 r.0 (ap (λ ls. slice_get ls 0) next.is ∙ r.1), r.3)
@@ -214,7 +215,8 @@ legal_at (x ∷ y ∷ ys) side number h zero v at = let same : x ≡ v = cc in l
 legal_at (x ∷ y ∷ ys) side number h (suc n) v at =
     subst (λ k. IsVolume side k v) (shifted number n) (legal_at (y ∷ ys) side (number + 1) h.2 n v at)
 
-follows_at : (vs : List (List Line)) (side : Role) (number : ℕ) → AreVolumes side number vs → (n : ℕ) (v w : List Line)
+pub follows_at : (vs : List (List Line)) (side : Role) (number : ℕ) → AreVolumes side number vs
+    → (n : ℕ) (v w : List Line)
     → slice_get vs n ≡ Some v → slice_get vs (suc n) ≡ Some w
     → Follows side (number + n) v w
 follows_at [] side number h n v w at next = absurd (cc)

@@ -18,3 +18,7 @@ pub mod Earlier
 pub mod PassedOver
 pub mod Later
 pub mod FirstSends
+pub mod Insertion
+pub mod Closing
+pub mod Snapshot
+pub mod Cuts

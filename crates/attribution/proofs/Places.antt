@@ -18,10 +18,10 @@ closes_in [] k = 0
 closes_in (l ∷ ls) zero = 0
 closes_in (l ∷ ls) (suc k) = (if is_close l.event then 1 else 0) + closes_in ls k
 
-side_same : (a b : Role) → is_side a b ≡ true → b ≡ a
+pub side_same : (a b : Role) → is_side a b ≡ true → b ≡ a
 side_same a b h = (decides_side a b).0 h
 
-side_refl : (a : Role) → is_side a a ≡ true
+pub side_refl : (a : Role) → is_side a a ≡ true
 side_refl a = (decides_side a a).1 refl
 
 -- Runs and lines.
@@ -42,7 +42,7 @@ place_by s ss side l rest false e g h =
     let r = rest g h in
     (suc r.0, r.1, r.2, r.3, rw e (let x = r.4 in omega arith), r.5)
 
-place : (run : List Step) (side : Role) (g : ℕ) (l : Line) → slice_get (lines_of side run) g ≡ Some l
+pub place : (run : List Step) (side : Role) (g : ℕ) (l : Line) → slice_get (lines_of side run) g ≡ Some l
     → IsPlaced run side g l
 place [] side g l h = absurd (cc)
 place (s ∷ ss) side g l h = place_by s ss side l (λ n p. place ss side n l p) (is_side side s.side) refl g h
@@ -79,7 +79,7 @@ closes_by s ss side n true h = let e : 1 + count side ss n ≡ suc (count side s
 closes_by s ss side n false h = let e : 0 + count side ss n ≡ count side ss n = omega arith in
     rw e (let x = h in omega arith)
 
-closes_are : (run : List Step) (side : Role) (i : ℕ) → closes side run i
+pub closes_are : (run : List Step) (side : Role) (i : ℕ) → closes side run i
     ≡ closes_in (lines_of side run) (count side run i)
 closes_are [] side i = refl
 closes_are (s ∷ ss) side zero = sym (none_in (lines_of side (s ∷ ss)))
@@ -92,7 +92,7 @@ count_le side (s ∷ ss) zero j h = omega arith
 count_le side (s ∷ ss) (suc i) zero h = absurd (omega arith)
 count_le side (s ∷ ss) (suc i) (suc j) h = let r = count_le side ss i j (omega arith) in omega arith
 
-count_lt : (side : Role) (run : List Step) (i j : ℕ) (s : Step) → At run i s → s.side ≡ side → i < j
+pub count_lt : (side : Role) (run : List Step) (i j : ℕ) (s : Step) → At run i s → s.side ≡ side → i < j
     → count side run i < count side run j
 count_lt side [] i j s at of lt = absurd (cc)
 count_lt side (t ∷ ts) i zero s at of lt = absurd (omega arith)
@@ -187,7 +187,7 @@ at_past (x ∷ xs) zero n l at count = absurd (omega arith)
 at_past (x ∷ xs) (suc g) n l at count = at_past_by x l xs g n (is_close x.event) at count (λ c. at_past xs g n l at c)
 
 -- Any volume.
-in_volume : (n : ℕ) (ls : List Line) (k : ℕ) (l : Line) → slice_get (volume_at n ls) k ≡ Some l
+pub in_volume : (n : ℕ) (ls : List Line) (k : ℕ) (l : Line) → slice_get (volume_at n ls) k ≡ Some l
     → (slice_get ls (start n ls + k) ≡ Some l) × (closes_in ls (start n ls + k) ≡ n)
 unfolding Past
 in_volume zero ls k l h = let e : 0 + k ≡ k = omega arith in rw e (until_at ls k l h)

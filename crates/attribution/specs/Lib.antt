@@ -9,4 +9,5 @@ pub mod TestLaws
 pub mod Listing
 pub mod Laws
 pub mod Clocks
+pub mod Snapshot
 pub mod VerdictText

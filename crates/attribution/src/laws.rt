@@ -7,6 +7,7 @@ ghost use Rattle.attribution.specs.Laws.{EndPointsDecide};
 ghost use Rattle.attribution.specs.Listing.{ListedIsEnough};
 ghost use Rattle.attribution.specs.TestLaws.{OpenDecided, EndsDecided, ClearsDecided, NamesDecided};
 ghost use Rattle.attribution.specs.Lawful.{Lawful, LegalIsLawful};
+ghost use Rattle.attribution.specs.Snapshot.{SnapshotsAreTrue, SnapshotsAreTrueInRuns, ClosesBehindTheLast};
 ghost use Rattle.attribution.specs.Clocks.{EarlyByFirstSend, EarlyFitsNoClocks, FirstVolumesFit, VolumesFit};
 ghost use Rattle.attribution.specs.Clocks.{FittingNameOne, TimelyNameOne};
 ghost use Rattle.volume_heads.specs.NextHead.{AreLegal};
@@ -22,6 +23,16 @@ pub fn accepted_is_true()
 pub fn lawful_is_enough()
     ensures enough { AcceptedIsTrue (λ side volumes. Lawful volumes) }
     ensures legal { LegalIsLawful }
+{}
+
+/// What is accepted over snapshots of two journals, each closed behind the last line that was read of it, is true in
+/// every run whose volumes begin so: any lines may follow, and a volume need never be closed. Of what the servers wrote
+/// only the lines that were read need keep rules, their clocks and the order of letters; behind them all is free.
+pub fn snapshots_are_true()
+    ensures enough { SnapshotsAreTrue (λ side volumes. Lawful volumes) }
+    ensures legal { SnapshotsAreTrue AreLegal }
+    ensures in_runs { SnapshotsAreTrueInRuns AreLegal }
+    ensures closes { ClosesBehindTheLast }
 {}
 
 /// A certificate has at most one verdict, which is that it is accepted exactly where it is.

@@ -5,7 +5,8 @@
 //! certificate and what is then true (`Acceptance`), and which refusal comes first (`FirstRefusal`). What a certificate
 //! is asked is a list, `CONDITIONS`; its verdict is the refusal of the first that isn't met.
 //! What the headline needs of a server is less than its rules (`Lawful`), and which journals clocks fit is one
-//! comparison a take (`Clocks`).
+//! comparison a take (`Clocks`). What was read of a journal that is still being written shows as much, closed behind
+//! its last line (`Snapshot`, `close_now`).
 //!
 //! The laws over these definitions are calls without a body, whose contract is the law: `accepted_is_true` is the
 //! headline, `run_exists` and `no_two_holders` say what it is worth over journals that clocks fit.
@@ -16,18 +17,21 @@
 //! ```
 #![tactic(auto)]
 
+mod close_line;
 mod condition;
 mod delegation;
 mod laws;
 mod verdict;
 mod verdict_text;
 
+pub use close_line::close_now;
 pub use condition::{CONDITIONS, Condition};
 pub use delegation::{Delegation, Lasting};
 pub use laws::{
     accepted_is_true, bounds_hold, chains_stand_in_order, early_by_first_send,
     early_fits_no_clocks, end_points_decide, late_after_close, lawful_is_enough, listed_is_enough,
-    no_two_holders, pieces_meet_every_moment, run_exists, tests_decide, verdict_is_one,
+    no_two_holders, pieces_meet_every_moment, run_exists, snapshots_are_true, tests_decide,
+    verdict_is_one,
 };
 pub use verdict::Verdict;
 pub use verdict_text::{push_place, verdict_line};

@@ -10,7 +10,7 @@ use Rattle.attribution.specs.declared.verdict.Verdict.TheVariants.{Accepted}
 use Rattle.attribution.specs.FirstRefusal.{IsVerdict}
 use Rattle.plain_search.specs.declared.query.Query.{Query}
 use Rattle.plain_search.specs.declared.query.HolderQuery.{HolderQuery}
-use Rattle.evidence_search.specs.Claim.{Claims, between, held_by, HasNoPlainEvidence, IsRound, IsWidest}
+use Rattle.evidence_search.specs.Claim.{Claims, between, held_by, IsNotTold, IsRound, IsWidest}
 use Rattle.attribution_desk.specs.declared.reading_again.ReadAgain.{ReadAgain}
 use Rattle.attribution_desk.specs.Find.{ClaimSame, IsReadAgain, IsOverLimits, IsFinding}
 use Rattle.attribution_desk.specs.Who.{IsHeldText, IsHolding}
@@ -64,11 +64,11 @@ text_again js skew transit found again text h spelled = spelled ∙ h.spelled
 widest_again : (js : Journals) (q : HolderQuery) (found again : Certificate) → ClaimSame again found
     → IsWidest js q found → IsWidest js q again
 widest_again js q found again same w = record {
-  from = λ m is. subst (λ h. HasNoPlainEvidence js (between (held_by q h) m (q.at + 1))) (sym same.0)
+  from = λ m is. subst (λ h. IsNotTold js (between (held_by q h) m (q.at + 1))) (sym same.0)
       (w.from m (is ∙ same.2));
-  to = subst (λ h. HasNoPlainEvidence js (between (held_by q h) again.from (again.to + 1))) (sym same.0)
-      (subst (λ f. HasNoPlainEvidence js (between (held_by q found.holder) f (again.to + 1))) (sym same.2)
-      (subst (λ t. HasNoPlainEvidence js (between (held_by q found.holder) found.from (t + 1))) (sym same.3) w.to));
+  to = subst (λ h. IsNotTold js (between (held_by q h) again.from (again.to + 1))) (sym same.0)
+      (subst (λ f. IsNotTold js (between (held_by q found.holder) f (again.to + 1))) (sym same.2)
+      (subst (λ t. IsNotTold js (between (held_by q found.holder) found.from (t + 1))) (sym same.3) w.to));
 }
 
 pub holding : (js : Journals) (q : HolderQuery) (found again : Certificate) (text line : List ℕ) (status : ℕ)

@@ -16,13 +16,17 @@ use Rattle.attribution.specs.declared.verdict.Verdict.TheVariants.{Differs, Circ
 use Rattle.attribution.specs.declared.verdict.Verdict.TheVariants.{PieceGrant, BeforeOpen, PieceRelease, Uncovered}
 use Rattle.attribution.specs.declared.verdict.Verdict.TheVariants.{Reason}
 use Rattle.auditor.specs.Texts.{IsVerdictOfParsed, TextsAreTrueInEveryRun, AcceptedTextsAreTrue}
+use Rattle.auditor.specs.Texts.{ParsedIsTrueInEveryRun}
+use Rattle.auditor.proofs.TextVerdicts.{accepted_parsed}
+use Rattle.certificate.specs.Laws.{CertificatesAreSpelled}
 use Rattle.pair_ruling.specs.declared.ruling.Ruling.{Ruling}
 use Rattle.pair_ruling.specs.declared.ruling.Ruling.TheVariants.{Verdict, Clocks, Pair, Skew}
 use Rattle.pair_ruling.specs.Ruling.{verdict_status, status_of}
 use Rattle.desk_intake.specs.declared.error.DeskError.{DeskError}
 use Rattle.attribution_desk.specs.declared.outcome.Outcome.{Outcome}
 use Rattle.attribution_desk.specs.Rulings.{IsRulingOfParsed}
-use Rattle.attribution_desk.specs.Answer.{IsDeskAnswer}
+use Rattle.attribution_desk.specs.declared.answer.Answer.{Answer}
+use Rattle.attribution_desk.specs.Answer.{IsAnswerOf, IsDeskAnswer}
 use Rattle.desk_intake.specs.Input.{first_text, text_behind}
 use Rattle.attribution_desk.specs.Batch.{AreRuled, status_of_all, IsBatch}
 use Rattle.attribution_desk.specs.Running.{IsWritten}
@@ -90,6 +94,22 @@ accepted_ruling a b skew transit claim (Verdict v) h none =
 accepted_ruling a b skew transit claim (Clocks take) h none = absurd (omega (arith, none))
 accepted_ruling a b skew transit claim Pair h none = absurd (omega (arith, none))
 accepted_ruling a b skew transit claim Skew h none = absurd (omega (arith, none))
+
+-- the answer to one certificate over two journals that were read
+answered_true : CertificatesAreSpelled → (a b : Result Lines JournalFault) (text line : List ℕ)
+    (skew transit status : ℕ) → IsAnswerOf a b text skew transit line status
+    → status ≡ 0 → ParsedIsTrueInEveryRun a b text skew transit
+answered_true law a b text line skew transit status h none =
+    accepted_parsed law a b text skew transit (Ok Accepted) refl
+    (accepted_ruling a b skew transit (certificate_of text) h.0 h.1 (sym h.3 ∙ none))
+
+pub true_of_answer : CertificatesAreSpelled → (a b : Result Lines JournalFault) (text : List ℕ) (skew transit : ℕ)
+    (r : Result Answer DeskError)
+    → IfOk r (λ answer. IsAnswerOf a b text skew transit answer.line.items answer.status)
+    → IfOk r (λ answer. answer.status ≡ 0 → ParsedIsTrueInEveryRun a b text skew transit)
+true_of_answer law a b text skew transit (Ok answer) h =
+    λ none. answered_true law a b text answer.line.items skew transit answer.status h none
+true_of_answer law a b text skew transit (Err e) h = tt
 
 module _ (law : AcceptedTextsAreTrue) where
   ruled_true : (a b text : List ℕ) (skew transit : ℕ) (r : Ruling)

@@ -1,6 +1,5 @@
 -- What the desk answers where it is asked for the evidence of a delegation.
 use Rattle.std.specs.Prelude.{◌≡◌, ◌⊎◌, ℕ, List, [], Ok, codes}
-use Rattle.journal_lines.specs.declared.line.Journal.{Journal}
 use Rattle.causal_order.specs.Journals.{Journals}
 use Rattle.claims.specs.declared.certificate.Certificate.{Certificate}
 use Rattle.certificate.specs.Spelling.{certificate_text}
@@ -8,10 +7,9 @@ use Rattle.certificate.specs.Faults.{certificate_of}
 use Rattle.attribution.specs.declared.verdict.Verdict.TheVariants.{Accepted}
 use Rattle.attribution.specs.FirstRefusal.{IsVerdict}
 use Rattle.pair_ruling.specs.declared.ruling.Ruling.{Ruling}
-use Rattle.pair_ruling.specs.declared.ruling.Ruling.TheVariants.{Verdict}
 use Rattle.pair_ruling.specs.Ruling.{ruling_line, status_of}
 use Rattle.plain_search.specs.declared.query.Query.{Query}
-use Rattle.evidence_search.specs.Claim.{Claims, IsShown, HasNoPlainEvidence}
+use Rattle.evidence_search.specs.Claim.{Claims, IsShown, HasNoPlainEvidence, IsTooLong}
 
 -- the line and the status of a ruling on the journals
 pub record IsRulingText (r : Ruling) (text : List ℕ) (status : ℕ) : Type 0 where
@@ -64,6 +62,15 @@ pub record IsNotGiven (js : Journals) (q : Query) (text : List ℕ) (status : �
   pub missed : status ≡ 1
   pub says : note ≡ over_limits
 
+-- the same, where single lines show it by more lines than a certificate's text may have
+pub record IsTooMuch (js : Journals) (q : Query) (text : List ℕ) (status : ℕ) (note : List ℕ) : Type 0 where
+  pub long : IsTooLong js q
+  pub word : text ≡ codes "none\n"
+  pub missed : status ≡ 1
+  pub says : note ≡ over_limits
+
 abbrev pub IsFinding : Journals → Query → List ℕ → ℕ → List ℕ → Type 0
 IsFinding js q text status note =
-    IsFound js q text status note ⊎ (IsNoneFound js q text status note ⊎ IsNotGiven js q text status note)
+    IsFound js q text status note
+    ⊎ (IsNoneFound js q text status note
+    ⊎ (IsNotGiven js q text status note ⊎ IsTooMuch js q text status note))

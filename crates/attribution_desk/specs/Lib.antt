@@ -1,5 +1,6 @@
 pub mod Rulings
 pub mod Answer
+pub mod Case
 pub mod Batch
 pub mod Timeline
 pub mod Running

@@ -6,13 +6,10 @@ use Rattle.journal_lines.specs.declared.fault.JournalFault.{JournalFault}
 use Rattle.journal_text.specs.Faults.{journal_of_side}
 use Rattle.causal_order.specs.Journals.{Journals, journals_of}
 use Rattle.attribution.specs.declared.verdict.Verdict.TheVariants.{Journal as JournalVerdict}
-use Rattle.plain_search.specs.declared.query.Query.{Query}
-use Rattle.plain_search.specs.declared.query.HolderQuery.{HolderQuery}
 use Rattle.pair_ruling.specs.declared.ruling.Ruling.{Ruling}
 use Rattle.pair_ruling.specs.declared.ruling.Ruling.TheVariants.{Verdict}
 use Rattle.pair_ruling.specs.Ruled.{IsRuledOut, IsFit}
 use Rattle.pair_ruling.specs.Ties.{AreTied, IsDoubted}
-use Rattle.desk_words.specs.declared.settings.Settings.{Settings}
 use Rattle.desk_words.specs.declared.settings.Settings.TheVariants.{MustAgree, MayDiffer}
 use Rattle.attribution_desk.specs.declared.searching.Search.{Search}
 use Rattle.attribution_desk.specs.declared.searching.Search.TheVariants.{Find, Who}

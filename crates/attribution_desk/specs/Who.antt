@@ -7,7 +7,7 @@ use Rattle.claims.specs.declared.certificate.Certificate.{Certificate}
 use Rattle.certificate.specs.Spelling.{line_text, holder_words, interval_words, certificate_text}
 use Rattle.certificate.specs.Faults.{certificate_of}
 use Rattle.plain_search.specs.declared.query.HolderQuery.{HolderQuery}
-use Rattle.evidence_search.specs.Claim.{IsRound, IsAcceptedOf, IsWidest, HasNoPlainHolder}
+use Rattle.evidence_search.specs.Claim.{IsRound, IsAcceptedOf, IsWidest, HasNoPlainHolder, IsTooLongOfOne}
 use Rattle.attribution_desk.specs.Find.{IsOverLimits, over_limits}
 
 -- the interval as clocks show its ends
@@ -27,8 +27,8 @@ pub record IsHeldText (c : Certificate) (text : List ℕ) : Type 0 where
   pub to_is : IsTimeText c.to to
   pub spelled : text ≡ with_stops 10 (held_lines c from to) ++ certificate_text c
 
--- a certificate of the prefix round the moment that an auditor accepts, and the widest that plain evidence shows; it is
--- what its text is read as
+-- a certificate of the prefix round the moment that an auditor accepts, and the widest that plain evidence shows in as
+-- many lines as a text may have; it is what its text is read as
 pub record IsHeld (js : Journals) (q : HolderQuery) (text : List ℕ) (status : ℕ) (note : List ℕ) : Type 0 where
   pub certificate : Certificate
   pub round : IsRound q certificate
@@ -56,6 +56,15 @@ pub record IsNotNamed (js : Journals) (q : HolderQuery) (text : List ℕ) (statu
   pub missed : status ≡ 1
   pub says : note ≡ over_limits
 
+-- the same, where single lines show it for some client by more lines than a certificate's text may have
+pub record IsTooMuchToName (js : Journals) (q : HolderQuery) (text : List ℕ) (status : ℕ) (note : List ℕ) : Type 0 where
+  pub long : IsTooLongOfOne js q
+  pub word : text ≡ codes "none\n"
+  pub missed : status ≡ 1
+  pub says : note ≡ over_limits
+
 abbrev pub IsHolding : Journals → HolderQuery → List ℕ → ℕ → List ℕ → Type 0
 IsHolding js q text status note =
-    IsHeld js q text status note ⊎ (IsNoneHeld js q text status note ⊎ IsNotNamed js q text status note)
+    IsHeld js q text status note
+    ⊎ (IsNoneHeld js q text status note
+    ⊎ (IsNotNamed js q text status note ⊎ IsTooMuchToName js q text status note))

@@ -3,6 +3,7 @@
 ghost use Rattle.std.specs.Prelude.{◌≡◌, ◌≢◌, ◌⊎◌, true, IfOk, IfSome, IfErr, IsErrOf};
 ghost use Rattle.std.specs.Result.{ForOk};
 ghost use Rattle.journal_text.specs.Closed.{IsClosed};
+ghost use Rattle.auditor.specs.Texts.{ParsedIsTrueInEveryRun};
 ghost use Rattle.attribution_desk.specs.Answer.{IsAnswerOf, IsDeskAnswer};
 ghost use Rattle.attribution_desk.specs.Running.{IsWritten};
 ghost use Rattle.attribution_desk.specs.Headline.{IsTrueOfTexts};
@@ -12,6 +13,7 @@ use crate::answer::Answer;
 use crate::judging::ruling_on_parsed;
 use crate::outcome::{Outcome, warnings_on};
 use auditor::accepted_texts_are_true;
+use certificate::certificates_are_spelled;
 use desk_intake::{DeskError, Intake, ReadInput, Taking, Watched, halvings_for, take_all};
 use lead_time::{Skew, Transit};
 use std::alloc::Global;
@@ -30,8 +32,12 @@ fn answer_to<T: Threads + Sync>(
     requires secondary_closed { ForOk input.secondary (λ journal. IsClosed journal.lines) }
     ensures answer { IfOk result (λ answer. IsAnswerOf input.primary input.secondary input.rest.items skew transit
         answer.line.items answer.status) }
+    // What is accepted is true in every run of the pair that leaves these journals.
+    ensures headline { IfOk result (λ answer. answer.status ≡ 0
+        → ParsedIsTrueInEveryRun input.primary input.secondary input.rest.items skew transit) }
     ensures refused { IfErr result (λ e. e ≡ DeskError.Memory) }
 {
+    certificates_are_spelled();
     let ruling = ruling_on_parsed(
         rt,
         alloc,

@@ -1,4 +1,4 @@
-//! The ruling on two journals and a certificate, over an index of the journals' lines.
+//! The ruling on two journals and a certificate.
 
 ghost use Rattle.std.specs.Prelude.{◌≡◌, IfOk, IfErr};
 ghost use Rattle.std.specs.Result.{ForOk};
@@ -6,6 +6,7 @@ ghost use Rattle.certificate.specs.Faults.{certificate_of};
 ghost use Rattle.journal_text.specs.Closed.{IsClosed};
 ghost use Rattle.attribution_desk.specs.Rulings.{IsRulingOfJournals, IsRulingOfParsed};
 
+use crate::case::Case;
 use attribution::Verdict;
 use auditor::audit;
 use binding_rules::Role;
@@ -13,10 +14,8 @@ use certificate::CertificateError;
 use claims::Certificate;
 use desk_intake::DeskError;
 use journal_lines::{Journal, JournalFault};
-use journal_merge::placing_holds;
 use lead_time::{Skew, Transit};
-use line_index::LineIndex;
-use pair_ruling::{Ruled, Ruling, rule_pair};
+use pair_ruling::Ruling;
 use std::alloc::Global;
 use std::thread::Threads;
 
@@ -35,13 +34,11 @@ fn ruling_on_journals(
     ensures ruling { IfOk result (IsRulingOfJournals primary.now secondary.now skew transit claim.now) }
     ensures refused { IfErr result (λ e. e ≡ DeskError.Memory) }
 {
-    placing_holds();
-    let merged = match rule_pair(alloc, primary, secondary, skew)? {
-        Ruled::Fit(merged) => merged,
-        Ruled::Refused(ruling) => return Ok(ruling),
-    };
-    let index = LineIndex::build(rt, alloc, primary, secondary, &merged)?;
-    Ok(Ruling::Verdict(audit(&index, claim, skew, transit)))
+    let case = Case::of(rt, alloc, primary, secondary, skew)?;
+    match &case {
+        Case::Open(index) => Ok(Ruling::Verdict(audit(index, claim, skew, transit))),
+        Case::Refused(ruling) => Ok(*ruling),
+    }
 }
 
 /// The ruling on what two texts are as journals and on a certificate's text: the first of the faults of A's journal,

@@ -14,6 +14,7 @@
 mod answer;
 mod audit;
 mod batch;
+mod case;
 mod certificates;
 mod clocks;
 mod holding;

@@ -12,3 +12,4 @@ pub mod Pairs
 pub mod OneAnswer
 pub mod TextVerdicts
 pub mod TextLaws
+pub mod Snapshots

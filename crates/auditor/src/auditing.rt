@@ -3,6 +3,8 @@
 ghost use Rattle.std.specs.Prelude.{◌≡◌, ◌↔◌, IsTrue, MatchOption};
 ghost use Rattle.attribution.specs.Acceptance.{IsTrueInEveryRun, Reaches};
 ghost use Rattle.attribution.specs.FirstRefusal.{IsMet, Refuses, IsVerdict};
+ghost use Rattle.attribution.specs.Snapshot.{snapshots, IsTrueInRunsThatBeginSo};
+ghost use Rattle.causal_order.specs.Journals.{Journals};
 ghost use Rattle.volume_heads.specs.NextHead.{AreLegal};
 
 use crate::foreign::{first_unreasoned, least_uncovered};
@@ -99,6 +101,10 @@ pub fn audit<S: LineSource>(
     // before, with each clock within the skew of true time and each answer within the transit.
     ensures headline { result ≡ Verdict.Accepted
         → IsTrueInEveryRun AreLegal (S.journals source.now) skew transit certificate.now }
+    // Where they are snapshots of what was read of two journals that may still be written, it's true in every run whose
+    // volumes begin with that, whatever follows.
+    ensures snapshots { result ≡ Verdict.Accepted → (read : Journals) → S.journals source.now ≡ snapshots read
+        → IsTrueInRunsThatBeginSo AreLegal read skew transit certificate.now }
 {
     judgment(source, certificate, skew, transit)
 }

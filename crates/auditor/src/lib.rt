@@ -1,12 +1,12 @@
 //! Judges a certificate over two journals: it accepts, or names the first condition that isn't met.
 //!
-//! `audit` judges over any [`LineSource`], `audit_bytes` over three texts. Their clause `verdict` is the definition
-//! of the verdict, their clause `headline` the theorem: what is accepted is true in every run of the pair that leaves
-//! these journals. `reason_holds` is one foreign entry's reason, `check_pair` what two journals come to before any
-//! certificate: whether they keep the rules and can both be true. [`PlainSource`] is two journals, looked through at
-//! each question. specs/Pair is what refuses two journals, specs/Texts the verdict on texts, with that before the
-//! certificate's conditions; specs/Closing is what a source owes; specs/Bounds, Opened, Passing and Refusals are for
-//! bodies only.
+//! `audit` judges over any [`LineSource`], `audit_bytes` over three texts. Their clause `verdict` is the definition of
+//! the verdict, their clause `headline` the theorem: what is accepted is true in every run of the pair that leaves
+//! these journals; clause `snapshots` of `audit` says it of journals that are still being written. `reason_holds` is
+//! one foreign entry's reason, `check_pair` what two journals come to before any certificate: whether they keep the
+//! rules and can both be true. [`PlainSource`] is two journals, looked through at each question. specs/Pair is what
+//! refuses two journals, specs/Texts the verdict on texts, with that before the certificate's conditions; specs/Closing
+//! is what a source owes; specs/Bounds, Opened, Passing and Refusals are for bodies only.
 //!
 //! ```text
 //! let verdict = audit_bytes(alloc, journal_a, journal_b, certificate, skew, Transit::ZERO)?;

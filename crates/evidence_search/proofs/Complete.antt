@@ -1,6 +1,6 @@
 -- Where a plain certificate is accepted, the search finds one that is.
-use Rattle.std.specs.Prelude.{◌≡◌, ◌≢◌, ℕ, ◌+◌, ◌<◌, ◌≤◌, ◌↔◌, IsTrue, Bool, List, [], ◌∷◌, length, slice_index_or, All}
-use Rattle.std.specs.Prelude.{Contains as Has}
+use Rattle.std.specs.Prelude.{◌≡◌, ◌≢◌, ℕ, ◌+◌, ◌-◌, ◌<◌, ◌≤◌, ◌↔◌, IsTrue, Bool, List, [], ◌∷◌, length, slice_index_or}
+use Rattle.std.specs.Prelude.{All, Contains as Has}
 use Rattle.std.proofs.Common.{zero, suc, arith, sym, ◌∙◌, ap, subst, refl, inl, inr}
 use Rattle.prefix_range.specs.Prefix.{Prefix, Contains}
 use Rattle.binding_rules.specs.Role.{partner_of}
@@ -29,11 +29,11 @@ use Rattle.plain_search.specs.declared.query.Query.{Query}
 use Rattle.plain_search.specs.declared.reach.Candidate.{Candidate}
 use Rattle.plain_search.specs.declared.reach.Reach.{Reach}
 use Rattle.plain_search.specs.Plain.{IsOneLine, IsPlainWhy, IsPlainClear, IsPlainPiece, IsPlainForeign, IsPlain}
-use Rattle.evidence_search.specs.Claim.{Claims, IsShown, HasNoPlainEvidence}
+use Rattle.evidence_search.specs.Claim.{Claims, IsShown, HasNoPlainEvidence, IsTooLong}
 use Rattle.evidence_search.specs.Search.{certificate_with, IsPutTogether}
 use Rattle.plain_search.specs.Search.{IsReadAt, IsPastPartners, IsCandidate, IsKeptTo, AreKeptTo, CarriesTo, begin_of}
 use Rattle.plain_search.specs.Search.{CarriesAt, IsReach, HasGap, piece_with, IsPlainEntry, AreEntries, IsFound}
-use Rattle.plain_search.specs.Search.{ReachTo, IsAside, AreForeign, IsInTheWay}
+use Rattle.plain_search.specs.Search.{ReachTo, ArePiecesOver, IsAside, AreForeign, IsInTheWay}
 use Rattle.plain_search.proofs.Orders.{partner_differs, read_line, line_read, one_reading, by_alone, from_alone, by_one}
 use Rattle.plain_search.proofs.Orders.{from_one, before_shown, shown_before}
 use Rattle.plain_search.proofs.Kept.{weaker}
@@ -259,6 +259,19 @@ module _ (js : Journals) (q : Query) where
   none_over_gap gap = record {
     none = λ c claims plain shown.
         no_gap js q c.pieces c.foreign (plain_with c claims plain) (accepted_with c claims shown) gap;
+  }
+
+  pub too_long : (fs : List Foreign) → AreForeign js q fs → ArePiecesOver js q (65531 - length fs) → IsTooLong js q
+  too_long fs named over = record {
+    certificate = certificate_with q over.1 fs;
+    claims = record { holder = refl; prefix = refl; from = refl; to = refl };
+    to = over.0;
+    tiled = over.2.tiled;
+    carried = all_along (IsFound js q) (IsCarried js q.skew q.transit (certificate_with q over.1 fs)) over.1
+        (λ p f. (piece_works js q over.1 fs p f).0) over.2.found;
+    covered = λ r d f. named.named r d (f.0, (f.1, f.2));
+    outside = named.reasoned;
+    over = (let more = over.3 in omega arith);
   }
 
   pub none_in_the_way : IsInTheWay js q → HasNoPlainEvidence js q

@@ -12,8 +12,8 @@ use Rattle.volume_heads.specs.NextHead.{AreLegal}
 use Rattle.plain_search.specs.declared.query.Query.{Query}
 use Rattle.plain_search.specs.declared.query.HolderQuery.{HolderQuery}
 use Rattle.plain_search.specs.declared.error.FindError.{FindError}
-use Rattle.evidence_search.specs.Claim.{asked, between, held_by, Claims, IsShown, HasNoPlainEvidence, IsRound}
-use Rattle.evidence_search.specs.Claim.{IsAcceptedOf, IsWidest}
+use Rattle.evidence_search.specs.Claim.{asked, between, held_by, Claims, IsShown, HasNoPlainEvidence, IsNotTold}
+use Rattle.evidence_search.specs.Claim.{IsRound, IsAcceptedOf, IsWidest}
 use Rattle.evidence_search.specs.Search.{IsShownRound}
 
 pub past_reading : (lines : List Line) (reading limit : ℕ) → ClosesAt lines reading → reading < limit
@@ -33,19 +33,19 @@ module _ (js : Journals) (q : Query) where
     headline = true;
   }
 
-  -- what was found goes from here to the query's end, and no plain evidence begins just before `low`
+  -- what was found goes from here to the query's end, and none is told from just before `low`
   pub record BeginsFrom (low : ℕ) (c : Certificate) : Type 0 where
     pub round : IsShownRound js q c
     pub to : c.to ≡ q.to
     pub within : low ≤ c.from
-    pub none : (m : ℕ) → m + 1 ≡ low → HasNoPlainEvidence js (between q m q.to)
+    pub none : (m : ℕ) → m + 1 ≡ low → IsNotTold js (between q m q.to)
 
-  -- what was found goes from here on, and no plain evidence ends just behind `high`
+  -- what was found goes from here on, and none is told to just behind `high`
   pub record EndsBy (from high : ℕ) (c : Certificate) : Type 0 where
     pub round : IsShownRound js q c
     pub from_is : c.from ≡ from
     pub within : c.to ≤ high
-    pub none : HasNoPlainEvidence js (between q from (high + 1))
+    pub none : IsNotTold js (between q from (high + 1))
 
   pub none_past : (from to : ℕ) → (ClosesFrom (journal_of js Primary) (to + q.skew) → ⊥)
       → HasNoPlainEvidence js (between q from to)
@@ -74,22 +74,22 @@ module _ (js : Journals) (q : HolderQuery) (holder : List ℕ) where
   true_of (Err e) h = tt
   true_of (Ok c) h = h.headline
 
-  none_before : (c : Certificate) (m : ℕ) → c.holder ≡ holder → HasNoPlainEvidence js (between Held m (q.at + 1))
-      → HasNoPlainEvidence js (between (held_by q c.holder) m (q.at + 1))
-  none_before c m of none =
-      subst (λ (h : List ℕ). HasNoPlainEvidence js (asked h q.prefix m (q.at + 1) q.skew q.transit)) (sym of) none
+  untold_before : (c : Certificate) (m : ℕ) → c.holder ≡ holder → IsNotTold js (between Held m (q.at + 1))
+      → IsNotTold js (between (held_by q c.holder) m (q.at + 1))
+  untold_before c m of none =
+      subst (λ (h : List ℕ). IsNotTold js (asked h q.prefix m (q.at + 1) q.skew q.transit)) (sym of) none
 
-  none_behind : (c : Certificate) → c.holder ≡ holder → HasNoPlainEvidence js (between Held c.from (c.to + 1))
-      → HasNoPlainEvidence js (between (held_by q c.holder) c.from (c.to + 1))
-  none_behind c of none =
-      subst (λ (h : List ℕ). HasNoPlainEvidence js (asked h q.prefix c.from (c.to + 1) q.skew q.transit)) (sym of) none
+  untold_behind : (c : Certificate) → c.holder ≡ holder → IsNotTold js (between Held c.from (c.to + 1))
+      → IsNotTold js (between (held_by q c.holder) c.from (c.to + 1))
+  untold_behind c of none =
+      subst (λ (h : List ℕ). IsNotTold js (asked h q.prefix c.from (c.to + 1) q.skew q.transit)) (sym of) none
 
   pub widest_of : (r : Result Certificate FindError) → IfOk r (IsShownRound js Held)
-      → IfOk r (λ c. (m : ℕ) → m + 1 ≡ c.from → HasNoPlainEvidence js (between Held m (q.at + 1)))
-      → IfOk r (λ c. HasNoPlainEvidence js (between Held c.from (c.to + 1)))
+      → IfOk r (λ c. (m : ℕ) → m + 1 ≡ c.from → IsNotTold js (between Held m (q.at + 1)))
+      → IfOk r (λ c. IsNotTold js (between Held c.from (c.to + 1)))
       → IfOk r (IsWidest js q)
   widest_of (Err e) h before behind = tt
   widest_of (Ok c) h before behind = record {
-    from = λ m before_it. none_before c m h.holder (before m before_it);
-    to = none_behind c h.holder behind;
+    from = λ m before_it. untold_before c m h.holder (before m before_it);
+    to = untold_behind c h.holder behind;
   }

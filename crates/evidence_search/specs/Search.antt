@@ -11,7 +11,7 @@ use Rattle.plain_search.specs.declared.query.Query.{Query}
 use Rattle.plain_search.specs.declared.query.HolderQuery.{HolderQuery}
 use Rattle.plain_search.specs.declared.reach.Reach.{Reach}
 use Rattle.plain_search.specs.Search.{CarriesAt, ReachTo, AreForeign}
-use Rattle.evidence_search.specs.Claim.{IsShown, held_by}
+use Rattle.evidence_search.specs.Claim.{Claims, IsShown, held_by}
 
 -- ---- all of it
 
@@ -29,6 +29,12 @@ certificate_with q pieces foreign = record {
 pub record IsPutTogether (js : Journals) (q : Query) (c : Certificate) : Type 0 where
   pub pieces : ReachTo js q q.to c.pieces
   pub foreign : AreForeign js q c.foreign
+
+-- a certificate that claims it, which is accepted, and true
+pub record IsTold (js : Journals) (q : Query) (c : Certificate) : Type 0 where
+  pub claims : Claims q c
+  pub shown : IsShown js q c
+  pub headline : IsTrueInEveryRun AreLegal js q.skew q.transit c
 
 -- ---- who held a prefix at a moment
 

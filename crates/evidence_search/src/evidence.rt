@@ -1,7 +1,7 @@
 //! What a search puts together.
 
-ghost use Rattle.std.specs.Prelude.{◌≡◌, IfOk, IsErrOf, ◌<◌};
-ghost use Rattle.evidence_search.specs.Claim.{Claims, HasNoPlainEvidence};
+ghost use Rattle.std.specs.Prelude.{◌≡◌, IfOk, IsErrOf, ◌<◌, ◌-◌, length};
+ghost use Rattle.evidence_search.specs.Claim.{Claims, HasNoPlainEvidence, IsTooLong};
 ghost use Rattle.evidence_search.specs.Search.{certificate_with, IsPutTogether};
 
 use auditor::LineSource;
@@ -24,8 +24,21 @@ fn certificate_with(query: &Query, pieces: PieceList, foreign: ForeignList) -> C
     }
 }
 
-/// The certificate that the lines make for the query. `NoneFound` where a moment is carried by no grant, or another
-/// client's delegation is in the way.
+/// The most lines of a certificate's text.
+const MOST_LINES: usize = 65_536;
+
+/// Its lines that are neither a piece's nor an entry's: four before them, and one behind.
+const FRAME_LINES: usize = 5;
+
+/// How many lines these entries leave for pieces.
+fn room_beside(foreign: &ForeignList) -> usize
+    ensures { result ≡ 65531 - length foreign.now }
+{
+    (MOST_LINES - FRAME_LINES).saturating_sub(foreign.as_slice().len())
+}
+
+/// The certificate that the lines make for the query, no longer than a text may be. `NoneFound` where a moment is
+/// carried by no grant, or another client's delegation is in the way; `TooLong` where it would be longer.
 #[tactic(auto, using(crate::proofs::Complete::none_in_the_way, crate::proofs::Complete::none_over_gap))]
 pub fn evidence<S: LineSource>(
     alloc: Global,
@@ -36,28 +49,12 @@ pub fn evidence<S: LineSource>(
     ensures claims { IfOk result (Claims query.now) }
     ensures made { IfOk result (IsPutTogether (S.journals source.now) query.now) }
     ensures none { IsErrOf result FindError.NoneFound → HasNoPlainEvidence (S.journals source.now) query.now }
+    ensures long { IsErrOf result FindError.TooLong → IsTooLong (S.journals source.now) query.now }
 {
     let foreign = foreign_entries(alloc, source, query)?;
-    let pieces = pieces(alloc, source, query)?;
+    let room = room_beside(&foreign);
+    let pieces = pieces(alloc, source, query, room)?;
     Ok(certificate_with(query, pieces, foreign))
-}
-
-/// The most lines of a certificate's text.
-const MOST_LINES: usize = 65_536;
-
-/// Returns whether the certificate's text keeps its limit: a line for each piece and entry, four before them and one
-/// behind.
-fn is_short(certificate: &Certificate) -> bool {
-    let mut lines = certificate
-        .foreign
-        .as_slice()
-        .len()
-        .saturating_add(certificate.pieces.as_slice().len())
-        .saturating_add(5);
-    for piece in certificate.pieces.as_slice() {
-        lines = lines.saturating_add(piece.clear.as_slice().len());
-    }
-    lines <= MOST_LINES
 }
 
 /// The certificate that chains over these messages make for the query, no longer than a text may be. `NoneFound` where
@@ -71,10 +68,7 @@ pub fn linked_evidence<S: LineSource>(
     ensures { IfOk result (Claims query.now) }
 {
     let foreign = linked_foreign(alloc, source, messages, query)?;
-    let pieces = linked_pieces(alloc, source, messages, query)?;
-    let certificate = certificate_with(query, pieces, foreign);
-    if !is_short(&certificate) {
-        return Err(FindError::NoneFound);
-    }
-    Ok(certificate)
+    let room = room_beside(&foreign);
+    let pieces = linked_pieces(alloc, source, messages, query, room)?;
+    Ok(certificate_with(query, pieces, foreign))
 }

@@ -3,7 +3,7 @@
 ghost use Rattle.std.specs.Prelude.{◌≡◌, ◌↔◌, IsTrue, IfOk, IsErrOf};
 ghost use Rattle.attribution.specs.Acceptance.{IsTrueInEveryRun};
 ghost use Rattle.volume_heads.specs.NextHead.{AreLegal};
-ghost use Rattle.evidence_search.specs.Claim.{asked, Claims, IsShown, HasNoPlainEvidence};
+ghost use Rattle.evidence_search.specs.Claim.{asked, Claims, IsShown, HasNoPlainEvidence, IsTooLong};
 
 use crate::evidence::{evidence, linked_evidence};
 use attribution::Verdict;
@@ -31,7 +31,8 @@ fn is_shown<S: LineSource>(source: &S, query: &Query, certificate: &Certificate)
     is_accepted(&audit(source, certificate, query.skew, query.transit))
 }
 
-/// The certificate that single lines make for the query, where the auditor accepts it.
+/// The certificate that single lines make for the query, where the auditor accepts it. `TooLong` where it would be
+/// longer than a text may be.
 #[tactic(auto, using(crate::proofs::Complete::none_of_empty))]
 fn line_search<S: LineSource>(
     alloc: Global,
@@ -43,6 +44,7 @@ fn line_search<S: LineSource>(
     ensures headline { IfOk result
         (IsTrueInEveryRun AreLegal (S.journals source.now) query.now.skew query.now.transit) }
     ensures none { IsErrOf result FindError.NoneFound → HasNoPlainEvidence (S.journals source.now) query.now }
+    ensures long { IsErrOf result FindError.TooLong → IsTooLong (S.journals source.now) query.now }
 {
     if query.from >= query.to {
         return Err(FindError::NoneFound);
@@ -54,7 +56,8 @@ fn line_search<S: LineSource>(
     Ok(certificate)
 }
 
-/// The certificate that chains over these messages make for the query, where the auditor accepts it.
+/// The certificate that chains over these messages make for the query, where the auditor accepts it. One that would be
+/// longer than a text may be counts as none.
 fn linked_search<S: LineSource>(
     alloc: Global,
     source: &S,
@@ -65,8 +68,13 @@ fn linked_search<S: LineSource>(
     ensures shown { IfOk result (IsShown (S.journals source.now) query.now) }
     ensures headline { IfOk result
         (IsTrueInEveryRun AreLegal (S.journals source.now) query.now.skew query.now.transit) }
+    ensures long { IsErrOf result FindError.TooLong → ⊥ }
 {
-    let certificate = linked_evidence(alloc, source, messages, query)?;
+    let certificate = match linked_evidence(alloc, source, messages, query) {
+        Ok(certificate) => certificate,
+        Err(FindError::Memory) => return Err(FindError::Memory),
+        Err(_) => return Err(FindError::NoneFound),
+    };
     if !is_shown(source, query, &certificate) {
         return Err(FindError::NoneFound);
     }
@@ -85,6 +93,7 @@ pub fn search_over<S: LineSource>(
     ensures headline { IfOk result
         (IsTrueInEveryRun AreLegal (S.journals source.now) query.now.skew query.now.transit) }
     ensures none { IsErrOf result FindError.NoneFound → HasNoPlainEvidence (S.journals source.now) query.now }
+    ensures long { IsErrOf result FindError.TooLong → IsTooLong (S.journals source.now) query.now }
 {
     let plain = line_search(alloc, source, query);
     let Some(messages) = messages else {
@@ -103,6 +112,7 @@ fn search<S: LineSource>(alloc: Global, source: &S, query: &Query) -> Result<Cer
     ensures headline { IfOk result
         (IsTrueInEveryRun AreLegal (S.journals source.now) query.now.skew query.now.transit) }
     ensures none { IsErrOf result FindError.NoneFound → HasNoPlainEvidence (S.journals source.now) query.now }
+    ensures long { IsErrOf result FindError.TooLong → IsTooLong (S.journals source.now) query.now }
 {
     match line_search(alloc, source, query) {
         Err(FindError::NoneFound) => {
@@ -117,7 +127,8 @@ fn search<S: LineSource>(alloc: Global, source: &S, query: &Query) -> Result<Cer
 /// milliseconds of true time, and gives only what `audit` accepts: one of single lines where there is one, and else
 /// one of chains through both servers' messages, no longer than a certificate's text may be. `NoneFound` where neither
 /// was found, and `audit` accepts no plain one: whose chains are single lines, and which orders two lines by their
-/// journal or by their clocks. `Memory` where a growth was refused.
+/// journal or by their clocks. `TooLong` where single lines show it from the beginning on by more lines than a text may
+/// have. `Memory` where a growth was refused.
 pub fn find_certificate<S: LineSource>(
     alloc: Global,
     source: &S,
@@ -135,6 +146,8 @@ pub fn find_certificate<S: LineSource>(
     ensures headline { IfOk result (IsTrueInEveryRun AreLegal (S.journals source.now) skew transit) }
     ensures none { IsErrOf result FindError.NoneFound
         → HasNoPlainEvidence (S.journals source.now) (asked holder prefix from to skew transit) }
+    ensures long { IsErrOf result FindError.TooLong
+        → IsTooLong (S.journals source.now) (asked holder prefix from to skew transit) }
 {
     let query = Query {
         holder,

@@ -4,7 +4,7 @@ ghost use Rattle.std.specs.Prelude.{◌≡◌, ◌↔◌, ◌+◌, List, ℕ, Is
 ghost use Rattle.attribution.specs.Acceptance.{IsTrueInEveryRun};
 ghost use Rattle.volume_heads.specs.NextHead.{AreLegal};
 ghost use Rattle.evidence_search.specs.Claim.{held_by, HasNoPlainEvidence, IsRound, IsAcceptedOf, IsWidest};
-ghost use Rattle.evidence_search.specs.Claim.{HasNoPlainHolder};
+ghost use Rattle.evidence_search.specs.Claim.{HasNoPlainHolder, IsTooLong, IsTooLongOfOne};
 ghost use Rattle.plain_search.specs.Collected.{IsRecent};
 ghost use Rattle.evidence_search.specs.Search.{HasMoment, IsClientAt};
 
@@ -106,6 +106,8 @@ fn widest_of<S: LineSource>(
     ensures widest { IfOk result (IsWidest (S.journals source.now) query.now) }
     ensures none { IsErrOf result FindError.NoneFound
         → HasNoPlainEvidence (S.journals source.now) (held_by query.now holder) }
+    ensures long { IsErrOf result FindError.TooLong
+        → IsTooLong (S.journals source.now) (held_by query.now holder) }
 {
     let held = held_by(query, holder, next);
     widest(alloc, source, messages, &held)
@@ -126,6 +128,7 @@ fn holder_over<S: LineSource>(
         (IsTrueInEveryRun AreLegal (S.journals source.now) query.now.skew query.now.transit) }
     ensures widest { IfOk result (IsWidest (S.journals source.now) query.now) }
     ensures none { IsErrOf result FindError.NoneFound → HasNoPlainHolder (S.journals source.now) query.now }
+    ensures long { IsErrOf result FindError.TooLong → IsTooLongOfOne (S.journals source.now) query.now }
 {
     let _bits = query.prefix.len();
     let mut last = None;
@@ -148,9 +151,11 @@ fn holder_over<S: LineSource>(
 }
 
 /// Searches for the client that held the whole prefix at the moment, and gives the certificate of the widest interval
-/// round it that is shown for that client, which `audit` accepts: one of single lines where these show the moment, and
-/// else one of chains through both servers' messages. `NoneFound` where no client is shown to have held it, and `audit`
-/// accepts no plain certificate of any client's from the moment to the next. `Memory` where a growth was refused.
+/// round it that is shown for that client by as many lines as a text may have, which `audit` accepts: one of single
+/// lines where these show the moment, and else one of chains through both servers' messages. `NoneFound` where no
+/// client is shown to have held it, and `audit` accepts no plain certificate of any client's from the moment to the
+/// next. `TooLong` where single lines show the moment itself for a client, but by more lines. `Memory` where a growth
+/// was refused.
 pub fn find_holder<S: LineSource>(
     alloc: Global,
     source: &S,
@@ -163,9 +168,10 @@ pub fn find_holder<S: LineSource>(
     // with each clock within the skew of true time and each answer within the transit.
     ensures headline { IfOk result
         (IsTrueInEveryRun AreLegal (S.journals source.now) query.now.skew query.now.transit) }
-    // Neither end can be moved outward by a millisecond.
+    // Neither end can be moved outward by a millisecond: that isn't shown, or by more lines than a text may have.
     ensures widest { IfOk result (IsWidest (S.journals source.now) query.now) }
     ensures none { IsErrOf result FindError.NoneFound → HasNoPlainHolder (S.journals source.now) query.now }
+    ensures long { IsErrOf result FindError.TooLong → IsTooLongOfOne (S.journals source.now) query.now }
 {
     let closed = source.close_reading(Role::Primary);
     if query.at.milliseconds() >= closed.milliseconds() {

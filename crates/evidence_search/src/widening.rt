@@ -1,11 +1,11 @@
 //! The widest interval that a search shows.
 
-ghost use Rattle.std.specs.Prelude.{◌≡◌, ◌+◌, ◌<◌, ◌≤◌, ℕ, IfOk, IsErrOf};
+ghost use Rattle.std.specs.Prelude.{◌≡◌, ◌+◌, ◌<◌, ◌≤◌, ℕ, IfOk, IsErrOf, MatchOption};
 ghost use Rattle.binding_rules.specs.declared.role.Role.TheVariants.{Primary};
 ghost use Rattle.causal_order.specs.Journals.{journal_of};
 ghost use Rattle.attribution.specs.Acceptance.{ClosesFrom};
-ghost use Rattle.evidence_search.specs.Claim.{between, HasNoPlainEvidence};
-ghost use Rattle.evidence_search.specs.Search.{IsShownRound};
+ghost use Rattle.evidence_search.specs.Claim.{between, HasNoPlainEvidence, IsNotTold, IsTooLong};
+ghost use Rattle.evidence_search.specs.Search.{IsShownRound, IsTold};
 
 use crate::finding::search_over;
 use crate::guessing::guess_round;
@@ -15,7 +15,25 @@ use claims::Certificate;
 use lead_time::{Reading, Skew};
 use message_search::Messages;
 use plain_search::{FindError, Query, less_skew};
-use std::alloc::Global;
+use std::alloc::{AllocError, Global};
+
+/// The certificate that tells of the query; none where it isn't shown, or only by more lines than a text may have.
+fn told_over<S: LineSource>(
+    alloc: Global,
+    source: &S,
+    messages: Option<&Messages>,
+    query: &Query,
+) -> Result<Option<Certificate>, AllocError>
+    ensures { IfOk result (λ found. MatchOption found (IsNotTold (S.journals source.now) query.now)
+        (IsTold (S.journals source.now) query.now)) }
+{
+    match search_over(alloc, source, messages, query) {
+        Ok(certificate) => Ok(Some(certificate)),
+        Err(FindError::NoneFound) => Ok(None),
+        Err(FindError::TooLong) => Ok(None),
+        Err(FindError::Memory) => Err(AllocError),
+    }
+}
 
 /// The moment of these milliseconds, which is no later than another.
 fn moment(milliseconds: u64, latest: Reading) -> Reading
@@ -45,14 +63,13 @@ fn from_earliest<S: LineSource>(
     query: &Query,
     found: Certificate,
     guess: u64,
-) -> Result<Certificate, FindError>
+) -> Result<Certificate, AllocError>
     requires round { IsShownRound (S.journals source.now) query.now found }
     requires to { found.to ≡ query.now.to }
     ensures round { IfOk result (IsShownRound (S.journals source.now) query.now) }
     ensures to { IfOk result (λ c. c.to ≡ query.now.to) }
     ensures earliest { IfOk result (λ c. (m : ℕ) → m + 1 ≡ c.from
-        → HasNoPlainEvidence (S.journals source.now) (between query.now m query.now.to)) }
-    ensures found { IsErrOf result FindError.NoneFound → ⊥ }
+        → IsNotTold (S.journals source.now) (between query.now m query.now.to)) }
 {
     let mut step = found.from.milliseconds().saturating_sub(guess);
     let mut growth = 0;
@@ -62,17 +79,17 @@ fn from_earliest<S: LineSource>(
         let shown = found.from.milliseconds();
         let from = moment(shown - stride(step, shown - low), found.from);
         let wider = Query { from, ..*query };
-        match search_over(alloc, source, messages, &wider) {
-            Ok(certificate) => {
+        let told = told_over(alloc, source, messages, &wider)?;
+        match told {
+            Some(certificate) => {
                 found = certificate;
                 step = step.saturating_mul(growth).max(1);
                 growth = 2;
             }
-            Err(FindError::NoneFound) => {
+            None => {
                 low = from.milliseconds() + 1;
                 step = (shown - from.milliseconds()) / 2;
             }
-            Err(FindError::Memory) => return Err(FindError::Memory),
         }
     }
     Ok(found)
@@ -103,13 +120,12 @@ fn to_latest<S: LineSource>(
     query: &Query,
     found: Certificate,
     guess: u64,
-) -> Result<Certificate, FindError>
+) -> Result<Certificate, AllocError>
     requires round { IsShownRound (S.journals source.now) query.now found }
     ensures round { IfOk result (IsShownRound (S.journals source.now) query.now) }
     ensures from { IfOk result (λ c. c.from ≡ found.from) }
     ensures latest { IfOk result (λ c.
-        HasNoPlainEvidence (S.journals source.now) (between query.now c.from (c.to + 1))) }
-    ensures found { IsErrOf result FindError.NoneFound → ⊥ }
+        IsNotTold (S.journals source.now) (between query.now c.from (c.to + 1))) }
 {
     let from = found.from;
     let mut step = guess.saturating_sub(found.to.milliseconds());
@@ -120,24 +136,25 @@ fn to_latest<S: LineSource>(
         let shown = found.to.milliseconds();
         let to = moment(shown + stride(step, high.milliseconds() - shown), high);
         let wider = Query { from, to, ..*query };
-        match search_over(alloc, source, messages, &wider) {
-            Ok(certificate) => {
+        let told = told_over(alloc, source, messages, &wider)?;
+        match told {
+            Some(certificate) => {
                 found = certificate;
                 step = step.saturating_mul(growth).max(1);
                 growth = 2;
             }
-            Err(FindError::NoneFound) => {
+            None => {
                 high = moment(to.milliseconds() - 1, to);
                 step = (to.milliseconds() - shown) / 2;
             }
-            Err(FindError::Memory) => return Err(FindError::Memory),
         }
     }
     Ok(found)
 }
 
-/// The certificate of the widest interval round the query's that is shown: neither end can be moved outward by a
-/// millisecond. `NoneFound` where the query itself isn't shown.
+/// The certificate of the widest interval round the query's that is shown by as many lines as a text may have: neither
+/// end can be moved outward by a millisecond. `NoneFound` where the query itself isn't shown, `TooLong` where it is by
+/// more lines.
 pub fn widest<S: LineSource>(
     alloc: Global,
     source: &S,
@@ -146,10 +163,11 @@ pub fn widest<S: LineSource>(
 ) -> Result<Certificate, FindError>
     ensures round { IfOk result (IsShownRound (S.journals source.now) query.now) }
     ensures earliest { IfOk result (λ c. (m : ℕ) → m + 1 ≡ c.from
-        → HasNoPlainEvidence (S.journals source.now) (between query.now m query.now.to)) }
+        → IsNotTold (S.journals source.now) (between query.now m query.now.to)) }
     ensures latest { IfOk result (λ c.
-        HasNoPlainEvidence (S.journals source.now) (between query.now c.from (c.to + 1))) }
+        IsNotTold (S.journals source.now) (between query.now c.from (c.to + 1))) }
     ensures none { IsErrOf result FindError.NoneFound → HasNoPlainEvidence (S.journals source.now) query.now }
+    ensures long { IsErrOf result FindError.TooLong → IsTooLong (S.journals source.now) query.now }
 {
     let found = search_over(alloc, source, messages, query)?;
     let wide = Query {
@@ -159,5 +177,6 @@ pub fn widest<S: LineSource>(
     };
     let guess = guess_round(alloc, source, query, &wide)?;
     let found = from_earliest(alloc, source, messages, query, found, guess.from)?;
-    to_latest(alloc, source, messages, query, found, guess.to)
+    let found = to_latest(alloc, source, messages, query, found, guess.to)?;
+    Ok(found)
 }

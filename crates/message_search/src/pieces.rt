@@ -233,17 +233,20 @@ fn piece_of<S: LineSource>(
     })
 }
 
-/// Pieces end to end over the query, each of the one of these grants that reaches farthest.
+/// Pieces end to end over the query, each of the one of these grants that reaches farthest. They have room for so many
+/// lines.
 fn pieces_of<S: LineSource>(
     alloc: Global,
     source: &S,
     messages: &Messages,
     query: &Query,
     reaches: &[Reach],
+    room: usize,
 ) -> Result<PieceList, FindError>
     requires { AreInOrder reaches.now }
 {
     let mut pieces = PieceList::new(Vec::new(alloc));
+    let mut left = room;
     let mut from = query.from;
     let mut passed = Passed::NONE;
     while from < query.to {
@@ -251,20 +254,27 @@ fn pieces_of<S: LineSource>(
         let Some(reach) = farthest(reaches, &passed, from) else {
             return Err(FindError::NoneFound);
         };
-        pieces.push(piece_of(alloc, source, messages, &reach, from, query.skew)?)?;
+        let piece = piece_of(alloc, source, messages, &reach, from, query.skew)?;
+        let clears = piece.clear.as_slice().len();
+        if clears >= left {
+            return Err(FindError::TooLong);
+        }
+        left -= clears + 1;
+        pieces.push(piece)?;
         from = reach.end;
     }
     Ok(pieces)
 }
 
 /// Pieces end to end over the query, each of the grant that reaches farthest. `NoneFound` where no grant carries some
-/// moment.
+/// moment, `TooLong` as soon as those from the query's beginning on have more lines than there is room for.
 pub fn linked_pieces<S: LineSource>(
     alloc: Global,
     source: &S,
     messages: &Messages,
     query: &Query,
+    room: usize,
 ) -> Result<PieceList, FindError> {
     let reaches = reaches(alloc, source, messages, query)?;
-    pieces_of(alloc, source, messages, query, &reaches)
+    pieces_of(alloc, source, messages, query, &reaches, room)
 }

@@ -1,6 +1,7 @@
 -- Pieces end to end.
-use Rattle.std.specs.Prelude.{◌≡◌, ℕ, ◌<◌, ◌≤◌, List, [], ◌∷◌, ◌++◌, All, Contains as Has}
+use Rattle.std.specs.Prelude.{◌≡◌, ℕ, ◌+◌, ◌<◌, ◌≤◌, List, [], ◌∷◌, ◌++◌, length, All, Contains as Has}
 use Rattle.std.proofs.Common.{arith, sym, ◌∙◌, ap, subst, refl}
+use Rattle.std.proofs.lemmas.List.Sums.{sum_by_push}
 use Rattle.claims.specs.declared.reference.Ref.{Ref}
 use Rattle.claims.specs.declared.certificate.Piece.{Piece}
 use Rattle.causal_order.specs.Journals.{Journals}
@@ -8,7 +9,8 @@ use Rattle.attribution.specs.Acceptance.{Tile}
 use Rattle.plain_search.specs.declared.query.Query.{Query}
 use Rattle.plain_search.specs.declared.reach.Reach.{Reach}
 use Rattle.plain_search.specs.Search.{CarriesAt, IsReach, AreAllReaches, NoneReaches, IsFarthest, IsPieceOf, IsFound}
-use Rattle.plain_search.specs.Search.{ReachTo, HasGap}
+use Rattle.plain_search.specs.Search.{ReachTo, HasGap, ArePiecesOver}
+use Rattle.plain_search.specs.Limits.{lines_of_piece, lines_of_all}
 use Rattle.plain_search.proofs.Candidates.{reached}
 use Rattle.plain_search.proofs.Carrying.{all_more}
 
@@ -79,3 +81,19 @@ module _ (js : Journals) (q : Query) where
   pub reach_all : (ps : List Piece) (m : ℕ) → q.to ≤ m → AreSoFar js q ps m → ReachTo js q q.to ps
   reach_all ps m le h = let same : m ≡ q.to = (let w = h.within in omega arith) in
       subst (λ (n : ℕ). ReachTo js q n ps) same h.reach
+
+-- ---- how many lines they have
+
+pub lines_with : (ps on : List Piece) (p : Piece) → on ≡ ps ++ p ∷ []
+    → lines_of_all on ≡ lines_of_all ps + (1 + length p.clear)
+lines_with ps on p same = ap lines_of_all same ∙ sum_by_push lines_of_piece ps p
+
+module _ (js : Journals) (q : Query) (xs : List Reach) (each : All (IsReach js q) xs) where
+  -- with one more they have more than there is room for
+  pub over_with : (ps : List Piece) (m : ℕ) (z : Reach) (p : Piece) (left room : ℕ) → IsFarthest xs m z
+      → IsPieceOf js q.skew z m p → AreSoFar js q ps m → lines_of_all ps + left ≡ room → left ≤ length p.clear
+      → ArePiecesOver js q room
+  over_with ps m z p left room far of h fits over =
+      let on = one_so_far js q xs each ps (ps ++ p ∷ []) m z p far of refl h in
+      let more = lines_with ps (ps ++ p ∷ []) p refl in
+      (z.end, ps ++ p ∷ [], on.reach, omega arith)

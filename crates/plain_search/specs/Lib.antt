@@ -1,3 +1,4 @@
 pub mod Plain
+pub mod Limits
 pub mod Search
 pub mod Collected

@@ -27,6 +27,7 @@ use Rattle.plain_search.specs.declared.reach.Candidate.{Candidate}
 use Rattle.plain_search.specs.declared.reach.Reach.{Reach}
 use Rattle.plain_search.specs.declared.sweep.Passed.{Passed}
 use Rattle.plain_search.specs.Plain.{IsPlainReason}
+use Rattle.plain_search.specs.Limits.{lines_of_all}
 
 -- ---- two lines
 
@@ -195,6 +196,10 @@ pub record IsFound (js : Journals) (q : Query) (p : Piece) : Type 0 where
 pub record ReachTo (js : Journals) (q : Query) (m : ℕ) (ps : List Piece) : Type 0 where
   pub tiled : Tile q.from m ps
   pub found : All (IsFound js q) ps
+
+-- pieces from the query's beginning on have more lines than there is room for
+abbrev pub ArePiecesOver : Journals → Query → ℕ → Type 0
+ArePiecesOver js q room = (m : ℕ) × (ps : List Piece) × ReachTo js q m ps × (room < lines_of_all ps)
 
 -- ---- other clients
 

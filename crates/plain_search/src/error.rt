@@ -12,6 +12,9 @@ pub enum FindError {
     /// The journals show no plain evidence of what is asked.
     #[error("none")]
     NoneFound,
+    /// What single lines show of it has more lines than a certificate's text may have.
+    #[error("more lines than a certificate may have")]
+    TooLong,
     /// A growth was refused.
     #[error("out of memory")]
     Memory,

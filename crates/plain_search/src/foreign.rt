@@ -62,6 +62,7 @@ fn reason_of<S: LineSource>(
     ensures holds { IfOk result (IsAside (S.journals source.now) query.now at delegation.now) }
     ensures none { IsErrOf result FindError.NoneFound
         → HasNoReason (S.journals source.now) query.now at delegation.now }
+    ensures short { IsErrOf result FindError.TooLong → ⊥ }
 {
     let Some(granted) = reading_at(source, at) else {
         return Err(FindError::NoneFound);
@@ -113,6 +114,7 @@ pub fn foreign_entries<S: LineSource>(
 ) -> Result<ForeignList, FindError>
     ensures found { IfOk result (AreForeign (S.journals source.now) query.now) }
     ensures none { IsErrOf result FindError.NoneFound → IsInTheWay (S.journals source.now) query.now }
+    ensures short { IsErrOf result FindError.TooLong → ⊥ }
 {
     let mut entries = ForeignList::new(alloc);
     let mut recent = Recent::new(alloc);

@@ -4,7 +4,8 @@ ghost use Rattle.std.specs.Prelude.{◌≡◌, ◌≤◌, All, IfOk, IsErrOf};
 ghost use Rattle.claims.specs.declared.reference.Ref.{Ref as RefValue};
 ghost use Rattle.attribution.specs.Acceptance.{GivesBack};
 ghost use Rattle.plain_search.specs.Search.{IsPlainEntry, HasEntry, AreEntries, IsReach, AreAllReaches, AreInOrder};
-ghost use Rattle.plain_search.specs.Search.{IsPieceOf, ReachTo, HasGap};
+ghost use Rattle.plain_search.specs.Search.{IsPieceOf, ReachTo, HasGap, ArePiecesOver};
+ghost use Rattle.plain_search.specs.Limits.{lines_of_all};
 
 use crate::asking::lease_at;
 use crate::error::FindError;
@@ -91,21 +92,25 @@ fn piece_of<S: LineSource>(
 }
 
 /// Pieces end to end over the query, each of the one of these grants that reaches farthest: they stand in the order in
-/// which they begin.
+/// which they begin. They have room for so many lines.
 fn pieces_of<S: LineSource>(
     alloc: Global,
     source: &S,
     query: &Query,
     reaches: &[Reach],
+    room: usize,
 ) -> Result<PieceList, FindError>
     requires interval { query.now.from ≤ query.now.to }
     requires each { All (IsReach (S.journals source.now) query.now) reaches.now }
     requires all { AreAllReaches (S.journals source.now) query.now reaches.now }
     requires sorted { AreInOrder reaches.now }
     ensures found { IfOk result (ReachTo (S.journals source.now) query.now query.now.to) }
+    ensures fits { IfOk result (λ ps. lines_of_all ps ≤ room) }
     ensures none { IsErrOf result FindError.NoneFound → HasGap (S.journals source.now) query.now }
+    ensures long { IsErrOf result FindError.TooLong → ArePiecesOver (S.journals source.now) query.now room }
 {
     let mut pieces = Vec::new(alloc);
+    let mut left = room;
     let mut from = query.from;
     let mut passed = Passed::NONE;
     while from < query.to {
@@ -113,23 +118,32 @@ fn pieces_of<S: LineSource>(
         let Some(reach) = farthest(reaches, &passed, from) else {
             return Err(FindError::NoneFound);
         };
-        pieces.push(piece_of(alloc, source, &reach, from, query.skew)?)?;
+        let piece = piece_of(alloc, source, &reach, from, query.skew)?;
+        let clears = piece.clear.as_slice().len();
+        if clears >= left {
+            return Err(FindError::TooLong);
+        }
+        left -= clears + 1;
+        pieces.push(piece)?;
         from = reach.end;
     }
     Ok(PieceList::new(pieces))
 }
 
 /// Pieces end to end over the query, each of the grant that reaches farthest. `NoneFound` where no grant carries some
-/// moment.
+/// moment, `TooLong` as soon as those from the query's beginning on have more lines than there is room for.
 pub fn pieces<S: LineSource>(
     alloc: Global,
     source: &S,
     query: &Query,
+    room: usize,
 ) -> Result<PieceList, FindError>
     requires { query.now.from ≤ query.now.to }
     ensures found { IfOk result (ReachTo (S.journals source.now) query.now query.now.to) }
+    ensures fits { IfOk result (λ ps. lines_of_all ps ≤ room) }
     ensures none { IsErrOf result FindError.NoneFound → HasGap (S.journals source.now) query.now }
+    ensures long { IsErrOf result FindError.TooLong → ArePiecesOver (S.journals source.now) query.now room }
 {
     let reaches = reaches(alloc, source, query)?;
-    pieces_of(alloc, source, query, &reaches)
+    pieces_of(alloc, source, query, &reaches, room)
 }

@@ -64,6 +64,7 @@ fn check_found(
             assert_eq!(rt; found.as_slice(), text.as_bytes());
         }
         Err(FindError::NoneFound) => assert_eq!(rt; text, NONE),
+        Err(FindError::TooLong) => return Err(Fail::from("too long")),
         Err(FindError::Memory) => Err(AllocError)?,
     }
     Ok(())

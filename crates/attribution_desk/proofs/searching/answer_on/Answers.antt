@@ -1,14 +1,15 @@
 use Rattle.std.specs.Prelude.{◌≡◌, ℕ, Option, Some, MatchOption}
 use Rattle.std.proofs.Common.{inl, inr, subst}
 use Rattle.pair_ruling.specs.declared.ruling.Ruling.{Ruling}
-use Rattle.pair_ruling.specs.Ruled.{IsRuled, IsRuledOut, IsFit}
+use Rattle.pair_ruling.specs.Ruled.{IsRuledOut, IsFit}
+use Rattle.attribution_desk.specs.Case.{IsCaseOf}
 use Rattle.attribution_desk.specs.Searching.{Forbids, Allows, Answered}
 use Rattle.attribution_desk.proofs.searching.answer_on.Goals as goal
 
 pub returns-in-Refused-clause-answer : goal.returns-in-Refused-clause-answer
 returns-in-Refused-clause-answer g c =
-    let out = subst (IsRuled c.args.primary.now c.args.secondary.now c.skew.result) c.in-Refused.is
-    c.in_ok-merged.ensures in
+    let out = subst (IsCaseOf c.args.primary.now c.args.secondary.now c.skew.result) c.in-Refused.is
+    c.in_ok-case.ensures.case in
     inl (
       c.in-Refused.ruling,
       subst (λ (skew : ℕ). IsRuledOut c.args.primary.now c.args.secondary.now skew c.in-Refused.ruling)
@@ -18,8 +19,8 @@ returns-in-Refused-clause-answer g c =
 
 pub returns-in-Some-clause-answer : goal.returns-in-Some-clause-answer
 returns-in-Some-clause-answer g c =
-    let fit = subst (IsRuled c.args.primary.now c.args.secondary.now c.skew.result) c.in-Fit.is c.in_ok-merged.ensures
-    in
+    let fit = subst (IsCaseOf c.args.primary.now c.args.secondary.now c.skew.result) c.in-Open.is
+    c.in_ok-case.ensures.case in
     let found : (o : Option Ruling) → o ≡ Some c.in-Some.ruling
     → MatchOption o (Allows c.args.search.now c.args.primary.now c.args.secondary.now)
     (Forbids c.args.search.now c.args.primary.now c.args.secondary.now)
@@ -34,8 +35,8 @@ returns-in-Some-clause-answer g c =
 
 pub returns-clause-answer : goal.returns-clause-answer
 returns-clause-answer g c =
-    let fit = subst (IsRuled c.args.primary.now c.args.secondary.now c.skew.result) c.in-Fit.is c.in_ok-merged.ensures
-    in
+    let fit = subst (IsCaseOf c.args.primary.now c.args.secondary.now c.skew.result) c.in-Open.is
+    c.in_ok-case.ensures.case in
     let allowed =
     subst (λ (x : Option Ruling). MatchOption x (Allows c.args.search.now c.args.primary.now c.args.secondary.now)
     (Forbids c.args.search.now c.args.primary.now c.args.secondary.now)) c.in_default.is c.forbidden.ensures in
@@ -45,7 +46,7 @@ returns-clause-answer g c =
       inr (
         allowed,
         subst (λ js. Answered c.args.search.now js answer.line.items answer.status
-            answer.note.items) c.in_ok-index.ensures
+            answer.note.items) fit.1
             c.in_ok-answer-2.ensures.answer,
       ),
     )

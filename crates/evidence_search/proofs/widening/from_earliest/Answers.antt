@@ -1,5 +1,5 @@
-use Rattle.std.proofs.Common.{◌≡◌, ℕ, arith, ap, Err, subst}
-use Rattle.evidence_search.specs.Claim.{between, HasNoPlainEvidence}
+use Rattle.std.proofs.Common.{◌≡◌, ℕ, arith, subst}
+use Rattle.evidence_search.specs.Claim.{between, IsNotTold}
 use Rattle.evidence_search.proofs.widening.from_earliest.Goals as goal
 
 pub loop-low-preserved : goal.loop-low-preserved
@@ -13,7 +13,6 @@ loop-low-preserved g c =
       within = (let test = c.loop-low-test.true in let first = c.milliseconds.ensures.value in omega arith);
       none = λ m is. (
           let same : from ≡ m = omega arith in
-          subst (λ (n : ℕ). HasNoPlainEvidence (g.S.Lines.journals c.args.source.now)
-          (between c.args.query.now n c.args.query.now.to)) same
-          (c.in-Err-NoneFound.ensures.none (ap Err c.in-Err-NoneFound.field-0-is)));
+          subst (λ (n : ℕ). IsNotTold (g.S.Lines.journals c.args.source.now)
+          (between c.args.query.now n c.args.query.now.to)) same (rw c.in-None.is at c.in_ok-told.ensures));
     }

@@ -1,5 +1,5 @@
-use Rattle.std.proofs.Common.{ℕ, ◌≡◌, arith, refl, sym, subst, ◌+◌}
-use Rattle.evidence_search.specs.Claim.{between, HasNoPlainEvidence}
+use Rattle.std.proofs.Common.{ℕ, ◌≡◌, arith, refl, sym, inl, subst, ◌+◌}
+use Rattle.evidence_search.specs.Claim.{between, IsNotTold}
 use Rattle.evidence_search.proofs.Widened.{none_past}
 use Rattle.evidence_search.proofs.widening.to_latest.Goals as goal
 
@@ -8,8 +8,8 @@ loop-alloc-init g c = record {
   round = c.requires.round;
   from_is = refl;
   within = c.last_shown-high.ensures.least;
-  none = none_past (g.S.Lines.journals c.args.source.now) c.args.query.now c.args.found.from
-      (c.last_shown-high.result + 1) (c.last_shown-high.ensures.last (c.last_shown-high.result + 1) (omega arith));
+  none = inl (none_past (g.S.Lines.journals c.args.source.now) c.args.query.now c.args.found.from
+      (c.last_shown-high.result + 1) (c.last_shown-high.ensures.last (c.last_shown-high.result + 1) (omega arith)));
 }
 
 pub returns-clause-latest : goal.returns-clause-latest
@@ -22,5 +22,5 @@ returns-clause-latest g c =
     let past = c.loop-alloc-test.false in
     let within = h.within in
     let same : c.loop-alloc.high ≡ c.loop-alloc.found.to = omega arith in
-    subst (λ (from : ℕ). HasNoPlainEvidence js (between q from (c.loop-alloc.found.to + 1))) (sym h.from_is)
-    (subst (λ (n : ℕ). HasNoPlainEvidence js (between q c.args.found.from (n + 1))) same h.none)
+    subst (λ (from : ℕ). IsNotTold js (between q from (c.loop-alloc.found.to + 1))) (sym h.from_is)
+    (subst (λ (n : ℕ). IsNotTold js (between q c.args.found.from (n + 1))) same h.none)
