@@ -1,9 +1,14 @@
 -- Octets that are given and passed on.
-use Rattle.std.specs.Prelude.{ℕ, List, [], ◌++◌, Option, Some, None, take, drop}
-use Rattle.std.proofs.Common.{refl, ap, sym, ◌∙◌, append_assoc, append-nil}
+use Rattle.std.specs.Prelude.{◌≡◌, ℕ, List, [], ◌++◌, Option, Some, None, Result, Ok, Err, take, drop}
+use Rattle.std.proofs.Common.{arith, refl, subst, ap, sym, ◌∙◌, append_assoc, append-nil}
 use Rattle.std.proofs.lemmas.List.{take-append-drop}
 use Rattle.std.specs.Io.KnownBytes.{Appends, Keeps}
-use Rattle.daemon_devices.specs.Giving.{given, IsPassedOn}
+use Rattle.link_entry.specs.Passing.{Puts}
+use Rattle.link_entry.specs.declared.passage.Passage.{Passage}
+use Rattle.link_entry.specs.declared.passage.Passage.TheVariants.{Open, Records}
+use Rattle.daemon_devices.specs.Giving.{given, IsPassedOn, Sent, Skips, Stays, Gives, IsGiven}
+use Rattle.daemon_devices.specs.declared.connection.Lost.{Lost}
+use Rattle.daemon_devices.specs.declared.connection.Lost.TheVariants.{Broken, Stuck, Spent, Memory}
 
 pub kept_adds_none : (old new : Option (List ℕ)) → Keeps old new → Appends old new []
 kept_adds_none None new h = tt
@@ -41,3 +46,48 @@ given_and_kept None b c octets h k = tt
 given_and_kept (Some xs) None c octets h k = absurd h
 given_and_kept (Some xs) (Some ys) None octets h k = absurd k
 given_and_kept (Some xs) (Some ys) (Some zs) octets h k = k ∙ h
+
+pub skips_none : (p : Passage) → Skips p p
+skips_none Open = tt
+skips_none (Records j) = (refl, omega (arith), refl)
+
+pub skips_put : (p q : Passage) (octets sent : List ℕ) → Puts p octets sent q → Skips p q
+skips_put Open Open octets sent h = tt
+skips_put Open (Records j) octets sent h = absurd h
+skips_put (Records j) Open octets sent h = absurd h
+skips_put (Records j) (Records k) octets sent h = (h.0.key, omega (arith, h.0.number), h.1)
+
+-- the passage that a put left, and nothing given
+pub put_is_lost : (p q : Passage) (octets sent : List ℕ) (contents : Option (List ℕ)) (waits : List ℕ)
+    → Puts p octets sent q
+    → Stays (record { given = given contents waits; passage = p }) (record { given = given contents waits; passage = q })
+put_is_lost p q octets sent contents waits h =
+    record { given = stays (given contents waits); passage = skips_put p q octets sent h }
+
+pub nothing_given : (p : Passage) (contents : Option (List ℕ)) (waits : List ℕ)
+    → Stays (record { given = given contents waits; passage = p }) (record { given = given contents waits; passage = p })
+nothing_given p contents waits = record { given = stays (given contents waits); passage = skips_none p }
+
+-- what was put waits behind the others, and goes out
+module _ (p q r : Passage) (octets sent : List ℕ) (contents : Option (List ℕ)) (waits : List ℕ)
+    (waited : List ℕ) (after : Option (List ℕ)) (h : Puts p octets sent q) (same : r ≡ q) (all : waited ≡ waits ++ sent)
+    (keeps : Keeps (given contents waited) after) where
+  gives : Gives octets (record { given = given contents waits; passage = p }) (record { given = after; passage = r })
+  gives = record {
+    stream = sent;
+    puts = subst (λ x. Puts p octets sent x) (sym same) h;
+    behind = given_and_kept (given contents waits) (given contents (waits ++ sent)) after sent
+        (added_is_given contents waits sent) (subst (λ xs. Keeps (given contents xs) after) all keeps);
+  }
+
+  pub put_is_given : {T : Type 0} (result : Result T Lost) → (result ≡ Err Memory → ⊥) × (result ≡ Err Spent → ⊥)
+      → IsGiven octets (record { given = given contents waits; passage = p }) (record { given = after; passage = r }) result
+  put_is_given (Ok x) k = gives
+  put_is_given (Err Broken) k = gives
+  put_is_given (Err Stuck) k = gives
+  put_is_given (Err Memory) k = absurd (k.0 refl)
+  put_is_given (Err Spent) k = absurd (k.1 refl)
+
+-- a flush gives nothing more
+pub flushed_stays : (a b : Sent) → Keeps a.given b.given → b.passage ≡ a.passage → Stays a b
+flushed_stays a b keeps same = record { given = keeps; passage = subst (λ p. Skips a.passage p) (sym same) (skips_none a.passage) }

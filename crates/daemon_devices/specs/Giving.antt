@@ -1,18 +1,25 @@
 -- What a connection is given to write.
-use Rattle.std.specs.Prelude.{◌≡◌, ℕ, List, Option, Result, Err, take, drop, Bool}
+use Rattle.std.specs.Prelude.{⊤, ◌≡◌, ◌≤◌, ℕ, List, Option, Result, Err, take, drop, Bool}
 use Rattle.std.specs.Io.KnownBytes.{append_known, Appends, Keeps}
 use Rattle.std.specs.declared.time.Instant.{Instant}
 use Rattle.daemon_devices.specs.declared.connection.Lost.{Lost}
-use Rattle.daemon_devices.specs.declared.connection.Lost.TheVariants.{Memory}
+use Rattle.daemon_devices.specs.declared.connection.Lost.TheVariants.{Memory, Spent}
+use Rattle.link_entry.specs.Passing.{Puts}
+use Rattle.link_entry.specs.declared.passage.Passage.{Passage}
+use Rattle.link_entry.specs.declared.passage.Passage.TheVariants.{Open, Records}
 
 -- the octets that were given: those that the stream has, where they are known, and then those that wait for it
 abbrev pub given : Option (List ℕ) → List ℕ → Option (List ℕ)
 given contents waits = append_known contents waits
 
--- a connection: what it was given so far, where that is known; when octets came last, before when it began; and
--- whether any came
-pub record ConnectionState : Type 0 where
+-- what a connection was given so far, where that is known, and how octets go over it
+pub record Sent : Type 0 where
   pub given : Option (List ℕ)
+  pub passage : Passage
+
+-- a connection: that; when octets came last, before when it began; and whether any came
+pub record ConnectionState : Type 0 where
+  pub sent : Sent
   pub heard : Instant
   pub has_heard : Bool
 
@@ -20,7 +27,25 @@ pub record ConnectionState : Type 0 where
 abbrev pub IsPassedOn : Option (List ℕ) → List ℕ → Option (List ℕ) → List ℕ → Type 0
 IsPassedOn old waited new waits = (count : ℕ) × (waits ≡ drop count waited) × Appends old new (take count waited)
 
--- octets were given behind the others; where memory lacked, none
-abbrev pub IsGiven : {T : Type 0} → List ℕ → Option (List ℕ) → Option (List ℕ) → Result T Lost → Type 0
-IsGiven octets old new (Err Memory) = Keeps old new
-IsGiven octets old new _ = Appends old new octets
+-- Octets were given behind the others: as they are, or in the records that say them.
+pub record Gives (octets : List ℕ) (old new : Sent) : Type 0 where
+  pub stream : List ℕ
+  pub puts : Puts old.passage octets stream new.passage
+  pub behind : Appends old.given new.given stream
+
+-- Nothing was given. Numbers of records may have been left out: none is used again.
+abbrev pub Skips : Passage → Passage → Type 0
+Skips Open Open = ⊤
+Skips (Records old) (Records new) = (new.writer.key ≡ old.writer.key)
+    × (old.writer.number ≤ new.writer.number) × (new.reader ≡ old.reader)
+Skips _ _ = ⊥
+
+pub record Stays (old new : Sent) : Type 0 where
+  pub given : Keeps old.given new.given
+  pub passage : Skips old.passage new.passage
+
+-- octets were given; where memory or a number lacked, none
+abbrev pub IsGiven : {T : Type 0} → List ℕ → Sent → Sent → Result T Lost → Type 0
+IsGiven octets old new (Err Memory) = Stays old new
+IsGiven octets old new (Err Spent) = Stays old new
+IsGiven octets old new _ = Gives octets old new

@@ -7,8 +7,8 @@ use Rattle.std.specs.declared.time.Instant.{Instant}
 abbrev pub seconds_from : Instant → Instant → ℕ
 seconds_from begun now = (instant_nanos now - instant_nanos begun) / 1000000000
 
--- A connection is given up over which nothing came for so many seconds: ten where nothing ever came; else ten minutes,
+-- A connection is given up over which nothing came for so many seconds: five where nothing ever came; else ten minutes,
 -- or one where another connection has come.
 abbrev pub IsGivenUp : (has_heard : Bool) → (has_other : Bool) → (silence : ℕ) → Type 0
-IsGivenUp false has_other silence = 10 ≤ silence
+IsGivenUp false has_other silence = 5 ≤ silence
 IsGivenUp true has_other silence = (600 ≤ silence) ⊎ (IsTrue has_other × (60 ≤ silence))

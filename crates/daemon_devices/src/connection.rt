@@ -1,12 +1,14 @@
 //! A connection with the partner.
 
-ghost use Rattle.std.specs.Prelude.{◌≡◌, ◌≤◌, ◌↔◌, ℕ, Err, length, IsTrue, if◌then◌else◌};
-ghost use Rattle.daemon_devices.specs.declared.connection.Lost.TheVariants.{Memory};
+ghost use Rattle.std.specs.Prelude.{◌≡◌, ◌≤◌, ◌↔◌, ◌⊎◌, ℕ, Err, length, IsTrue, if◌then◌else◌};
+ghost use Rattle.daemon_devices.specs.declared.connection.Lost.TheVariants.{Memory, Spent};
 ghost use Rattle.std.specs.Io.KnownBytes.{Keeps};
 ghost use Rattle.daemon_devices.specs.Giving.{IsGiven};
 ghost use Rattle.daemon_devices.specs.Silence.{seconds_from, IsGivenUp};
 
 use crate::unsent::Unsent;
+use link_entry::{Entrant, Passage};
+use link_records::LinkFault;
 use std::alloc::Global;
 use std::io::{ErrorKind, Read, Write};
 use std::marker::Model;
@@ -17,7 +19,7 @@ use thiserror::Error;
 const MOST_UNSENT: usize = 8 << 20;
 
 /// After how many seconds without a first octet it is given up.
-const FIRST_SILENCE: u64 = 10;
+const FIRST_SILENCE: u64 = 5;
 
 /// After how many seconds without an octet it is given up where a second connection comes.
 const LONG_SILENCE: u64 = 60;
@@ -34,6 +36,8 @@ pub enum Got {
     Nothing,
     /// None, and none will come.
     End,
+    /// Some that somebody sent who hasn't the key: none of the connection count any more.
+    Forged,
 }
 
 /// Why a connection is over.
@@ -45,6 +49,9 @@ pub enum Lost {
     /// The partner takes no octets: more than 8 MiB wait.
     #[error("its other end takes nothing")]
     Stuck,
+    /// No number is left for a record.
+    #[error("no number is left for a record")]
+    Spent,
     /// A growth was refused.
     #[error("out of memory")]
     Memory,
@@ -53,7 +60,11 @@ pub enum Lost {
 /// The only connection with the partner while it stands, by a stream that doesn't wait.
 #[derive(Drop)]
 pub struct Connection<S: Read + Write + Drop> {
+    alloc: Global,
     stream: S,
+    passage: Passage,
+    /// What has come and wasn't read yet.
+    ahead: Vec<u8>,
     unsent: Unsent,
     /// When octets came last; before, when it began.
     heard: Instant,
@@ -62,12 +73,13 @@ pub struct Connection<S: Read + Write + Drop> {
 }
 
 impl<S: Read + Write + Drop> Model for Connection<S> {
+    ghost use Rattle.std.specs.Io.KnownBytes.{Keeps};
     ghost use Rattle.daemon_devices.specs.Giving.{ConnectionState, given};
 
     ghost Value = { ConnectionState };
 
     ghost view = { λ c. record {
-      given = given (S.contents c.stream) c.unsent;
+      sent = record { given = given (S.contents c.stream) c.unsent; passage = c.passage };
       heard = c.heard;
       has_heard = c.has_heard;
     } };
@@ -105,27 +117,62 @@ impl QuietSecond {
     }
 }
 
+/// Puts octets that have come at the front of the buffer, as many as it takes, and keeps the others.
+fn given_out(ahead: &mut Vec<u8>, buffer: &mut [u8]) -> usize
+    ensures { result ≤ length buffer.new }
+{
+    let count = ahead.len().min(buffer.len());
+    buffer[..count].copy_from_slice(&ahead[..count]);
+    ahead.drain(..count);
+    count
+}
+
+/// Why octets aren't given to a connection.
+fn lost_by(fault: LinkFault) -> Lost
+    ensures { (result ≡ Memory) ⊎ (result ≡ Spent) }
+{
+    match fault {
+        LinkFault::Spent => Lost::Spent,
+        LinkFault::TooLong | LinkFault::Forged | LinkFault::Memory => Lost::Memory,
+    }
+}
+
 impl<S: Read + Write + Drop> Connection<S> {
-    /// A connection that begins now.
-    pub fn new(alloc: Global, stream: S, now: Instant) -> Connection<S> {
+    /// The connection of who was let in now, over which these octets were still to be written.
+    pub(crate) fn new(
+        alloc: Global,
+        stream: S,
+        unsent: Unsent,
+        entrant: Entrant,
+        now: Instant,
+    ) -> Connection<S> {
+        let Entrant { passage, ahead, .. } = entrant;
+        let has_heard = !ahead.is_empty();
         Connection {
+            alloc,
             stream,
-            unsent: Unsent::new(alloc),
+            passage,
+            ahead,
+            unsent,
             heard: now,
-            has_heard: false,
+            has_heard,
         }
     }
 
-    /// Puts the octets that have come at the front of the buffer. An error of the stream's is its end.
+    /// Puts the octets that have come at the front of the buffer. An error of the stream's is its end, and so is want of
+    /// memory.
     pub fn read(&mut self, buffer: &mut [u8], now: Instant) -> Got
         ensures { (count : ℕ) → result ≡ Got.Octets count → count ≤ length buffer.new }
     {
+        if !self.ahead.is_empty() {
+            return Got::Octets(given_out(&mut self.ahead, buffer));
+        }
         match self.stream.read(buffer) {
             Ok(0) => Got::End,
             Ok(count) => {
                 self.heard = now;
                 self.has_heard = true;
-                Got::Octets(count)
+                self.take(buffer, count)
             }
             Err(error) => match error.kind() {
                 ErrorKind::WouldBlock | ErrorKind::Interrupted => Got::Nothing,
@@ -134,12 +181,31 @@ impl<S: Read + Write + Drop> Connection<S> {
         }
     }
 
-    /// Writes octets behind all others: now, or as soon as the stream takes them (`flush`).
-    #[tactic(auto, using(crate::proofs::Given::added_is_given, crate::proofs::Given::given_and_kept, crate::proofs::Given::stays))]
-    pub fn write(&mut self, octets: &[u8]) -> Result<(), Lost>
-        ensures given { IsGiven octets.now self.old.given self.new.given result }
+    /// Puts what the octets at the front of the buffer say there.
+    fn take(&mut self, buffer: &mut [u8], count: usize) -> Got
+        requires { count ≤ length buffer.old }
+        ensures { (count : ℕ) → result ≡ Got.Octets count → count ≤ length buffer.new }
     {
-        if self.unsent.add(octets).is_err() {
+        match self.passage.take(self.alloc, &buffer[..count]) {
+            Ok(octets) => {
+                self.ahead = octets;
+                Got::Octets(given_out(&mut self.ahead, buffer))
+            }
+            Err(LinkFault::Memory) => Got::End,
+            Err(LinkFault::TooLong | LinkFault::Forged | LinkFault::Spent) => Got::Forged,
+        }
+    }
+
+    /// Writes octets behind all others: now, or as soon as the stream takes them (`flush`).
+    #[tactic(auto, using(crate::proofs::Given::put_is_lost, crate::proofs::Given::nothing_given))]
+    pub fn write(&mut self, octets: &[u8]) -> Result<(), Lost>
+        ensures given { IsGiven octets.now self.old.sent self.new.sent result }
+    {
+        let sent = match self.passage.put(self.alloc, octets) {
+            Ok(sent) => sent,
+            Err(fault) => return Err(lost_by(fault)),
+        };
+        if self.unsent.add(&sent).is_err() {
             return Err(Lost::Memory);
         }
         self.flush()
@@ -148,8 +214,9 @@ impl<S: Read + Write + Drop> Connection<S> {
     /// Writes what waits, as far as the stream takes it now.
     #[tactic(auto, using(crate::proofs::Given::passed_is_kept))]
     pub fn flush(&mut self) -> Result<(), Lost>
-        ensures same { Keeps self.old.given self.new.given }
-        ensures memory { result ≡ Err Memory → ⊥ }
+        ensures given { Keeps self.old.sent.given self.new.sent.given }
+        ensures passage { self.new.sent.passage ≡ self.old.sent.passage }
+        ensures stream { (result ≡ Err Memory → ⊥) × (result ≡ Err Spent → ⊥) }
     {
         if self.unsent.write_to(&mut self.stream).is_err() {
             return Err(Lost::Broken);
@@ -158,11 +225,6 @@ impl<S: Read + Write + Drop> Connection<S> {
             return Err(Lost::Stuck);
         }
         Ok(())
-    }
-
-    /// Returns whether all that was written has gone out.
-    pub fn has_sent_all(&self) -> bool {
-        self.unsent.len() == 0
     }
 
     /// Returns whether octets have come over it.

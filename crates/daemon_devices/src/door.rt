@@ -5,23 +5,31 @@ use mio::net::{TcpListener, TcpStream};
 use std::io;
 use std::io::{Read, Write};
 use std::net::{Net, SocketAddr};
+use std::random::RandomSource;
 use std::time::{Duration, Instant};
 
 /// How many seconds the primary waits before it calls again behind a connection that stood.
 const FIRST_PAUSE: u64 = 1;
 
 /// How many seconds it waits behind any other, and behind a call that came to none.
-const LATER_PAUSE: u64 = 10;
+const LATER_PAUSE: u64 = 2;
 
 /// How many seconds a call may last.
 const LONGEST_CALL: u64 = 5;
+
+/// A connection that has come, and 32 octets that the system's generator drew for it alone.
+#[derive(Drop)]
+pub struct Arrival<S: Read + Write + Drop> {
+    pub stream: S,
+    pub nonce: [u8; 32],
+}
 
 /// Where connections with the partner come from.
 pub trait Door: Drop {
     type Stream: Read + Write + Drop;
 
     /// The next connection, where one has come by now. A side that calls begins a call where it is time for one.
-    fn admit(&mut self, now: Instant) -> Option<Self::Stream>;
+    fn admit(&mut self, now: Instant) -> Option<Arrival<Self::Stream>>;
 
     /// Closes another connection, while one stands. Returns whether one had come.
     fn turn_away(&mut self) -> bool;
@@ -39,8 +47,7 @@ struct Call {
 
 /// The primary's way to the secondary: it calls its address.
 #[derive(Drop)]
-pub struct Calling<'a, R: Net> {
-    net: &'a R,
+struct Calling {
     address: SocketAddr,
     call: Option<Call>,
     /// Not before this the next call begins.
@@ -49,20 +56,21 @@ pub struct Calling<'a, R: Net> {
 
 /// The door of a server by the system's sockets.
 #[derive(Drop)]
-pub struct SystemDoor<'a, R: Net> {
+pub struct SystemDoor<'a, R: Net + RandomSource> {
+    system: &'a R,
     watched: Watched,
-    way: Way<'a, R>,
+    way: Way,
 }
 
 /// How connections come.
 #[derive(Drop)]
-enum Way<'a, R: Net> {
+enum Way {
     /// There is no partner.
     None,
     /// The secondary listens.
     Listening(TcpListener),
     /// The primary calls.
-    Calling(Calling<'a, R>),
+    Calling(Calling),
 }
 
 /// How far a call has come.
@@ -93,14 +101,14 @@ fn later(now: Instant, seconds: u64) -> Instant {
     now.checked_add(Duration::from_secs(seconds)).unwrap_or(now)
 }
 
-impl<'a, R: Net> Calling<'a, R> {
+impl Calling {
     /// Begins a call, where it is time for one.
-    fn begin(&mut self, watched: &Watched, now: Instant) {
+    fn begin(&mut self, net: &impl Net, watched: &Watched, now: Instant) {
         if now < self.next {
             return;
         }
         self.next = later(now, LATER_PAUSE);
-        let Ok(mut stream) = TcpStream::connect(self.net, self.address) else {
+        let Ok(mut stream) = TcpStream::connect(net, self.address) else {
             return;
         };
         if watched.add_both(&mut stream).is_ok() {
@@ -109,9 +117,9 @@ impl<'a, R: Net> Calling<'a, R> {
     }
 
     /// The connection that a call came to by now.
-    fn answered(&mut self, watched: &Watched, now: Instant) -> Option<TcpStream> {
+    fn answered(&mut self, net: &impl Net, watched: &Watched, now: Instant) -> Option<TcpStream> {
         let Some(call) = self.call.take() else {
-            self.begin(watched, now);
+            self.begin(net, watched, now);
             return None;
         };
         match looked_at(call, now) {
@@ -135,10 +143,11 @@ fn accepted(listener: &TcpListener, watched: &Watched) -> Option<TcpStream> {
     Some(stream)
 }
 
-impl<'a, R: Net> SystemDoor<'a, R> {
+impl<'a, R: Net + RandomSource> SystemDoor<'a, R> {
     /// No connection comes.
-    pub fn shut(watched: Watched) -> SystemDoor<'a, R> {
+    pub fn shut(system: &'a R, watched: Watched) -> SystemDoor<'a, R> {
         SystemDoor {
+            system,
             watched,
             way: Way::None,
         }
@@ -146,13 +155,14 @@ impl<'a, R: Net> SystemDoor<'a, R> {
 
     /// Listens for the partner at an address.
     pub fn listen(
-        net: &'a R,
+        system: &'a R,
         address: SocketAddr,
         watched: Watched,
     ) -> io::Result<SystemDoor<'a, R>> {
-        let mut listener = TcpListener::bind(net, address)?;
+        let mut listener = TcpListener::bind(system, address)?;
         watched.add_reads(&mut listener)?;
         Ok(SystemDoor {
+            system,
             watched,
             way: Way::Listening(listener),
         })
@@ -160,15 +170,15 @@ impl<'a, R: Net> SystemDoor<'a, R> {
 
     /// Calls the partner at an address, from now on.
     pub fn call(
-        net: &'a R,
+        system: &'a R,
         address: SocketAddr,
         watched: Watched,
         now: Instant,
     ) -> SystemDoor<'a, R> {
         SystemDoor {
+            system,
             watched,
             way: Way::Calling(Calling {
-                net,
                 address,
                 call: None,
                 next: now,
@@ -177,17 +187,19 @@ impl<'a, R: Net> SystemDoor<'a, R> {
     }
 }
 
-impl<R: Net> Door for SystemDoor<'_, R> {
+impl<R: Net + RandomSource> Door for SystemDoor<'_, R> {
     type Stream = TcpStream;
 
-    fn admit(&mut self, now: Instant) -> Option<TcpStream> {
+    fn admit(&mut self, now: Instant) -> Option<Arrival<TcpStream>> {
         let stream = match &mut self.way {
             Way::None => None,
             Way::Listening(listener) => accepted(listener, &self.watched),
-            Way::Calling(calling) => calling.answered(&self.watched, now),
+            Way::Calling(calling) => calling.answered(self.system, &self.watched, now),
         }?;
         stream.set_nodelay(true).ok()?;
-        Some(stream)
+        let mut nonce = [0u8; 32];
+        self.system.fill_bytes(&mut nonce).ok()?;
+        Some(Arrival { stream, nonce })
     }
 
     fn turn_away(&mut self) -> bool {

@@ -5,6 +5,9 @@
 //! sockets. A call gives what has come by now, or nothing. Where a turn of the loop found nothing anywhere, it rests
 //! ([`Rest`]) until a socket has something, or a time is up.
 //!
+//! Of the connections that come by the door nothing counts at first: they wait side by side ([`WaitingRoom`]) until one is
+//! let in (`link_entry`), and has 5 s for that.
+//!
 //! What is written to a stream that takes no more now waits in [`Unsent`], and goes out at a later turn.
 //!
 //! ```text
@@ -23,11 +26,15 @@ mod control;
 mod datagrams;
 mod door;
 mod rest;
+mod room;
+mod seat;
 mod unsent;
 
 pub use connection::{Connection, Got, Lost, QuietSecond};
 pub use control::{Control, ControlSocket};
 pub use datagrams::{Datagrams, UdpDatagrams};
-pub use door::{Door, SystemDoor};
+pub use door::{Arrival, Door, SystemDoor};
 pub use rest::{Readiness, Rest, Watched};
+pub use room::WaitingRoom;
+pub use seat::Leaving;
 pub use unsent::Unsent;

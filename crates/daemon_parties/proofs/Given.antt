@@ -1,19 +1,18 @@
 -- Frames that a connection is given, one behind the other.
 use Rattle.std.specs.Prelude.{◌≡◌, ℕ, List, [], ◌∷◌, ◌++◌, ◌<◌, Option, Result, Ok, Err, length, map}
-use Rattle.std.specs.Io.KnownBytes.{Appends, Keeps}
 use Rattle.std.proofs.Common.{refl, ap, sym, ◌∙◌, subst, append_assoc, append-nil, inl, inr, take, drop, get_or, suc}
 use Rattle.std.proofs.Math.Seq.{take-suc, take-length}
 use Rattle.std.proofs.lemmas.List.{take-append-drop, map-append}
-use Rattle.daemon_devices.specs.Giving.{IsGiven}
+use Rattle.daemon_devices.specs.Giving.{Sent, Gives, Stays, IsGiven}
 use Rattle.daemon_devices.specs.declared.connection.Lost.{Lost}
-use Rattle.daemon_devices.specs.declared.connection.Lost.TheVariants.{Broken, Stuck, Memory}
+use Rattle.daemon_devices.specs.declared.connection.Lost.TheVariants.{Broken, Stuck, Spent, Memory}
 use Rattle.failover_message.specs.Frames.{frame_octets}
 use Rattle.failover_message.specs.declared.frame.Frame.{Frame}
 use Rattle.link_talk.specs.declared.outbox.Handed.{Handed}
 use Rattle.daemon_parties.specs.Saying.{AreGiven, none, more, kept, frames_of, AreFirstGiven, Says}
 use Rattle.daemon_parties.specs.Saying.{IsLastWord, last_word}
 
-pub given_on : (a b c : Option (List ℕ)) (fs gs : List Frame) → AreGiven a fs b → AreGiven b gs c
+pub given_on : (a b c : Sent) (fs gs : List Frame) → AreGiven a fs b → AreGiven b gs c
     → AreGiven a (fs ++ gs) c
 given_on a b _ fs _ h none = subst (λ xs. AreGiven a xs b) (sym (append-nil fs)) h
 given_on a b _ fs _ h (more gs g old new k step) =
@@ -23,8 +22,8 @@ given_on a b _ fs _ h (kept gs old new k step) = kept (fs ++ gs) old new (given_
 
 -- of frames, the one at a place
 module _ (fs : List Handed) (i : ℕ) (h : Handed) (within : i < length fs) (its : h ≡ get_or fs i h)
-    (first old new : Option (List ℕ)) (before : AreGiven first (frames_of (take i fs)) old) where
-  pub one_given : Appends old new (frame_octets h.frame) → AreGiven first (frames_of (take (suc i) fs)) new
+    (first old new : Sent) (before : AreGiven first (frames_of (take i fs)) old) where
+  pub one_given : Gives (frame_octets h.frame) old new → AreGiven first (frames_of (take (suc i) fs)) new
   one_given step =
       subst (λ xs. AreGiven first (frames_of xs) new) (ap (λ g. take i fs ++ g ∷ []) its ∙ sym (take-suc fs i h within))
       (subst (λ ys. AreGiven first ys new) (sym (map-append (λ (x : Handed). x.frame) (take i fs) (h ∷ [])))
@@ -45,10 +44,11 @@ module _ (fs : List Handed) (i : ℕ) (h : Handed) (within : i < length fs) (its
       → AreFirstGiven (frames_of fs) first new over
   one_lost T Broken over is_over step = up_to (suc i) over is_over (one_given step)
   one_lost T Stuck over is_over step = up_to (suc i) over is_over (one_given step)
+  one_lost T Spent over is_over step = up_to i over is_over (kept _ old new before step)
   one_lost T Memory over is_over step = up_to i over is_over (kept _ old new before step)
 
-pub all_given : (fs : List Handed) (i : ℕ) (first old new : Option (List ℕ)) (over : Type 0) → i ≡ length fs
-    → AreGiven first (frames_of (take i fs)) old → Keeps old new → AreFirstGiven (frames_of fs) first new over
+pub all_given : (fs : List Handed) (i : ℕ) (first old new : Sent) (over : Type 0) → i ≡ length fs
+    → AreGiven first (frames_of (take i fs)) old → Stays old new → AreFirstGiven (frames_of fs) first new over
 all_given fs i first old new over end before stays =
     record {
       front = frames_of fs;
@@ -61,18 +61,19 @@ all_given fs i first old new over end before stays =
     }
 
 -- a last word, and a flush behind it
-pub last_word_given : {T : Type 0} (a b c : Option (List ℕ)) (result : Result T Lost)
-    → IsGiven (frame_octets last_word) a b result → Keeps b c
+pub last_word_given : {T : Type 0} (a b c : Sent) (result : Result T Lost)
+    → IsGiven (frame_octets last_word) a b result → Stays b c
     → (words : List Frame) × IsLastWord words × AreGiven a words c
 last_word_given a b c (Ok x) step stays = (last_word ∷ [], inr refl, kept _ b c (more [] last_word a b none step) stays)
 last_word_given a b c (Err Broken) step stays =
     (last_word ∷ [], inr refl, kept _ b c (more [] last_word a b none step) stays)
 last_word_given a b c (Err Stuck) step stays =
     (last_word ∷ [], inr refl, kept _ b c (more [] last_word a b none step) stays)
+last_word_given a b c (Err Spent) step stays = ([], inl refl, kept _ b c (kept _ a b none step) stays)
 last_word_given a b c (Err Memory) step stays = ([], inl refl, kept _ b c (kept _ a b none step) stays)
 
-module _ (frames : List Frame) (a b : Option (List ℕ)) (over : Type 0) (h : AreFirstGiven frames a b over) where
-  pub says_with : (c : Option (List ℕ)) (words : List Frame) → IsLastWord words → AreGiven b words c → Says frames a c
+module _ (frames : List Frame) (a b : Sent) (over : Type 0) (h : AreFirstGiven frames a b over) where
+  pub says_with : (c : Sent) (words : List Frame) → IsLastWord words → AreGiven b words c → Says frames a c
   says_with c words is_last given =
       record {
         front = h.front;

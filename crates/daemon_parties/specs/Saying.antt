@@ -1,27 +1,27 @@
 -- What the partner is told: frames that are given to a connection, each whole, in their order.
 use Rattle.std.specs.Prelude.{◌≡◌, ◌⊎◌, ℕ, List, [], ◌∷◌, ◌++◌, Option, map}
-use Rattle.std.specs.Io.KnownBytes.{Appends, Keeps}
+use Rattle.daemon_devices.specs.Giving.{Sent, Gives, Stays}
 use Rattle.failover_message.specs.Frames.{frame_octets}
 use Rattle.failover_message.specs.declared.frame.Frame.{Frame}
 use Rattle.failover_message.specs.declared.frame.FrameKind.TheVariants.{Disconnect}
 use Rattle.link_talk.specs.declared.outbox.Handed.{Handed}
 
--- A connection is known by the octets that it was given so far, where these are known.
+-- A connection is known by the octets that it was given so far, where these are known, and by how octets go over it.
 
--- frames were given, one after the other
-pub data AreGiven (first : Option (List ℕ)) : List Frame → Option (List ℕ) → Type 0 where
+-- frames were given, one after the other: each as its octets are, or in the records that say them
+pub data AreGiven (first : Sent) : List Frame → Sent → Type 0 where
   none : AreGiven first [] first
-  more : (frames : List Frame) (frame : Frame) (old new : Option (List ℕ))
-      → AreGiven first frames old → Appends old new (frame_octets frame)
+  more : (frames : List Frame) (frame : Frame) (old new : Sent)
+      → AreGiven first frames old → Gives (frame_octets frame) old new
       → AreGiven first (frames ++ frame ∷ []) new
-  kept : (frames : List Frame) (old new : Option (List ℕ))
-      → AreGiven first frames old → Keeps old new → AreGiven first frames new
+  kept : (frames : List Frame) (old new : Sent)
+      → AreGiven first frames old → Stays old new → AreGiven first frames new
 
 abbrev pub frames_of : List Handed → List Frame
 frames_of handed = map (λ (h : Handed). h.frame) handed
 
 -- of these frames the first so many were given: all of them, or the connection is over
-pub record AreFirstGiven (frames : List Frame) (old new : Option (List ℕ)) (is_over : Type 0) : Type 0 where
+pub record AreFirstGiven (frames : List Frame) (old new : Sent) (is_over : Type 0) : Type 0 where
   pub front : List Frame
   pub rest : List Frame
   pub all : frames ≡ front ++ rest
@@ -36,7 +36,7 @@ abbrev pub IsLastWord : List Frame → Type 0
 IsLastWord words = (words ≡ []) ⊎ (words ≡ last_word ∷ [])
 
 -- of these frames the first so many, and then maybe the last word
-pub record Says (frames : List Frame) (old new : Option (List ℕ)) : Type 0 where
+pub record Says (frames : List Frame) (old new : Sent) : Type 0 where
   pub front : List Frame
   pub rest : List Frame
   pub words : List Frame

@@ -18,6 +18,7 @@ mod clocks;
 mod desk;
 mod hearing;
 mod partner;
+mod standing;
 
 pub use clients::Clients;
 pub use clocks::{Clocks, Moment, SystemClocks};

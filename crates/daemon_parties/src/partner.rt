@@ -1,52 +1,25 @@
-//! The connection with the partner, turn by turn.
+//! The partner: the connections that wait, and the one that stands.
 
-ghost use Rattle.std.specs.Prelude.{◌≡◌, ◌≤◌, ℕ, List, Option, Some, length, IfSome};
-ghost use Rattle.daemon_devices.specs.Giving.{IsGiven};
-ghost use Rattle.failover_message.specs.Frames.{frame_octets};
+ghost use Rattle.std.specs.Prelude.{◌≡◌, IfSome};
+ghost use Rattle.daemon_devices.specs.Giving.{Sent};
 ghost use Rattle.daemon_parties.specs.Hearing.{HasSameFiles};
-ghost use Rattle.daemon_parties.specs.Saying.{frames_of, AreGiven, AreFirstGiven, Says, IsLastWord};
-ghost use Rattle.failover_message.specs.declared.frame.Frame.{Frame as FrameValue};
-ghost use Rattle.server_notices.specs.declared.happening.Parting.TheVariants.{Lost as HasLost};
+ghost use Rattle.daemon_parties.specs.Saying.{frames_of, Says};
 
 use crate::clocks::{Clocks, Moment};
 use crate::hearing::HearingError;
-use binding_rules::Counter;
-use daemon_devices::{Connection, Door, Got, Lost, QuietSecond};
-use failover_message::{Frame, FrameKind, encode};
+use crate::standing::{Standing, parting_of};
+use daemon_devices::{Connection, Door, Got, Leaving, WaitingRoom};
 use lead_time::Reading;
-use link_talk::{Came, Handed, Stage, TalkError};
+use link_entry::{EntryFault, Keeper};
+use link_talk::Handed;
 use server_notices::{Happening, Log, Parting};
 use server_run::Running;
 use server_settings::Settings;
 use std::alloc::{AllocError, Global};
-use std::time::Instant;
 use volume_folder::Folder;
 
 /// How many octets are read at once, at most.
 const READ_SIZE: usize = 65_536;
-
-/// How many seconds a connection stands that has stood for a while.
-const A_WHILE: u64 = 10;
-
-/// After how many seconds without an octet a person is told of it: twice what a server lets pass without a line, where
-/// its settings don't say it.
-const LONG_SILENCE: u64 = 120;
-
-/// A connection that stands.
-#[derive(Drop)]
-struct Standing<D: Door> {
-    connection: Connection<D::Stream>,
-    quiet: QuietSecond,
-    begun: Moment,
-    /// When the partner was heard last.
-    heard: Option<Reading>,
-    /// When octets came last, or it was told that none did; before, when it began.
-    listened: Instant,
-    /// Whether the two have joined: each has named what it took last.
-    has_joined: bool,
-    /// Why it is over once all that is held back has gone out.
-    parting: Option<Parting>,
-}
 
 /// The way to the partner.
 #[derive(Drop)]
@@ -54,244 +27,30 @@ pub struct Partner<D: Door> {
     alloc: Global,
     door: D,
     buffer: Vec<u8>,
+    waiting: WaitingRoom<D::Stream>,
     standing: Option<Standing<D>>,
 }
 
-/// What came over a connection. Where nothing did, a second of it is told as nothing, and less than that as no octets
-/// yet.
-fn came<'a>(got: Got, buffer: &'a [u8], quiet: &mut QuietSecond, now: &Moment) -> Came<'a>
-    requires { (count : ℕ) → got ≡ Got.Octets count → count ≤ length buffer.now }
-{
-    match got {
-        Got::Octets(count) => {
-            quiet.begin(now.instant);
-            Came::Octets(&buffer[..count])
-        }
-        Got::Nothing => {
-            if quiet.is_full(now.instant) {
-                Came::Nothing
-            } else {
-                Came::Octets(&[])
-            }
-        }
-        Got::End => Came::End,
-    }
-}
-
-/// What a server says last.
-const DISCONNECT: Frame = Frame {
-    term: 0,
-    serial: Counter::ZERO,
-    kind: FrameKind::Disconnect,
-};
-
-/// Why a connection is over by the stage of its talk, if it is.
-fn parting_at(stage: Stage) -> Option<Parting> {
-    match stage {
-        Stage::Greeting | Stage::Joined { .. } => None,
-        Stage::Refused => Some(Parting::Refused),
-        Stage::Ended { .. } => Some(Parting::PartnerLeft),
-    }
-}
-
-/// Why the talk of a connection is over by an error of it.
-fn parting_of(error: TalkError) -> Parting {
-    match error {
-        TalkError::Frame => Parting::Refused,
-        TalkError::Serve(refusal) => Parting::Book(refusal),
-        TalkError::Memory => Parting::Memory,
-    }
-}
-
-/// Returns whether a server can tell its partner all that it lacks.
-fn can_tell<F: Folder + Drop, P: Drop>(running: &Running<F, P>, stage: &Stage) -> bool
-where
-    F::File: Drop,
-{
-    match stage {
-        Stage::Joined { last } => running.has_all_above(*last),
-        Stage::Greeting | Stage::Refused | Stage::Ended { .. } => true,
-    }
-}
-
-impl<D: Door> Standing<D> {
-    /// A connection that begins now.
-    fn new(alloc: Global, stream: D::Stream, now: &Moment) -> Standing<D> {
-        Standing {
-            connection: Connection::new(alloc, stream, now.instant),
-            quiet: QuietSecond::new(now.instant),
-            begun: *now,
-            heard: None,
-            listened: now.instant,
-            has_joined: false,
-            parting: None,
-        }
-    }
-
-    /// Reads what has come, and does what follows from it. The clock is read behind that: a line that takes a message
-    /// mustn't be older than the message. Returns whether octets came.
-    fn hear<F: Folder + Drop, P: Drop, C: Clocks>(
-        &mut self,
-        running: &mut Running<F, P>,
-        settings: &Settings,
-        buffer: &mut [u8],
-        begun: Instant,
-        clocks: &C,
-    ) -> Result<bool, HearingError>
-    where
-        F::File: Drop,
-        ensures files { HasSameFiles running.old running.new }
-    {
-        let got = self.connection.read(buffer, begun);
-        let Some(now) = clocks.now() else {
-            return Err(HearingError::Clock);
-        };
-        let came = came(got, buffer, &mut self.quiet, &now);
-        match running.heed(settings, now.reading, &came) {
-            Ok(()) => self.look_at_stage(running),
-            Err(error) => self.parting = Some(parting_of(error)),
-        }
-        match got {
-            Got::Octets(_) => {
-                self.heard = Some(now.reading);
-                self.listened = now.instant;
-                Ok(true)
-            }
-            Got::Nothing => Ok(false),
-            Got::End => {
-                self.parting = Some(Parting::Lost);
-                Ok(true)
-            }
-        }
-    }
-
-    /// Parts with a partner that lacks messages which this server can't tell again: nothing is said to it.
-    fn look_at_stage<F: Folder + Drop, P: Drop>(&mut self, running: &mut Running<F, P>)
-    where
-        F::File: Drop,
-        ensures files { HasSameFiles running.old running.new }
-    {
-        let stage = running.stage();
-        if let Some(stage) = &stage {
-            if !can_tell(running, stage) {
-                running.part();
-                self.parting = Some(Parting::Lacks);
-            }
-        }
-    }
-
-    /// Gives the connection frames, in their order: all of them, or it is over.
-    fn write(&mut self, alloc: Global, frames: &[Handed])
-        ensures { AreFirstGiven (frames_of frames.now) self.old.connection.given
-            self.new.connection.given (self.new.parting ≡ Some HasLost) }
-    {
-        for handed in frames {
-            match self.write_frame(alloc, &handed.frame) {
-                Ok(()) => {}
-                Err(_) => {
-                    self.parting = Some(Parting::Lost);
-                    return;
-                }
-            }
-        }
-        if self.connection.flush().is_err() {
-            self.parting = Some(Parting::Lost);
-        }
-    }
-
-    /// Gives the connection a frame.
-    fn write_frame(&mut self, alloc: Global, frame: &Frame) -> Result<(), Lost>
-        ensures given { IsGiven (frame_octets frame.now) self.old.connection.given self.new.connection.given result }
-    {
-        match encode(alloc, frame) {
-            Ok(octets) => self.connection.write(octets.as_slice()),
-            Err(_) => Err(Lost::Memory),
-        }
-    }
-
-    /// Tells that the two have joined, once they have.
-    fn tell_joined<L: Print>(&mut self, stage: Option<Stage>, log: &Log<'_, L>) {
-        if !self.has_joined && matches!(stage, Some(Stage::Joined { .. })) {
-            self.has_joined = true;
-            log.tell(&Happening::Met);
-        }
-    }
-
-    /// Tells why it is over: each time of one that had joined, and of others as of what may happen often.
-    fn tell_parting<L: Print>(&self, parting: Parting, now: &Moment, log: &mut Log<'_, L>) {
-        let happening = Happening::Parted(parting);
-        if self.has_joined {
-            log.tell(&happening);
-        } else {
-            log.tell_often(&happening, now.reading);
-        }
-    }
-
-    /// Tells that nothing came over it for long, once for each time that it is so long.
-    fn tell_silence<L: Print>(&mut self, now: &Moment, log: &mut Log<'_, L>) {
-        if now.instant.duration_since(self.listened).as_secs() >= LONG_SILENCE {
-            self.listened = now.instant;
-            log.tell_often(&Happening::PartnerSilent, now.reading);
-        }
-    }
-
-    /// Says the frames that were held back, and DISCONNECT where this server begins its next volume.
-    fn say(&mut self, alloc: Global, frames: &[Handed])
-        ensures { Says (frames_of frames.now) self.old.connection.given self.new.connection.given }
-    {
-        self.write(alloc, frames);
-        if matches!(self.parting, Some(Parting::Rolled)) {
-            self.say_goodbye(alloc);
-        }
-    }
-
-    /// Says DISCONNECT.
-    fn say_goodbye(&mut self, alloc: Global)
-        ensures { (words : List FrameValue) × IsLastWord words
-            × AreGiven self.old.connection.given words self.new.connection.given }
-    {
-        let _ = self.write_frame(alloc, &DISCONNECT);
-        let _ = self.connection.flush();
-    }
-
-    /// Gives it up where nothing came over it for too long, the shorter where another has come.
-    fn give_up(&mut self, has_other: bool, now: &Moment) {
-        if self.parting.is_none() && self.connection.is_given_up(now.instant, has_other) {
-            self.parting = Some(Parting::Silent);
-        }
-    }
-
-    /// Why it is over, if it is, by the stage of its talk too.
-    fn parting_at(&self, stage: Option<Stage>) -> Option<Parting> {
-        match self.parting {
-            Some(parting) => Some(parting),
-            None => parting_at(stage?),
-        }
-    }
-
-    /// Returns whether the next one may begin soon: where one of the two began its next volume or stopped, or where
-    /// this one stood for a while.
-    fn is_followed_soon(&self, parting: &Parting, now: &Moment) -> bool {
-        match parting {
-            Parting::Rolled | Parting::PartnerLeft => true,
-            _ => self.has_stood(now),
-        }
-    }
-
-    /// Returns whether it stood for a while.
-    fn has_stood(&self, now: &Moment) -> bool {
-        self.connection.has_heard()
-            && now.instant.duration_since(self.begun.instant).as_secs() >= A_WHILE
+/// What a person is told of one that waited and wasn't let in.
+fn happening_of(leaving: &Leaving) -> Happening {
+    match leaving {
+        Leaving::Refused(EntryFault::Forged) => Happening::Parted(Parting::Forged),
+        Leaving::Refused(EntryFault::Stranger) => Happening::Parted(Parting::Stranger),
+        Leaving::Refused(EntryFault::Memory) => Happening::Parted(Parting::Memory),
+        Leaving::Late => Happening::Parted(Parting::Unproved),
+        Leaving::Lost => Happening::Parted(Parting::LostUnproved),
+        Leaving::PutOut => Happening::TurnedAway,
     }
 }
 
 impl<D: Door> Partner<D> {
-    /// A partner who comes by a door. An error where a growth was refused.
-    pub fn new(alloc: Global, door: D) -> Result<Partner<D>, AllocError> {
+    /// A partner who comes by a door, and is let in by a keeper. An error where a growth was refused.
+    pub fn new(alloc: Global, door: D, keeper: Keeper) -> Result<Partner<D>, AllocError> {
         Ok(Partner {
             alloc,
             door,
             buffer: vec![in alloc; 0u8; READ_SIZE]?,
+            waiting: WaitingRoom::new(alloc, keeper),
             standing: None,
         })
     }
@@ -306,29 +65,111 @@ impl<D: Door> Partner<D> {
         self.standing.as_ref()?.heard
     }
 
-    /// Admits the partner, where it has come: the talk begins.
-    fn meet<F: Folder + Drop, P: Drop>(
+    /// Gives connections that have come a seat, as far as there is room. Where there is none the next is closed, and that
+    /// is told: returns whether one was.
+    fn attend_door<L: Print>(&mut self, now: &Moment, log: &mut Log<'_, L>) -> bool {
+        let stands = self.standing.is_some();
+        if !self.waiting.has_room(stands) {
+            return self.turn_away(now, log);
+        }
+        for _place in 0..self.waiting.places() {
+            if !self.waiting.has_room(stands) {
+                return false;
+            }
+            match self.door.admit(now.instant) {
+                Some(arrival) => self.waiting.seat(arrival, now.instant),
+                None => return false,
+            }
+        }
+        false
+    }
+
+    /// Closes a connection that has come, and tells it. Returns whether one had.
+    fn turn_away<L: Print>(&mut self, now: &Moment, log: &mut Log<'_, L>) -> bool {
+        let has_other = self.door.turn_away();
+        if has_other {
+            log.tell_often(&Happening::TurnedAway, now.reading);
+        }
+        has_other
+    }
+
+    /// Goes on with those that wait, and tells why others left. Gives the one that is let in now.
+    fn let_in<L: Print>(
+        &mut self,
+        now: &Moment,
+        log: &mut Log<'_, L>,
+    ) -> Option<Connection<D::Stream>> {
+        let entered = self.waiting.go_on(&mut self.buffer, now.instant);
+        for leaving in self.waiting.left().as_slice() {
+            log.tell_often(&happening_of(leaving), now.reading);
+            self.door.rest_after(false, now.instant);
+        }
+        entered
+    }
+
+    /// Parts with the connection that stands, where there is one: the partner has another.
+    fn replace<F: Folder + Drop, P: Drop, L: Print>(
         &mut self,
         running: &mut Running<F, P>,
-        settings: &Settings,
         now: &Moment,
-    ) -> bool
+        log: &mut Log<'_, L>,
+    )
     where
         F::File: Drop,
         ensures files { HasSameFiles running.old running.new }
     {
-        let Some(stream) = self.door.admit(now.instant) else {
-            return false;
-        };
-        let mut standing = Standing::new(self.alloc, stream, now);
+        if let Some(standing) = self.standing.take() {
+            standing.tell_parting(Parting::Replaced, now, log);
+            running.part();
+        }
+    }
+
+    /// Begins the talk over the connection of who was let in.
+    fn meet<F: Folder + Drop, P: Drop>(
+        &mut self,
+        running: &mut Running<F, P>,
+        settings: &Settings,
+        connection: Connection<D::Stream>,
+        now: &Moment,
+    )
+    where
+        F::File: Drop,
+        ensures files { HasSameFiles running.old running.new }
+    {
+        let mut standing = Standing::new(connection, now);
         if let Err(error) = running.meet(settings) {
             standing.parting = Some(parting_of(error));
         }
         self.standing = Some(standing);
-        true
     }
 
-    /// Hears the partner: over the connection that stands, or by one that has come. Returns whether anything came.
+    /// Hears the partner over the connection that stands, where there is one. Returns whether anything came.
+    fn hear_standing<F: Folder + Drop, P: Drop, C: Clocks, L: Print>(
+        &mut self,
+        running: &mut Running<F, P>,
+        settings: &Settings,
+        has_other: bool,
+        now: &Moment,
+        clocks: &C,
+        log: &mut Log<'_, L>,
+    ) -> Result<bool, HearingError>
+    where
+        F::File: Drop,
+        ensures files { HasSameFiles running.old running.new }
+    {
+        let Some(mut standing) = self.standing.take() else {
+            return Ok(false);
+        };
+        let has_come = standing.hear(running, settings, &mut self.buffer, now.instant, clocks)?;
+        standing.tell_joined(running.stage(), log);
+        standing.tell_silence(now, log);
+        standing.give_up(has_other, now);
+        self.standing = Some(standing);
+        Ok(has_come)
+    }
+
+    /// Hears the partner: over the connection that stands, or by one that waited and is let in. Returns whether anything
+    /// came.
     pub fn hear<F: Folder + Drop, P: Drop, C: Clocks, L: Print>(
         &mut self,
         running: &mut Running<F, P>,
@@ -341,19 +182,14 @@ impl<D: Door> Partner<D> {
         F::File: Drop,
         ensures files { HasSameFiles running.old running.new }
     {
-        let Some(mut standing) = self.standing.take() else {
-            return Ok(self.meet(running, settings, now));
-        };
-        let has_other = self.door.turn_away();
-        if has_other {
-            log.tell_often(&Happening::TurnedAway, now.reading);
+        if let Some(connection) = self.let_in(now, log) {
+            self.replace(running, now, log);
+            self.meet(running, settings, connection, now);
+            return Ok(true);
         }
-        let has_come = standing.hear(running, settings, &mut self.buffer, now.instant, clocks)?;
-        standing.tell_joined(running.stage(), log);
-        standing.tell_silence(now, log);
-        standing.give_up(has_other, now);
-        self.standing = Some(standing);
-        Ok(has_come)
+        let has_other = self.attend_door(now, log);
+        let has_come = self.hear_standing(running, settings, has_other, now, clocks, log)?;
+        Ok(self.waiting.has_come() || has_come)
     }
 
     /// Says the frames that were held back, and ends the connection where it is over.
@@ -367,9 +203,9 @@ impl<D: Door> Partner<D> {
     where
         F::File: Drop,
         ensures files { HasSameFiles running.old running.new }
-        ensures said { IfSome self.old.standing (λ s. (last : Option (List ℕ))
-            × Says (frames_of frames.now) s.connection.given last
-            × IfSome self.new.standing (λ t. t.connection.given ≡ last)) }
+        ensures said { IfSome self.old.standing (λ s. (last : Sent)
+            × Says (frames_of frames.now) s.connection.sent last
+            × IfSome self.new.standing (λ t. t.connection.sent ≡ last)) }
     {
         let Some(mut standing) = self.standing.take() else {
             return;
@@ -410,6 +246,9 @@ impl<D: Door> Partner<D> {
             return false;
         };
         let _ = standing.connection.flush();
-        standing.connection.read(&mut self.buffer, now.instant) != Got::End
+        !matches!(
+            standing.connection.read(&mut self.buffer, now.instant),
+            Got::End | Got::Forged
+        )
     }
 }

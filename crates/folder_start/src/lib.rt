@@ -2,7 +2,8 @@
 //!
 //! [`start`] reads the last files of a folder, and goes on with what they lead to (`folder_recovery`), if a server of
 //! these settings may (`server_start`): with a first volume, the last one, or the one that follows it. Of the volumes
-//! before, it reads the messages that the partner may lack.
+//! before, it reads the messages that the partner may lack. [`start_from`] is the part behind the reading: whatever a
+//! loss of power left of a server's volumes, the server starts with these (specs/Keeping).
 //!
 //! ```text
 //! let count = volumes.count();
@@ -16,4 +17,4 @@ mod reached;
 mod starting;
 
 pub use failing::{NotRolled, StartFailure};
-pub use starting::{Began, Pairing, Started, VolumeFiles, start};
+pub use starting::{Began, Pairing, Started, VolumeFiles, start, start_from};

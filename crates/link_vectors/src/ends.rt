@@ -5,7 +5,7 @@ use std::alloc::Global;
 use std::test::Fail;
 
 /// 32 octets, from 0 on.
-const KEY: &[u8] = b"000102030405060708090a0b0c0d0e0f101112131415161718191a1b1c1d1e1f\n";
+pub(crate) const KEY: &[u8] = b"000102030405060708090a0b0c0d0e0f101112131415161718191a1b1c1d1e1f\n";
 
 /// What the end that calls draws.
 pub(crate) const CALLER: [u8; 32] = [1; 32];

@@ -6,6 +6,8 @@ mod codes;
 #[cfg(test)]
 mod ends;
 #[cfg(test)]
+mod entries;
+#[cfg(test)]
 mod keys;
 #[cfg(test)]
 mod strangers;

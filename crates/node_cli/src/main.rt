@@ -9,6 +9,7 @@ ghost use Rattle.std.specs.Prelude.{◌<◌, ◌^◌, length, IsErrOf};
 mod advising;
 mod asking;
 mod fault;
+mod link_key;
 mod serving;
 
 use advising::advise;
@@ -24,6 +25,7 @@ use std::fs::Files;
 use std::io::{Read, Write};
 use std::net::Net;
 use std::process::ExitCode;
+use std::random::RandomSource;
 use std::sync::Wait;
 use std::thread::Threads;
 use std::time::Clock;
@@ -161,7 +163,7 @@ where
 }
 
 /// Does what the words of the command line ask, and gives the status.
-fn answered<R: Threads + Wait + Sync + Files + Net + Clock>(
+fn answered<R: Threads + Wait + Sync + Files + Net + RandomSource + Clock>(
     rt: &HostRuntime,
     handles: &R,
 ) -> Result<u8, Fault>

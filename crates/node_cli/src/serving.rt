@@ -3,20 +3,27 @@
 use crate::MOST_OCTETS;
 use crate::advising::advise;
 use crate::fault::Fault;
+use crate::link_key::{KeyRefusal, key_in};
+use link_records::LinkKey;
 use node_daemon::{ServeFailure, serve};
 use node_words::Served;
-use serve_settings::{ServeSettings, ServeSettingsError};
-use std::alloc::Global;
+use serve_settings::{LinkProtection, ServeSettings, ServeSettingsError};
+use std::alloc::{AllocError, Global};
 use std::fs::{File, Files};
 use std::io;
 use std::io::Read;
 use std::net::Net;
-use std::path::Path;
+use std::path::{Path, PathBuf};
+use std::random::RandomSource;
 use std::sync::Wait;
 use std::time::Clock;
 
 /// The settings' file of a directory.
 const SETTINGS: &str = "settings.toml";
+
+/// The settings are refused, which was said.
+#[derive(Drop)]
+struct Refused;
 
 /// What the file of this name holds, as far as settings go.
 fn content_of(rt: &HostRuntime, alloc: Global, path: Path<'_>) -> io::Result<Vec<u8>> {
@@ -26,14 +33,11 @@ fn content_of(rt: &HostRuntime, alloc: Global, path: Path<'_>) -> io::Result<Vec
     Ok(text)
 }
 
-/// The text of the settings: of the file that is named, or of the directory's own.
-fn text_of(rt: &HostRuntime, alloc: Global, served: &Served) -> io::Result<Vec<u8>> {
+/// The path of the settings: the file that is named, or the directory's own.
+fn path_of(alloc: Global, served: &Served) -> Result<PathBuf, AllocError> {
     match &served.settings {
-        Some(file) => content_of(rt, alloc, Path::new(file.as_str())),
-        None => {
-            let path = Path::new(served.directory.as_str()).join(alloc, SETTINGS)?;
-            content_of(rt, alloc, path.as_path())
-        }
+        Some(file) => Path::new(file.as_str()).to_path_buf(alloc),
+        None => Path::new(served.directory.as_str()).join(alloc, SETTINGS),
     }
 }
 
@@ -55,6 +59,30 @@ fn settings_in(rt: &HostRuntime, alloc: Global, text: &[u8]) -> Option<ServeSett
     }
 }
 
+/// The key of the link, where the settings, which stand at a path, name a file for it. Why there is none is said on
+/// standard error.
+fn key_of(
+    rt: &HostRuntime,
+    alloc: Global,
+    path: Path<'_>,
+    protection: &Option<LinkProtection>,
+) -> Result<Option<LinkKey>, Refused> {
+    let Some(LinkProtection::KeyFile(file)) = protection else {
+        return Ok(None);
+    };
+    let found = match path.with_file_name(alloc, file.as_str()) {
+        Ok(beside) => key_in(rt, alloc, beside.as_path()),
+        Err(_) => Err(KeyRefusal::Memory),
+    };
+    match found {
+        Ok(key) => Ok(Some(key)),
+        Err(error) => {
+            let _ = eprintln!(rt; "<3>node: link_key: {file}: {error}");
+            Err(Refused)
+        }
+    }
+}
+
 /// The status by which a daemon ends that failed: 1 where it was refused to start, 3 where the disk failed while it
 /// served, and 2 for any other fault.
 fn status_of(failure: &ServeFailure) -> u8 {
@@ -67,13 +95,14 @@ fn status_of(failure: &ServeFailure) -> u8 {
 
 /// Serves a directory until a person says to stop. Gives the status: 0 then, 1 where the settings or the journal are
 /// refused, 3 where the disk failed; what was wrong is said on standard error.
-pub fn serve_directory<R: Wait + Files + Net + Clock>(
+pub fn serve_directory<R: Wait + Files + Net + RandomSource + Clock>(
     rt: &HostRuntime,
     handles: &R,
     served: &Served,
 ) -> Result<u8, Fault> {
     let alloc = rt.alloc();
-    let text = match text_of(rt, alloc, served) {
+    let path = path_of(alloc, served)?;
+    let text = match content_of(rt, alloc, path.as_path()) {
         Ok(text) => text,
         Err(error) => {
             let _ = eprintln!(rt; "<3>node: the settings can't be read: {error}");
@@ -83,11 +112,15 @@ pub fn serve_directory<R: Wait + Files + Net + Clock>(
     let Some(settings) = settings_in(rt, alloc, &text) else {
         return Ok(1);
     };
+    let Ok(key) = key_of(rt, alloc, path.as_path(), &settings.protection) else {
+        return Ok(1);
+    };
     match serve(
         rt,
         handles,
         served.directory.as_str(),
         &settings,
+        key,
         &rt.stderr(),
     ) {
         Ok(()) => Ok(0),

@@ -1,43 +1,13 @@
 -- What a daemon does to a server and its clients, turn after turn.
-use Rattle.std.specs.Prelude.{◌≡◌, ◌⊎◌, ℕ, ◌+◌, List, []}
-use Rattle.std.specs.List.{AllByRecursion}
-use Rattle.journal_file.specs.Later.{LeavesFirst}
-use Rattle.open_volume.specs.Spelling.{text_lines}
-use Rattle.book_volumes.specs.Volumes.{going_on, HasVolume}
-use Rattle.locked_book.specs.declared.receipt.Receipt.{Receipt}
-use Rattle.served_book.specs.Served.{receipts_in}
+use Rattle.std.specs.Prelude.{◌≡◌, ◌⊎◌, ℕ, List}
 use Rattle.server_run.specs.declared.leaving.HeldAnswer.{HeldAnswer}
-use Rattle.server_run.specs.Live.{LiveState}
-use Rattle.server_run.specs.Rolling.{IsFollowed, Closes}
-use Rattle.server_run.specs.Owing.{IsOwed}
 use Rattle.server_run.specs.Running.{RunState}
+use Rattle.server_laws.specs.Settling.{IsRolled, IsSettled}
 use Rattle.daemon_parties.specs.Hearing.{MayHear, HasSameFiles}
 use Rattle.daemon_parties.specs.Telling.{AllLeave}
 
 -- Listens and Sends say of a way to those who send datagrams, before and behind a call, that one may have come, and
 -- what was sent
-
--- The book was closed, and the next one begun behind it; what is held back is the same.
-pub record IsRolled {P : Type 0} (old new : RunState P) : Type 0 where
-  pub now : ℕ
-  pub closed : LiveState
-  pub line : Receipt
-  pub closes : Closes old.volume closed now line
-  pub follows : IsFollowed closed now new.volume
-  pub own : new.own ≡ old.own
-  pub held : new.held ≡ old.held
-
--- All lines of the book are in its file and on the disk; meanwhile a loss of power left the first so many of them, and
--- no fewer than before. These answers are what was held back: each tells a client's message what receipts of that book
--- say.
-pub record IsSettled {P : Type 0} (old : RunState P) (answers : List (HeldAnswer P)) (new : RunState P) : Type 0 where
-  pub volume : HasVolume new.volume.calls (going_on new.volume.served.journal)
-  pub served : new.volume.served ≡ old.volume.served
-  pub all : answers ≡ old.held
-  pub none : new.held ≡ []
-  pub owed : AllByRecursion (λ (h : HeldAnswer P). IsOwed old.own (receipts_in old.volume.served) h.answer) answers
-  pub any_moment : LeavesFirst (text_lines (going_on old.volume.served.journal)) (old.volume.kept + 1)
-      old.volume.calls new.volume.calls
 
 -- the next volume was begun, or none was
 abbrev pub MayRoll : {P : Type 0} → RunState P → RunState P → Type 0

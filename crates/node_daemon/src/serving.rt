@@ -10,6 +10,8 @@ use binding_rules::Role;
 use daemon_devices::{ControlSocket, Readiness, SystemDoor, UdpDatagrams, Watched};
 use daemon_parties::{Clients, Clocks, Desk, HearingError, Moment, Partner, SystemClocks};
 use folder_start::{Began, Pairing, StartFailure, Started, start};
+use link_entry::Keeper;
+use link_records::{LinkKey, Side};
 use real_files::{FolderError, RealFolder, RealVolumes};
 use serve_settings::ServeSettings;
 use server_notices::{Happening, Log, Watch};
@@ -21,6 +23,7 @@ use std::fs::Files;
 use std::io;
 use std::net::{Net, SocketAddr};
 use std::path::Path;
+use std::random::RandomSource;
 use std::sync::Wait;
 use std::time::Clock as Handle;
 use thiserror::Error;
@@ -64,7 +67,7 @@ pub enum ServeFailure {
 
 /// What a daemon hears and tells by.
 #[derive(Drop)]
-struct Sockets<'a, R: Net> {
+struct Sockets<'a, R: Net + RandomSource> {
     datagrams: UdpDatagrams,
     door: SystemDoor<'a, R>,
     control: ControlSocket,
@@ -91,8 +94,8 @@ fn moment<R: Handle>(clocks: &SystemClocks<'_, R>) -> Result<Moment, ServeFailur
 }
 
 /// The door by which the partner comes, by a server's role; shut where it has none.
-fn door_of<'a, R: Net, L: Print>(
-    net: &'a R,
+fn door_of<'a, R: Net + RandomSource, L: Print>(
+    system: &'a R,
     role: Role,
     link: Option<SocketAddr>,
     watched: Watched,
@@ -101,14 +104,14 @@ fn door_of<'a, R: Net, L: Print>(
 ) -> Result<SystemDoor<'a, R>, ServeFailure> {
     let Some(address) = link else {
         log.tell(&Happening::IsAlone);
-        return Ok(SystemDoor::shut(watched));
+        return Ok(SystemDoor::shut(system, watched));
     };
     match role {
         Role::Primary => {
             log.tell(&Happening::Calls(address));
-            Ok(SystemDoor::call(net, address, watched, now.instant))
+            Ok(SystemDoor::call(system, address, watched, now.instant))
         }
-        Role::Secondary => match SystemDoor::listen(net, address, watched) {
+        Role::Secondary => match SystemDoor::listen(system, address, watched) {
             Ok(door) => {
                 log.tell(&Happening::ListensForPartner(address));
                 Ok(door)
@@ -151,7 +154,7 @@ fn control_of<R: Files + Net>(
 }
 
 /// Opens the sockets of a daemon.
-fn open_sockets<'a, R: Files + Net, L: Print>(
+fn open_sockets<'a, R: Files + Net + RandomSource, L: Print>(
     rt: &'a R,
     alloc: Global,
     directory: &str,
@@ -227,11 +230,21 @@ fn tell_start<L: Print>(log: &Log<'_, L>, started: &Started<RealVolumes, SocketA
     });
 }
 
+/// How a server lets its partner in: the primary calls, and the secondary is called.
+fn keeper_of(role: Role, key: Option<LinkKey>) -> Keeper {
+    let side = match role {
+        Role::Primary => Side::Caller,
+        Role::Secondary => Side::Called,
+    };
+    Keeper { side, key }
+}
+
 /// The daemon of settings and sockets, for a server whose volume begins with so many head lines.
-fn daemon_of<'a, R: Net + Handle, L: Print>(
+fn daemon_of<'a, R: Net + RandomSource + Handle, L: Print>(
     rt: &'a R,
     alloc: Global,
     settings: &'a ServeSettings,
+    key: Option<LinkKey>,
     sockets: Sockets<'a, R>,
     head_lines: usize,
     log: Log<'a, L>,
@@ -242,7 +255,7 @@ fn daemon_of<'a, R: Net + Handle, L: Print>(
         settings: server,
         upkeep: settings.upkeep,
         clients: Clients::new(alloc, sockets.datagrams, server.transit())?,
-        partner: Partner::new(alloc, sockets.door)?,
+        partner: Partner::new(alloc, sockets.door, keeper_of(server.role(), key))?,
         desk: Desk::new(alloc, sockets.control),
         clocks: SystemClocks::new(rt),
         rest: sockets.rest,
@@ -257,13 +270,15 @@ fn daemon_of<'a, R: Net + Handle, L: Print>(
     })
 }
 
-/// Serves a directory by settings until a person tells it to stop. What happens meanwhile is told in notes, a line
-/// each. The refusals are those of [`ServeFailure`]. Both handles are of one runtime.
-pub fn serve<R: Wait + Files + Net + Handle, L: Print>(
+/// Serves a directory by settings until a person tells it to stop. Where there is a key of the link, nobody is taken for
+/// the partner who hasn't it. What happens meanwhile is told in notes, a line each. The refusals are those of
+/// [`ServeFailure`]. Both handles are of one runtime.
+pub fn serve<R: Wait + Files + Net + RandomSource + Handle, L: Print>(
     rt: &HostRuntime,
     handles: &R,
     directory: &str,
     settings: &ServeSettings,
+    key: Option<LinkKey>,
     notes: &L,
 ) -> Result<(), ServeFailure> {
     let server = &settings.node.server;
@@ -280,9 +295,12 @@ pub fn serve<R: Wait + Files + Net + Handle, L: Print>(
         &now,
     )?;
     tell_start(&log, &started);
+    if settings.node.ways.link.is_some() && key.is_none() {
+        log.tell(&Happening::HasNoKey);
+    }
     let Started { running, .. } = started;
     let head_lines = head_lines_of(running.book());
-    let Ok(mut daemon) = daemon_of(handles, alloc, settings, sockets, head_lines, log) else {
+    let Ok(mut daemon) = daemon_of(handles, alloc, settings, key, sockets, head_lines, log) else {
         return Err(ServeFailure::Ended(DaemonError::Memory));
     };
     match daemon.run(handles, running) {

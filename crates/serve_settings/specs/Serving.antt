@@ -1,17 +1,19 @@
 -- What a server that goes on for years runs by, of the members of a TOML document.
 use Rattle.std.specs.Prelude.{◌≡◌, ◌&&◌, ⊤, ℕ, ℤ, pos, negsuc, Bool, true, false, nat_le, List, codes, Option, Some, None}
-use Rattle.std.specs.Prelude.{if◌then◌else◌, IsSome, ◌⊎◌}
-use Rattle.toml.specs.Data.{Data, Members, get_member, as_integer, as_bool}
+use Rattle.std.specs.Prelude.{if◌then◌else◌, IsSome, ◌⊎◌, ◌≢◌, [], string_bytes}
+use Rattle.toml.specs.Data.{Data, Members, get_member, as_integer, as_bool, as_str}
 use Rattle.text_fields.specs.Parsing.{◌>>=◌}
 use Rattle.book_state.specs.Places.{AreDisjoint}
 use Rattle.server_settings.specs.Settings.{ServerSettings, AreWithin}
 use Rattle.settings_text.specs.Document.{IsDocument, named_in}
 use Rattle.server_upkeep.specs.Upkeep.{Limits}
 use Rattle.server_settings.specs.declared.error.OpenError.{OpenError}
-use Rattle.server_settings.specs.declared.error.OpenError.TheVariants.{Overlap}
+use Rattle.server_settings.specs.declared.error.OpenError.TheVariants.{Overlap, Memory as NoMemory}
 use Rattle.serve_settings.specs.declared.error.ServeSettingsError.{ServeSettingsError}
 use Rattle.serve_settings.specs.declared.error.ServeSettingsError.TheVariants.{Node, Heartbeat, VolumeLines, VolumeHours}
-use Rattle.serve_settings.specs.declared.error.ServeSettingsError.TheVariants.{Alone, NoPartner, PartnerOfAlone}
+use Rattle.serve_settings.specs.declared.error.ServeSettingsError.TheVariants.{Alone, NoPartner, PartnerOfAlone, NoLinkKey, LinkKey}
+use Rattle.serve_settings.specs.declared.protection.LinkProtection.{LinkProtection}
+use Rattle.serve_settings.specs.declared.protection.LinkProtection.TheVariants.{KeyFile, OtherLayer}
 
 -- ---- numbers
 
@@ -79,13 +81,48 @@ IsPartnerFault m NoPartner = (alone_in m ≡ Some false) × (link_in m ≡ None)
 IsPartnerFault m PartnerOfAlone = (alone_in m ≡ Some true) × IsSome (link_in m)
 IsPartnerFault m _ = ⊥
 
+-- ---- the link's key
+
+abbrev pub link_key_in : Members → Option Data
+link_key_in members = get_member (codes "link_key") members
+
+-- a value is a word that says what protects the link, or none is
+abbrev pub IsWord : Data → List ℕ → Type 0
+IsWord value word = (as_str value ≡ Some word) × (word ≢ [])
+
+abbrev pub IsNoWord : Data → ServeSettingsError → Type 0
+IsNoWord value LinkKey = (as_str value ≡ None) ⊎ (as_str value ≡ Some [])
+IsNoWord value _ = ⊥
+
+-- what a word says protects it: "none", or the name of a file
+abbrev pub Says : List ℕ → LinkProtection → Type 0
+Says word OtherLayer = word ≡ codes "none"
+Says word (KeyFile file) = (word ≢ codes "none") × (string_bytes file ≡ word)
+
+abbrev pub IsProtection : Members → LinkProtection → Type 0
+IsProtection members protection = (value : Data) × (word : List ℕ)
+    × (link_key_in members ≡ Some value) × IsWord value word × Says word protection
+
+abbrev pub IsKeyFault : Members → ServeSettingsError → Type 0
+IsKeyFault m NoLinkKey = link_key_in m ≡ None
+IsKeyFault m LinkKey = (value : Data) × (link_key_in m ≡ Some value) × IsNoWord value LinkKey
+IsKeyFault m (Node NoMemory) = ⊤
+IsKeyFault m _ = ⊥
+
+-- of a server that has a partner something protects the link
+abbrev pub IsProtected : Members → Option LinkProtection → Type 0
+IsProtected members None = alone_in members ≡ Some true
+IsProtected members (Some protection) = (alone_in members ≡ Some false) × IsProtection members protection
+
 -- ---- the document
 
 -- a server runs by what a document says
-pub record IsServed (members : Members) (server : ServerSettings) (upkeep : Limits) : Type 0 where
+pub record IsServed (members : Members) (server : ServerSettings) (upkeep : Limits)
+    (protection : Option LinkProtection) : Type 0 where
   pub named : named_in members ≡ Some server
   pub limits : limits_in members ≡ Some upkeep
   pub partner : HasPartnerOrIsAlone members
+  pub protected : IsProtected members protection
 
 -- why it doesn't: of a text that no node runs by, that the pools overlap, or nothing; else a fault of the document
 abbrev pub IsNodeRefusal : List ℕ → OpenError → Type 0
@@ -102,3 +139,5 @@ IsRefusal text VolumeHours = (members : Members) × IsDocument text members × I
 IsRefusal text Alone = (members : Members) × IsDocument text members × IsPartnerFault members Alone
 IsRefusal text NoPartner = (members : Members) × IsDocument text members × IsPartnerFault members NoPartner
 IsRefusal text PartnerOfAlone = (members : Members) × IsDocument text members × IsPartnerFault members PartnerOfAlone
+IsRefusal text NoLinkKey = (members : Members) × IsDocument text members × IsKeyFault members NoLinkKey
+IsRefusal text LinkKey = (members : Members) × IsDocument text members × IsKeyFault members LinkKey

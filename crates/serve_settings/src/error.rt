@@ -27,4 +27,10 @@ pub enum ServeSettingsError {
     /// There are both.
     #[error("alone: is true, and link names a partner: leave one of them out")]
     PartnerOfAlone,
+    /// There is a partner, and no `link_key`.
+    #[error("link_key: is missing: name a file with a key (openssl rand -hex 32 makes one, the same for both servers), or write link_key = \"none\" where another layer lets nobody but the partner reach the port")]
+    NoLinkKey,
+    /// What is at `link_key` is no text, or an empty one.
+    #[error("link_key: wants the name of a file, or \"none\"")]
+    LinkKey,
 }

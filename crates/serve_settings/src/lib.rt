@@ -2,8 +2,9 @@
 //!
 //! The document is that of a node (`node_threads`), with four keys more, which may each be left out: `heartbeat`
 //! (seconds), `volume_lines`, `volume_hours` and `alone`. A server has a partner, which `link` names, or its settings
-//! say `alone = true`: so a mistyped key never makes a second server alone on one pool. Which documents are refused,
-//! and by what, is in specs/Serving.
+//! say `alone = true`: so a mistyped key never makes a second server alone on one pool. Where there is a partner,
+//! `link_key` says what protects the link: a file with a key, or `none`, so that nobody leaves it open without a word.
+//! Which documents are refused, and by what, is in specs/Serving.
 //!
 //! ```text
 //! let settings = ServeSettings::read(alloc, text)?;
@@ -13,9 +14,11 @@
 
 mod error;
 mod limits;
+mod protection;
 mod settings;
 #[cfg(test)]
 mod tests;
 
 pub use error::ServeSettingsError;
+pub use protection::LinkProtection;
 pub use settings::ServeSettings;

@@ -21,7 +21,7 @@ const VOLUME_LINES: u32 = 200_000;
 const VOLUME_HOURS: u32 = 24;
 
 /// Returns the value at a key.
-fn value_at<'a>(table: &'a Table, key: &str) -> Option<&'a Value>
+pub(crate) fn value_at<'a>(table: &'a Table, key: &str) -> Option<&'a Value>
     ensures { Finds (λ v. view v.now) result (get_member key.now (table_view table.now)) }
 {
     table.get(key)
@@ -86,15 +86,16 @@ pub(crate) fn upkeep_in(table: &Table) -> Result<Upkeep, ServeSettingsError>
     }
 }
 
-/// Asks that the server has a partner or is alone. `Alone` where the key has no truth value, `NoPartner` where there is
-/// neither, `PartnerOfAlone` where there are both.
-pub(crate) fn test_partner(table: &Table) -> Result<(), ServeSettingsError>
-    ensures { MatchResult result (λ _. HasPartnerOrIsAlone (table_view table.now)) (IsPartnerFault (table_view table.now)) }
+/// Returns whether the server is alone, by a document that names its partner or says that there is none. `Alone` where the
+/// key has no truth value, `NoPartner` where there is neither, `PartnerOfAlone` where there are both.
+pub(crate) fn is_alone(table: &Table) -> Result<bool, ServeSettingsError>
+    ensures { MatchResult result (λ alone. HasPartnerOrIsAlone (table_view table.now)
+        × (alone_in (table_view table.now) ≡ Some alone)) (IsPartnerFault (table_view table.now)) }
 {
     let is_alone = alone_in(table).ok_or(ServeSettingsError::Alone)?;
     match (value_at(table, "link"), is_alone) {
         (None, false) => Err(ServeSettingsError::NoPartner),
         (Some(_), true) => Err(ServeSettingsError::PartnerOfAlone),
-        _ => Ok(()),
+        _ => Ok(is_alone),
     }
 }

@@ -1,13 +1,15 @@
 //! Settings out of a TOML document.
 
-ghost use Rattle.std.specs.Prelude.{IfOk, IfErr};
+ghost use Rattle.std.specs.Prelude.{◌⊎◌, IfOk, IfErr, MatchResult};
 ghost use Rattle.toml.specs.Data.{Members};
 ghost use Rattle.toml.specs.View.{table_view};
 ghost use Rattle.settings_text.specs.Document.{IsDocument};
 ghost use Rattle.serve_settings.specs.Serving.{IsServed, IsNodeRefusal, IsRefusal};
+ghost use Rattle.serve_settings.specs.Serving.{HasPartnerOrIsAlone, IsProtected, IsPartnerFault, IsKeyFault};
 
 use crate::error::ServeSettingsError;
-use crate::limits::{test_partner, upkeep_in};
+use crate::limits::{is_alone, upkeep_in};
+use crate::protection::{LinkProtection, protection_in};
 use node_threads::NodeSettings;
 use server_settings::OpenError;
 use server_upkeep::Upkeep;
@@ -20,6 +22,19 @@ pub struct ServeSettings {
     pub node: NodeSettings,
     /// Where a key isn't there, what [`Upkeep::DEFAULT`] has.
     pub upkeep: Upkeep,
+    /// What protects the link with the partner; none where there is no partner.
+    pub protection: Option<LinkProtection>,
+}
+
+/// What protects the link, where the server has a partner.
+fn protection(alloc: Global, table: &Table) -> Result<Option<LinkProtection>, ServeSettingsError>
+    ensures { MatchResult result (λ p. HasPartnerOrIsAlone (table_view table.now) × IsProtected (table_view table.now) p)
+        (λ e. IsPartnerFault (table_view table.now) e ⊎ IsKeyFault (table_view table.now) e) }
+{
+    if is_alone(table)? {
+        return Ok(None);
+    }
+    Ok(Some(protection_in(alloc, table)?))
 }
 
 /// The table of a TOML document.
@@ -35,12 +50,13 @@ fn table_of(alloc: Global, text: &[u8]) -> Result<Table, OpenError>
 }
 
 impl ServeSettings {
-    /// The settings that a TOML document names: those of a node, and `heartbeat`, `volume_lines`, `volume_hours` and
-    /// `alone`, which may each be left out. `Node` where no node runs by it, or a growth was refused; else `Alone`,
-    /// `NoPartner` or `PartnerOfAlone`; else `Heartbeat`, `VolumeLines` or `VolumeHours`.
+    /// The settings that a TOML document names: those of a node, `link_key` where there is a `link`, and `heartbeat`,
+    /// `volume_lines`, `volume_hours` and `alone`, which may each be left out. `Node` where no node runs by it, or a growth
+    /// was refused; else `Alone`, `NoPartner` or `PartnerOfAlone`; else `NoLinkKey` or `LinkKey`; else `Heartbeat`,
+    /// `VolumeLines` or `VolumeHours`.
     pub fn read(alloc: Global, text: &[u8]) -> Result<ServeSettings, ServeSettingsError>
         ensures served { IfOk result (λ s. (members : Members) × IsDocument text.now members
-            × IsServed members s.node.server s.upkeep) }
+            × IsServed members s.node.server s.upkeep s.protection) }
         ensures refused { IfErr result (IsRefusal text.now) }
     {
         let node = match NodeSettings::read(alloc, text) {
@@ -51,8 +67,15 @@ impl ServeSettings {
             Ok(table) => table,
             Err(error) => return Err(ServeSettingsError::Node(error)),
         };
-        test_partner(&table)?;
+        let protection = match protection(alloc, &table) {
+            Ok(protection) => protection,
+            Err(error) => return Err(error),
+        };
         let upkeep = upkeep_in(&table)?;
-        Ok(ServeSettings { node, upkeep })
+        Ok(ServeSettings {
+            node,
+            upkeep,
+            protection,
+        })
     }
 }

@@ -24,7 +24,10 @@ prefix = \"2001:db8::/48\"
 unit = 56
 ";
 
-const LINK: &str = "link = \"[2001:db8::b]:647\"\n";
+const LINK: &str = "link = \"[2001:db8::b]:647\"\nlink_key = \"link.key\"\n";
+
+/// The same without a key.
+const OPEN_LINK: &str = "link = \"[2001:db8::b]:647\"\n";
 
 /// The limits of the document with some keys more, or why it is refused.
 fn limits(alloc: Global, keys: &str) -> Result<Result<Upkeep, ServeSettingsError>, AllocError> {
@@ -112,6 +115,13 @@ fn refuses_each_fault_by_its_name(rt: HostRuntime) -> Result<(), Fail> {
     for (keys, error) in REFUSED {
         assert_eq!(rt; limits(alloc, keys)?, Err(error));
     }
+    let open = ServeSettingsError::NoLinkKey;
+    assert_eq!(rt; limits(alloc, OPEN_LINK)?, Err(open));
+    let empty = format!(in alloc; "{OPEN_LINK}link_key = \"\"\n")?;
+    assert_eq!(rt;
+        limits(alloc, empty.as_str())?,
+        Err(ServeSettingsError::LinkKey)
+    );
     let both = format!(in alloc; "alone = true\n{LINK}")?;
     assert_eq!(rt;
         limits(alloc, both.as_str())?,

@@ -1,4 +1,5 @@
 pub mod Live
+pub mod Going
 pub mod Owing
 pub mod Saying
 pub mod Hearing

@@ -1,11 +1,13 @@
 //! A server that runs.
 
-ghost use Rattle.std.specs.Prelude.{◌≡◌, ◌+◌, ◌<◌, ◌∷◌, [], ◌++◌, List, IfOk, IfErr, OnErr, None, vec_len, vec_capacity};
+ghost use Rattle.std.specs.Prelude.{◌≡◌, ◌+◌, ◌<◌, ◌∷◌, [], ◌++◌, List, length, IfOk, IfErr, OnErr, None, vec_len};
+ghost use Rattle.std.specs.Prelude.{vec_capacity};
 ghost use Rattle.journal_file.specs.Later.{IsLater, LeavesFirst};
 ghost use Rattle.open_volume.specs.Spelling.{text_lines};
 ghost use Rattle.book_volumes.specs.Volumes.{going_on, HasVolume};
 ghost use Rattle.locked_book.specs.declared.receipt.Receipt.{Receipt as ReceiptValue};
 ghost use Rattle.volume_folder.specs.Names.{AreSettled};
+ghost use Rattle.server_run.specs.Going.{GoesOn};
 ghost use Rattle.server_run.specs.Live.{Grows, IsUnsettled, IsNotServed};
 ghost use Rattle.std.specs.List.{AllByRecursion};
 ghost use Rattle.served_book.specs.Served.{receipts_in, IsApplied};
@@ -155,10 +157,15 @@ where
 
     /// Puts all lines that the file lacks to it, by one write and one sync, and only then gives what was held back.
     pub fn settle(self) -> Result<Settled<F, P>, Unsettled<F::File>>
-        ensures volume { IfOk result (λ s. HasVolume s.running.volume.calls (going_on s.running.volume.served.journal)) }
+        ensures volume { IfOk result (λ s.
+            HasVolume s.running.volume.calls (going_on s.running.volume.served.journal)) }
         ensures served { IfOk result (λ s. s.running.volume.served ≡ self.volume.served) }
+        ensures all { IfOk result (λ s. s.running.volume.kept ≡ length s.running.volume.served.journal.lines) }
+        ensures names { IfOk result (λ s. s.running.names ≡ self.names) }
+        ensures goes_on { IfOk result (λ s. GoesOn self.volume) }
         ensures answers { IfOk result (λ s. (s.leaving.answers.items ≡ self.held) × (s.running.held ≡ [])) }
-        // All that leaves is what these receipts say, and those that aren't older are of the lines that are on the disk.
+        // All that leaves is what these receipts say, and those that aren't older are of the lines that are on the
+        // disk.
         ensures owed { IfOk result (λ s. AllByRecursion (λ h. IsOwed self.own (receipts_in self.volume.served) h.answer)
             s.leaving.answers.items) }
         ensures said { IfOk result (λ s. AreBacked (receipts_in self.volume.served) s.leaving.frames.items) }

@@ -8,7 +8,12 @@ ghost use Rattle.order_book.specs.declared.order.Order.TheVariants.{Restart};
 ghost use Rattle.server_settings.specs.Settings.{opening};
 ghost use Rattle.locked_book.specs.declared.receipt.Receipt.{Receipt as ReceiptValue};
 ghost use Rattle.served_book.specs.Served.{IsApplied};
-ghost use Rattle.server_run.specs.Beginning.{Begins, BeginsBehind};
+ghost use Rattle.journal_lines.specs.declared.line.Journal.{Journal};
+ghost use Rattle.journal_lines.specs.declared.line.Line.{Line as LineValue};
+ghost use Rattle.order_book.specs.Replayed.{with_line};
+ghost use Rattle.folder_recovery.specs.Folder.{AreVolumesSoFar};
+ghost use Rattle.server_run.specs.Beginning.{Begins, BeginsBehind, HasBook, HasNextBook, HasSameFiles};
+ghost use Rattle.open_volume.specs.Spelling.{IsWrittenSoFar};
 ghost use Rattle.book_volumes.specs.Volumes.{going_on, HasVolume};
 
 use crate::error::BeginFault;
@@ -43,8 +48,10 @@ where
     F::File: Drop,
     requires names { AreSettled (F.calls folder) }
     requires file { HasVolume (F.File.calls begun.file.device) (going_on begun.book) }
-    ensures { IfOk result (Begins with.entry.settings.now.duid with.entry.older.items begun.book
+    requires written { IsWrittenSoFar (going_on begun.book) }
+    ensures begins { IfOk result (Begins with.entry.settings.now.duid with.entry.older.items begun.book
         (length begun.book.lines)) }
+    ensures has { IfOk result (λ r. HasBook begun.book r.names (names_after (F.calls folder)).files r.volume) }
 {
     let Begun { book, file } = begun;
     let kept = book.journal().len();
@@ -62,9 +69,11 @@ where
     F::File: Drop,
     requires names { AreSettled (F.calls folder) }
     requires none { (names_after (F.calls folder)).files ≡ 0 }
-    ensures { IfOk result (Begins with.entry.settings.now.duid with.entry.older.items
+    ensures begins { IfOk result (Begins with.entry.settings.now.duid with.entry.older.items
         (opening with.entry.settings.now with.entry.now)
         (length (opening with.entry.settings.now with.entry.now).lines)) }
+    ensures has { IfOk result (λ r. (j : Journal) × AreVolumesSoFar with.entry.settings.now.role [] (going_on j)
+        × HasBook j r.names 1 r.volume) }
 {
     match begin_first(with.alloc, &mut folder, with.now, with.settings) {
         Ok(first) => begun(with, folder, first),
@@ -85,7 +94,10 @@ where
     requires names { AreSettled (F.calls folder) }
     requires opened { F.File.calls file ≡ opened content.now ∷ [] }
     requires some { 1 ≤ length book.lines }
-    ensures { IfOk result (Begins with.entry.settings.now.duid with.entry.older.items book (length book.lines - 1)) }
+    ensures begins { IfOk result
+        (Begins with.entry.settings.now.duid with.entry.older.items book (length book.lines - 1)) }
+    ensures has { IfOk result (λ r. (j : Journal) (l : LineValue) → book ≡ with_line j l
+        → HasBook j r.names (names_after (F.calls folder)).files r.volume) }
 {
     let lines = book.journal().len();
     match reopen(with.alloc, file, content, &book, lines) {
@@ -110,7 +122,9 @@ where
     F::File: Drop,
     requires names { AreSettled (F.calls folder) }
     requires opened { F.File.calls file ≡ opened content.now ∷ [] }
-    ensures { IfOk result (BeginsBehind with.entry.settings.now.duid with.entry.older.items book with.entry.now) }
+    ensures begins { IfOk result
+        (BeginsBehind with.entry.settings.now.duid with.entry.older.items book with.entry.now) }
+    ensures has { IfOk result (λ r. HasNextBook book (names_after (F.calls folder)).files r.names r.volume) }
 {
     let lines = book.journal().len();
     let file = match reopen(with.alloc, file, content, &book, lines + 1) {
@@ -138,7 +152,9 @@ where
     requires names { AreSettled (F.calls folder) }
     requires opened { F.File.calls file ≡ opened content.now ∷ [] }
     requires rolls { MayRoll book }
-    ensures { IfOk result (BeginsBehind with.entry.settings.now.duid with.entry.older.items book with.entry.now) }
+    ensures begins { IfOk result
+        (BeginsBehind with.entry.settings.now.duid with.entry.older.items book with.entry.now) }
+    ensures has { IfOk result (λ r. HasNextBook book (names_after (F.calls folder)).files r.names r.volume) }
 {
     let last = match reopen_ended(with.alloc, file, content, &book) {
         Ok(last) => last,
@@ -163,9 +179,10 @@ pub fn restarted<F: Folder + Drop, P: Drop>(
 ) -> Result<Running<F, P>, BeginFault<F::File>>
 where
     F::File: Drop,
-    ensures { IfOk result (λ r. (receipt : ReceiptValue)
+    ensures restarts { IfOk result (λ r. (receipt : ReceiptValue)
         × IsApplied running.volume.served r.volume.served now Restart receipt
         × (r ≡ record running { volume = r.volume })) }
+    ensures same { IfOk result (λ r. HasSameFiles running r) }
 {
     match running.serve(now, &Order::Restart) {
         Ok(_) => Ok(running),

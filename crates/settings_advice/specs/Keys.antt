@@ -2,7 +2,7 @@
 use Rattle.std.specs.Prelude.{ℕ, List, codes}
 use Rattle.settings_advice.specs.declared.key.Key.{Key}
 use Rattle.settings_advice.specs.declared.key.Key.TheVariants.{Role, Duid, SkewMs, Mclt, Life, TransitMs, Listen, Link}
-use Rattle.settings_advice.specs.declared.key.Key.TheVariants.{Workers, Heartbeat, VolumeLines, VolumeHours, Alone}
+use Rattle.settings_advice.specs.declared.key.Key.TheVariants.{LinkKey, Workers, Heartbeat, VolumeLines, VolumeHours, Alone}
 use Rattle.settings_advice.specs.declared.key.Key.TheVariants.{Pool, Prefix, Unit}
 
 abbrev pub key_name : Key → List ℕ
@@ -14,6 +14,7 @@ key_name Life = codes "life"
 key_name TransitMs = codes "transit_ms"
 key_name Listen = codes "listen"
 key_name Link = codes "link"
+key_name LinkKey = codes "link_key"
 key_name Workers = codes "workers"
 key_name Heartbeat = codes "heartbeat"
 key_name VolumeLines = codes "volume_lines"

@@ -17,6 +17,7 @@ pub enum Key {
     TransitMs,
     Listen,
     Link,
+    LinkKey,
     Workers,
     Heartbeat,
     VolumeLines,
@@ -29,9 +30,9 @@ pub enum Key {
     Unit,
 }
 
-/// The keys of a node's settings. `heartbeat`, `volume_lines`, `volume_hours` and `alone` are read by a server that goes
-/// on for years, and passed over by all others: no value there is a reason to refuse settings.
-pub const KEYS: [Key; 14] = [
+/// The keys of a node's settings. `link_key`, `heartbeat`, `volume_lines`, `volume_hours` and `alone` are read by a server
+/// that goes on for years, and passed over by all others: no value there is a reason to refuse settings.
+pub const KEYS: [Key; 15] = [
     Key::Role,
     Key::Duid,
     Key::SkewMs,
@@ -40,6 +41,7 @@ pub const KEYS: [Key; 14] = [
     Key::TransitMs,
     Key::Listen,
     Key::Link,
+    Key::LinkKey,
     Key::Workers,
     Key::Heartbeat,
     Key::VolumeLines,
@@ -65,6 +67,7 @@ impl Key {
             Key::TransitMs => "transit_ms",
             Key::Listen => "listen",
             Key::Link => "link",
+            Key::LinkKey => "link_key",
             Key::Workers => "workers",
             Key::Heartbeat => "heartbeat",
             Key::VolumeLines => "volume_lines",

@@ -1,31 +1,7 @@
-use Rattle.std.specs.Prelude.{◌≡◌}
-use Rattle.std.proofs.Common.{rules, refl, ◌∙◌}
-use Rattle.node_daemon.specs.Turning.{none}
-use Rattle.node_daemon.proofs.Turned.{none_heard, one_more_turn, has_turned}
+use Rattle.node_daemon.proofs.Lasting.{has_lasted}
 use Rattle.node_daemon.proofs.daemon.Daemon.run.Goals as goal
 
-pub loop-turn-init : goal.loop-turn-init
-loop-turn-init g c = record { transit = refl; turns = none }
-
-pub loop-turn-preserved : goal.loop-turn-preserved
-loop-turn-preserved g c = record {
-  transit = c.turn.ensures.transit ∙ c.loop-turn.invariant.transit;
-  turns = one_more_turn g.G.Datagrams.listens g.G.Datagrams.sends _ _ _ _ _ _ _ c.loop-turn.invariant.turns _
-      c.loop-turn.invariant.transit c.in-Ok.ensures.turn;
-}
-
-pub returns-in-Err : goal.returns-in-Err
-returns-in-Err g c = record {
-  turned = has_turned g.G.Datagrams.listens g.G.Datagrams.sends _ _ _ _ _ _ c.loop-turn.invariant.turns
-      c.in-Err.ensures.nothing;
-}
-
-pub returns-in-Some-leave : goal.returns-in-Some-leave
-returns-in-Some-leave g c =
-    let same : c.go.new.self.clients.datagrams ≡ c.turn.new.self.clients.datagrams = search rules in
-    record {
-      turned = has_turned g.G.Datagrams.listens g.G.Datagrams.sends _ _ _ _ _ _
-          (one_more_turn g.G.Datagrams.listens g.G.Datagrams.sends _ _ _ _ _ _ _ c.loop-turn.invariant.turns _
-          c.loop-turn.invariant.transit c.in-Ok.ensures.turn)
-          (none_heard g.G.Datagrams.listens _ _ same);
-    }
+pub returns-clause-lasts : goal.returns-clause-lasts
+returns-clause-lasts g c role earlier files j is =
+    has_lasted c.a_settle_keeps_a_servers.ensures c.a_roll_keeps_a_servers.ensures g.G.Datagrams.listens
+    g.G.Datagrams.sends _ _ _ role earlier files j _ c.turns.ensures.turned is

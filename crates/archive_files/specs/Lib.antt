@@ -1,0 +1,6 @@
+pub mod Found
+pub mod Catalogues
+pub mod Showing
+pub mod Telling
+pub mod Laws
+pub mod Reaching

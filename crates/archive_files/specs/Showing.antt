@@ -1,0 +1,43 @@
+-- What files show of a moment.
+use Rattle.std.specs.Prelude.{◌≡◌, ◌≢◌, ℕ, List, []}
+use Rattle.journal_lines.specs.Head.{volume_number}
+use Rattle.journal_text.specs.Closed.{IsClosed}
+use Rattle.open_volume.specs.declared.volume.VolumeSoFar.{VolumeSoFar}
+use Rattle.journal_archive.specs.declared.outline.Filed.{Filed}
+use Rattle.journal_archive.specs.declared.answer.Pair.{Pair}
+use Rattle.journal_archive.specs.declared.answer.Answer.TheVariants.{Shown as IsPair, Lacking as IsLacking}
+use Rattle.journal_archive.specs.Answers.{IsAnswer}
+use Rattle.journal_archive.specs.declared.archive.Archive.{Archive}
+use Rattle.journal_copy.specs.declared.pair.ShownPair.{ShownPair}
+use Rattle.journal_copy.specs.Shown.{shown_pair}
+use Rattle.archive_files.specs.declared.showing.Shown.{Shown}
+use Rattle.archive_files.specs.declared.showing.Shown.TheVariants.{Journals, Lacking}
+use Rattle.archive_files.specs.Found.{Has}
+
+-- it's the side's volume of that number
+abbrev pub IsOf : VolumeSoFar → Filed → Type 0
+IsOf v filed = (v.journal.role ≡ filed.outline.side) × (volume_number v.journal.head ≡ filed.outline.number)
+
+-- a copy of that volume, of octets that its file had
+abbrev pub IsCopyOf : (List ℕ → Type 0) → Filed → VolumeSoFar → Type 0
+IsCopyOf had filed v = (octets : List ℕ) × had octets × Has octets v × IsOf v filed
+
+-- the two journals that copies of both volumes show
+abbrev pub IsShown : (ℕ → List ℕ → Type 0) → Pair → ShownPair → Type 0
+IsShown had pair shown =
+    (v : VolumeSoFar) × (w : VolumeSoFar) × IsCopyOf (had pair.primary.file) pair.primary v
+    × IsCopyOf (had pair.secondary.file) pair.secondary w × (shown ≡ shown_pair v.journal w.journal)
+
+-- each that has lines is closed
+abbrev pub AreClosed : ShownPair → Type 0
+AreClosed shown =
+    (shown.primary.lines ≢ [] → IsClosed shown.primary.lines)
+    × (shown.secondary.lines ≢ [] → IsClosed shown.secondary.lines)
+
+-- of the pair of volumes that shows the moment the two journals, or what is lacking
+abbrev pub IsShownAt : (ℕ → List ℕ → Type 0) → Archive → (skew transit moment : ℕ) → Shown → Type 0
+IsShownAt had archive skew transit moment (Journals pair shown) =
+    IsAnswer archive.primary archive.secondary skew transit moment (IsPair pair)
+    × IsShown had pair shown × AreClosed shown
+IsShownAt had archive skew transit moment (Lacking side lack) =
+    IsAnswer archive.primary archive.secondary skew transit moment (IsLacking side lack)

@@ -1,0 +1,38 @@
+//! Why files answer nothing.
+
+ghost use Rattle.std.specs.Prelude.{◌≡◌};
+ghost use Rattle.archive_files.specs.declared.error.FilesError.TheVariants.{Memory, Archive};
+
+use journal_archive::ArchiveError;
+use std::alloc::{AllocError, AllocFailed};
+use thiserror::Error;
+
+/// Why files answer nothing.
+#[derive(Clone, Copy, Debug, PartialEq, Eq, Error)]
+pub enum FilesError {
+    /// Their volumes can't be of one pair of servers.
+    #[error("{0}")]
+    Archive(ArchiveError),
+    /// This file couldn't be read again, or is no journal any longer.
+    #[error("file {file} isn't what it was")]
+    Changed { file: usize },
+    /// A growth was refused.
+    #[error("out of memory")]
+    Memory,
+}
+
+impl From<AllocError> for FilesError {
+    ghost from_gives = { λ _ e. e ≡ Memory };
+
+    fn from(_e: AllocError) -> FilesError {
+        FilesError::Memory
+    }
+}
+
+impl<T: Drop> From<AllocFailed<T>> for FilesError {
+    ghost from_gives = { λ _ e. e ≡ Memory };
+
+    fn from(_e: AllocFailed<T>) -> FilesError {
+        FilesError::Memory
+    }
+}

@@ -1,0 +1,31 @@
+//! Which journals of some files answer a question, whatever device has the files.
+//!
+//! [`catalogue_of`] reads each file once and says what it is: the outline of a volume, for the archive, or why it's
+//! passed over. [`shown_at`] chooses the pair of volumes that shows a moment, reads these two, and gives the two
+//! journals that they show; or it says what is lacking. The contracts speak of octets that a file had when it was read
+//! (`had` of [`JournalFiles`]): a file that a server writes on may have others each time.
+//!
+//! ```text
+//! let catalogue = catalogue_of(alloc, &files)?;
+//! match shown_at(alloc, &files, &catalogue.archive, moment, skew, transit)? {
+//!     Shown::Journals(pair, shown) => .., // two closed journals, and which files they are of
+//!     Shown::Lacking(side, lack) => ..,
+//! }
+//! ```
+#![tactic(auto)]
+
+mod cataloguing;
+mod error;
+mod files;
+mod found;
+mod laws;
+mod reaching;
+mod showing;
+
+pub use cataloguing::{Catalogue, PassedOver, catalogue_of};
+pub use error::FilesError;
+pub use files::{JournalFiles, Unreadable};
+pub use found::Found;
+pub use laws::what_is_shown_is_what_is_asked;
+pub use reaching::shown_until;
+pub use showing::{Shown, shown_at};

@@ -1,0 +1,88 @@
+//! The two journals that files show of a moment.
+
+ghost use Rattle.std.specs.Prelude.{◌↔◌, IsTrue, IfOk};
+ghost use Rattle.open_volume.specs.Spelling.{IsWrittenSoFar};
+ghost use Rattle.archive_files.specs.Showing.{IsOf, IsCopyOf, IsShown, IsShownAt, AreClosed};
+
+use crate::error::FilesError;
+use crate::files::{JournalFiles, Unreadable};
+use binding_rules::Role;
+use journal_archive::{Answer, Archive, Filed, Lack, Pair};
+use journal_copy::{JournalError, ShownPair, VolumeSoFar, read_copy, show_pair};
+use lead_time::{Skew, Transit};
+use std::alloc::Global;
+
+/// What files show of a moment.
+#[derive(Debug, Drop)]
+pub enum Shown {
+    /// The journals that these two volumes show, each closed as far as it goes.
+    Journals(Pair, ShownPair),
+    /// No volume of this side shows it, and why.
+    Lacking(Role, Lack),
+}
+
+/// The volume that its file has now: the same one, perhaps longer. `Changed` where it's none or another.
+fn read_again<F: JournalFiles>(
+    alloc: Global,
+    files: &F,
+    filed: &Filed,
+) -> Result<VolumeSoFar, FilesError>
+    ensures copy { IfOk result (IsCopyOf (F.had files.now filed.now.file) filed.now) }
+    ensures written { IfOk result IsWrittenSoFar }
+{
+    let changed = FilesError::Changed { file: filed.file };
+    let octets = match files.read(alloc, filed.file) {
+        Ok(octets) => octets,
+        Err(Unreadable::Device) => return Err(changed),
+        Err(Unreadable::Memory) => return Err(FilesError::Memory),
+    };
+    let volume = match read_copy(alloc, &octets) {
+        Ok(copied) => copied.volume,
+        Err(JournalError::Fault(_)) => return Err(changed),
+        Err(JournalError::Memory) => return Err(FilesError::Memory),
+    };
+    if is_of(&volume, filed) {
+        Ok(volume)
+    } else {
+        Err(changed)
+    }
+}
+
+fn is_of(volume: &VolumeSoFar, filed: &Filed) -> bool
+    ensures { IsTrue result ↔ IsOf volume.now filed.now }
+{
+    volume.journal.role == filed.outline.side
+        && volume.journal.head.volume() == filed.outline.number
+}
+
+/// The journals that a pair of volumes shows, by what their files have now.
+fn shown_by<F: JournalFiles>(alloc: Global, files: &F, pair: &Pair) -> Result<ShownPair, FilesError>
+    ensures shown { IfOk result (IsShown (F.had files.now) pair.now) }
+    ensures closed { IfOk result AreClosed }
+{
+    let primary = read_again(alloc, files, &pair.primary)?;
+    let secondary = read_again(alloc, files, &pair.secondary)?;
+    let shown = show_pair(alloc, &primary, &secondary)?;
+    Ok(shown)
+}
+
+/// The two journals that the files show of a moment in milliseconds of true time, or what is lacking. `Changed` where a
+/// file isn't what the archive knows of it, `Memory` where a growth was refused.
+pub fn shown_at<F: JournalFiles>(
+    alloc: Global,
+    files: &F,
+    archive: &Archive,
+    moment: u64,
+    skew: Skew,
+    transit: Transit,
+) -> Result<Shown, FilesError>
+    ensures { IfOk result (IsShownAt (F.had files.now) archive.now skew transit moment) }
+{
+    match archive.at(moment, skew, transit) {
+        Answer::Shown(pair) => {
+            let shown = shown_by(alloc, files, &pair)?;
+            Ok(Shown::Journals(pair, shown))
+        }
+        Answer::Lacking(side, lack) => Ok(Shown::Lacking(side, lack)),
+    }
+}

@@ -1,0 +1,101 @@
+//! Copies of journals whose servers go on.
+
+ghost use Rattle.std.specs.Prelude.{⊤, length};
+
+use archive_files::{Found, JournalFiles, Shown, Unreadable, catalogue_of, shown_at};
+use journal_lines::Journal;
+use journal_text::write;
+use lead_time::{Skew, Transit};
+use std::alloc::Global;
+use std::test::Fail;
+
+/// Files that are texts in memory.
+#[derive(Drop)]
+struct Texts<'a> {
+    texts: &'a [&'a str],
+}
+
+impl JournalFiles for Texts<'_> {
+    ghost had = { λ s file octets. ⊤ };
+
+    ghost files = { λ s. length s.texts.now };
+
+    fn count(&self) -> usize {
+        self.texts.len()
+    }
+
+    fn read(&self, alloc: Global, file: usize) -> Result<Vec<u8>, Unreadable> {
+        let text = self.texts.get(file).ok_or(Unreadable::Device)?;
+        Vec::from_slice(alloc, text.as_bytes()).map_err(|_| Unreadable::Memory)
+    }
+}
+
+/// The primary took a message that its partner's copy has, and the copy stops within a line.
+const PRIMARY: &str = "\
+pd-journal 1 A
+1 1000 open 500 3600 3600
+2 9000 take 0 1 contact 0 0
+3 9500 state normal
+4 96";
+
+/// The secondary took a message that the primary's copy doesn't have yet.
+const SECONDARY: &str = "\
+pd-journal 1 B
+1 1000 open 500 3600 3600
+2 8000 send 0 1 contact 0 0
+3 9900 take 0 7 contact 0 0
+\0\0\0";
+
+/// Both are closed: the primary's behind its last whole line, its partner's behind the last that it bears out.
+const PRIMARY_SHOWN: &str = "\
+pd-journal 1 A
+1 1000 open 500 3600 3600
+2 9000 take 0 1 contact 0 0
+3 9500 state normal
+4 9500 close
+end 4
+";
+
+const SECONDARY_SHOWN: &str = "\
+pd-journal 1 B
+1 1000 open 500 3600 3600
+2 8000 send 0 1 contact 0 0
+3 8000 close
+end 3
+";
+
+fn text_of(alloc: Global, journal: &Journal) -> Result<Vec<u8>, Fail> {
+    let text = write(alloc, journal.role, journal.head, journal.lines.as_slice())?;
+    Ok(text)
+}
+
+#[test]
+fn shows_two_copies_as_far_as_each_bears_out_the_other(rt: HostRuntime) -> Result<(), Fail> {
+    let texts = Texts {
+        texts: &["", SECONDARY, "no journal\n", PRIMARY],
+    };
+    let skew = Skew::new(500)?;
+    let catalogue = catalogue_of(rt.alloc(), &texts)?;
+    assert_eq!(rt; catalogue.passed_over.len(), 2);
+    assert!(rt; matches!(catalogue.passed_over[1].found, Found::Faulty(_)));
+    let shown = shown_at(
+        rt.alloc(),
+        &texts,
+        &catalogue.archive,
+        5000,
+        skew,
+        Transit::ZERO,
+    )?;
+    let Shown::Journals(_pair, shown) = shown else {
+        panic!(rt; "no pair shows it");
+    };
+    assert_eq!(rt;
+        text_of(rt.alloc(), &shown.primary)?.as_slice(),
+        PRIMARY_SHOWN.as_bytes()
+    );
+    assert_eq!(rt;
+        text_of(rt.alloc(), &shown.secondary)?.as_slice(),
+        SECONDARY_SHOWN.as_bytes()
+    );
+    Ok(())
+}

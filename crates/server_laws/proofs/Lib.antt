@@ -1,0 +1,5 @@
+mod Front
+mod Legal
+mod Moments
+mod Keeping
+mod Starting

@@ -1,0 +1,4 @@
+pub mod Settling
+pub mod Servers
+pub mod Laws
+pub mod Starting
