@@ -20,6 +20,7 @@ life = {life}
 transit_ms = {transit}
 listen = "[{host}]:{listen}"
 link = "[{host}]:{link}"
+link_key = "{key}"
 workers = 1
 heartbeat = 2
 volume_lines = {volume_lines}
@@ -48,18 +49,22 @@ def short_disk(octets):
 
 
 class Daemon:
-    """One server; `faults` takes what it did that it mustn't."""
+    """One server; `faults` takes what it did that it mustn't. Its link has the key, if there is one."""
 
-    def __init__(self, node, folder, side, link, volume_lines, faults):
+    def __init__(self, node, folder, side, link, volume_lines, faults, key=None):
         self.node, self.folder, self.side, self.faults = node, folder / side, side, faults
         self.port = free_port(socket.SOCK_DGRAM)
         self.process = self.wanted = self.begun = None
         self.starts, self.kills, self.stops, self.full = 0, 0, 0, 0
         # How long starts took until the server said with what it serves, in seconds.
         self.waits = []
-        self.folder.mkdir()
+        self.folder.mkdir(parents=True)
+        if key is not None:
+            (self.folder / "link.key").touch(0o600)
+            (self.folder / "link.key").write_text(key + "\n")
         role, self.duid = ROLES[side]
         given = {"role": role, "duid": self.duid, "host": HOST, "listen": self.port, "link": link, "volume_lines": volume_lines}
+        given["key"] = "none" if key is None else "link.key"
         settings = SETTINGS.format(skew=SKEW, mclt=MCLT, life=LIFE, transit=TRANSIT, **given)
         (self.folder / "settings.toml").write_text(settings)
 
