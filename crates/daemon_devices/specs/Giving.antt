@@ -44,6 +44,21 @@ pub record Stays (old new : Sent) : Type 0 where
   pub given : Keeps old.given new.given
   pub passage : Skips old.passage new.passage
 
+-- Octets may have come: nothing was given, and what is given next goes out as before.
+abbrev pub GoesOutAsBefore : Passage → Passage → Type 0
+GoesOutAsBefore Open Open = ⊤
+GoesOutAsBefore (Records old) (Records new) = new.writer ≡ old.writer
+GoesOutAsBefore _ _ = ⊥
+
+pub record OnlyHears (old new : Sent) : Type 0 where
+  pub given : Keeps old.given new.given
+  pub passage : GoesOutAsBefore old.passage new.passage
+
+-- no record was put yet
+abbrev pub IsUnused : Passage → Type 0
+IsUnused Open = ⊤
+IsUnused (Records joined) = joined.writer.number ≡ 0
+
 -- octets were given; where memory or a number lacked, none
 abbrev pub IsGiven : {T : Type 0} → List ℕ → Sent → Sent → Result T Lost → Type 0
 IsGiven octets old new (Err Memory) = Stays old new

@@ -3,14 +3,15 @@
 ghost use Rattle.std.specs.Prelude.{◌≡◌, ◌≤◌, ◌↔◌, ◌⊎◌, ℕ, Err, length, IsTrue, if◌then◌else◌};
 ghost use Rattle.daemon_devices.specs.declared.connection.Lost.TheVariants.{Memory, Spent};
 ghost use Rattle.std.specs.Io.KnownBytes.{Keeps};
-ghost use Rattle.daemon_devices.specs.Giving.{IsGiven};
+ghost use Rattle.daemon_devices.specs.Giving.{IsGiven, OnlyHears};
 ghost use Rattle.daemon_devices.specs.Silence.{seconds_from, IsGivenUp};
 
+use crate::duplex::Duplex;
 use crate::unsent::Unsent;
 use link_entry::{Entrant, Passage};
 use link_records::LinkFault;
 use std::alloc::Global;
-use std::io::{ErrorKind, Read, Write};
+use std::io::ErrorKind;
 use std::marker::Model;
 use std::time::Instant;
 use thiserror::Error;
@@ -59,7 +60,7 @@ pub enum Lost {
 
 /// The only connection with the partner while it stands, by a stream that doesn't wait.
 #[derive(Drop)]
-pub struct Connection<S: Read + Write + Drop> {
+pub struct Connection<S: Duplex> {
     alloc: Global,
     stream: S,
     passage: Passage,
@@ -72,7 +73,7 @@ pub struct Connection<S: Read + Write + Drop> {
     has_heard: bool,
 }
 
-impl<S: Read + Write + Drop> Model for Connection<S> {
+impl<S: Duplex> Model for Connection<S> {
     ghost use Rattle.std.specs.Io.KnownBytes.{Keeps};
     ghost use Rattle.daemon_devices.specs.Giving.{ConnectionState, given};
 
@@ -137,7 +138,7 @@ fn lost_by(fault: LinkFault) -> Lost
     }
 }
 
-impl<S: Read + Write + Drop> Connection<S> {
+impl<S: Duplex> Connection<S> {
     /// The connection of who was let in now, over which these octets were still to be written.
     pub(crate) fn new(
         alloc: Global,
@@ -145,7 +146,9 @@ impl<S: Read + Write + Drop> Connection<S> {
         unsent: Unsent,
         entrant: Entrant,
         now: Instant,
-    ) -> Connection<S> {
+    ) -> Connection<S>
+        ensures { result.sent.passage ≡ entrant.passage }
+    {
         let Entrant { passage, ahead, .. } = entrant;
         let has_heard = !ahead.is_empty();
         Connection {
@@ -162,12 +165,13 @@ impl<S: Read + Write + Drop> Connection<S> {
     /// Puts the octets that have come at the front of the buffer. An error of the stream's is its end, and so is want of
     /// memory.
     pub fn read(&mut self, buffer: &mut [u8], now: Instant) -> Got
-        ensures { (count : ℕ) → result ≡ Got.Octets count → count ≤ length buffer.new }
+        ensures hears { OnlyHears self.old.sent self.new.sent }
+        ensures count { (count : ℕ) → result ≡ Got.Octets count → count ≤ length buffer.new }
     {
         if !self.ahead.is_empty() {
             return Got::Octets(given_out(&mut self.ahead, buffer));
         }
-        match self.stream.read(buffer) {
+        match self.stream.hear(buffer) {
             Ok(0) => Got::End,
             Ok(count) => {
                 self.heard = now;
@@ -184,7 +188,8 @@ impl<S: Read + Write + Drop> Connection<S> {
     /// Puts what the octets at the front of the buffer say there.
     fn take(&mut self, buffer: &mut [u8], count: usize) -> Got
         requires { count ≤ length buffer.old }
-        ensures { (count : ℕ) → result ≡ Got.Octets count → count ≤ length buffer.new }
+        ensures hears { OnlyHears self.old.sent self.new.sent }
+        ensures count { (count : ℕ) → result ≡ Got.Octets count → count ≤ length buffer.new }
     {
         match self.passage.take(self.alloc, &buffer[..count]) {
             Ok(octets) => {

@@ -1,9 +1,9 @@
 //! The door by which connections with the partner come.
 
+use crate::duplex::Duplex;
 use crate::rest::Watched;
 use mio::net::{TcpListener, TcpStream};
 use std::io;
-use std::io::{Read, Write};
 use std::net::{Net, SocketAddr};
 use std::random::RandomSource;
 use std::time::{Duration, Instant};
@@ -19,14 +19,14 @@ const LONGEST_CALL: u64 = 5;
 
 /// A connection that has come, and 32 octets that the system's generator drew for it alone.
 #[derive(Drop)]
-pub struct Arrival<S: Read + Write + Drop> {
+pub struct Arrival<S: Duplex> {
     pub stream: S,
     pub nonce: [u8; 32],
 }
 
 /// Where connections with the partner come from.
 pub trait Door: Drop {
-    type Stream: Read + Write + Drop;
+    type Stream: Duplex;
 
     /// The next connection, where one has come by now. A side that calls begins a call where it is time for one.
     fn admit(&mut self, now: Instant) -> Option<Arrival<Self::Stream>>;

@@ -1,12 +1,15 @@
 //! Where connections wait, side by side, until one of them is let in.
 
+ghost use Rattle.std.specs.Prelude.{IfSome};
+ghost use Rattle.daemon_devices.specs.Giving.{IsUnused};
+
 use crate::connection::Connection;
 use crate::door::Arrival;
+use crate::duplex::Duplex;
 use crate::seat::{Leaving, Seat, Seated};
 use link_entry::Keeper;
 use link_records::Side;
 use std::alloc::Global;
-use std::io::{Read, Write};
 use std::mem;
 use std::time::Instant;
 
@@ -15,7 +18,7 @@ const MOST_SEATS: usize = 8;
 
 /// Where connections wait to be let in.
 #[derive(Drop)]
-pub struct WaitingRoom<S: Read + Write + Drop> {
+pub struct WaitingRoom<S: Duplex> {
     alloc: Global,
     keeper: Keeper,
     seats: Vec<Seat<S>>,
@@ -25,7 +28,7 @@ pub struct WaitingRoom<S: Read + Write + Drop> {
     has_come: bool,
 }
 
-impl<S: Read + Write + Drop> WaitingRoom<S> {
+impl<S: Duplex> WaitingRoom<S> {
     /// None waits yet.
     pub fn new(alloc: Global, keeper: Keeper) -> WaitingRoom<S> {
         WaitingRoom {
@@ -93,7 +96,9 @@ impl<S: Read + Write + Drop> WaitingRoom<S> {
         mut seat: Seat<S>,
         buffer: &mut [u8],
         now: Instant,
-    ) -> Option<Connection<S>> {
+    ) -> Option<Connection<S>>
+        ensures unused { IfSome result (λ c. IsUnused c.sent.passage) }
+    {
         let count = match seat.read(buffer) {
             Ok(count) => count,
             Err(leaving) => {
@@ -110,9 +115,11 @@ impl<S: Read + Write + Drop> WaitingRoom<S> {
         None
     }
 
-    /// Goes on with all that wait, in the order in which they came, and gives the first that is let in now. Without a
-    /// key all others are put out then.
-    pub fn go_on(&mut self, buffer: &mut [u8], now: Instant) -> Option<Connection<S>> {
+    /// Goes on with all that wait, in the order in which they came, and gives the first that is let in now: no record was
+    /// put over it yet. Without a key all others are put out then.
+    pub fn go_on(&mut self, buffer: &mut [u8], now: Instant) -> Option<Connection<S>>
+        ensures unused { IfSome result (λ c. IsUnused c.sent.passage) }
+    {
         let mut entered = None;
         let seats = mem::replace(&mut self.seats, Vec::new(self.alloc));
         for seat in seats {

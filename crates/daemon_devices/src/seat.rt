@@ -1,13 +1,15 @@
 //! A connection that waits to be let in.
 
-ghost use Rattle.std.specs.Prelude.{◌≤◌, ◌↔◌, length, IsTrue, IfOk};
+ghost use Rattle.std.specs.Prelude.{◌≡◌, ◌≤◌, ◌↔◌, length, IsTrue, IfOk};
+ghost use Rattle.daemon_devices.specs.Giving.{ConnectionState, IsUnused};
 ghost use Rattle.daemon_devices.specs.Silence.{seconds_from};
 
 use crate::connection::Connection;
+use crate::duplex::Duplex;
 use crate::unsent::Unsent;
 use link_entry::{EntryFault, Verdict, Waiting};
 use std::alloc::Global;
-use std::io::{ErrorKind, Read, Write};
+use std::io::ErrorKind;
 use std::time::Instant;
 
 /// How many seconds one may wait.
@@ -28,7 +30,7 @@ pub enum Leaving {
 
 /// A connection that waits to be let in.
 #[derive(Drop)]
-pub(crate) struct Seat<S: Read + Write + Drop> {
+pub(crate) struct Seat<S: Duplex> {
     stream: S,
     unsent: Unsent,
     waiting: Waiting,
@@ -37,7 +39,7 @@ pub(crate) struct Seat<S: Read + Write + Drop> {
 
 /// What became of one that waits.
 #[derive(Drop)]
-pub(crate) enum Seated<S: Read + Write + Drop> {
+pub(crate) enum Seated<S: Duplex> {
     Waits(Seat<S>),
     Enters(Connection<S>),
     Leaves(Leaving),
@@ -61,7 +63,7 @@ fn is_late(begun: Instant, now: Instant) -> bool
     now.duration_since(begun).as_secs() >= LONGEST_WAIT
 }
 
-impl<S: Read + Write + Drop> Seat<S> {
+impl<S: Duplex> Seat<S> {
     /// One that begins to wait now.
     pub(crate) fn new(
         alloc: Global,
@@ -83,7 +85,7 @@ impl<S: Read + Write + Drop> Seat<S> {
     pub(crate) fn read(&mut self, buffer: &mut [u8]) -> Result<usize, Leaving>
         ensures { IfOk result (λ count. count ≤ length buffer.new) }
     {
-        match self.stream.read(buffer) {
+        match self.stream.hear(buffer) {
             Ok(0) => Err(Leaving::Lost),
             Ok(count) => Ok(count),
             Err(error) => match error.kind() {
@@ -95,7 +97,10 @@ impl<S: Read + Write + Drop> Seat<S> {
 
     /// Takes the octets that have come, none perhaps, and says what is to be said, without waiting. From then on it
     /// waits on, is let in or leaves.
-    pub(crate) fn go_on(self, alloc: Global, chunk: &[u8], now: Instant) -> Seated<S> {
+    #[tactic(auto, using(crate::proofs::Heard::entrant_is_unused))]
+    pub(crate) fn go_on(self, alloc: Global, chunk: &[u8], now: Instant) -> Seated<S>
+        ensures unused { (c : ConnectionState) → result ≡ Seated.Enters c → IsUnused c.sent.passage }
+    {
         let Seat {
             stream,
             mut unsent,
@@ -121,7 +126,9 @@ impl<S: Read + Write + Drop> Seat<S> {
     }
 
     /// Says what is to be said; it waits on, but for one that takes too long.
-    fn waited(mut self, answer: &Option<[u8; 32]>, now: Instant) -> Seated<S> {
+    fn waited(mut self, answer: &Option<[u8; 32]>, now: Instant) -> Seated<S>
+        ensures waits { (c : ConnectionState) → result ≡ Seated.Enters c → ⊥ }
+    {
         if let Err(leaving) = put_behind(&mut self.unsent, answer) {
             return Seated::Leaves(leaving);
         }
