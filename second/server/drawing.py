@@ -90,12 +90,12 @@ class Hostile(Partner):
             self.messages(replies=0)
 
     def messages(self, replies=5):
-        """One to twenty messages, at times under another term, with serials left out or said twice."""
+        """One to twenty messages, at times under another term, some said twice."""
         found = []
         for _ in range(self.draws.pick(4, 1, 4, 3, 2, 8, 1, 20)):
             body = self.draws.pick(6, self.update(), replies, self.reply(), 0.3, self.contact())
             term = 0 if self.random.random() < 0.97 else self.random.choice((1, 0xFFFFFFFF))
-            frame = self.number(body, term, self.draws.pick(20, 0, 1, 1, 1, self.random.randrange(5)))
+            frame = self.number(body, term)
             found.append(frame)
             self.foresee(frame)
             if self.random.random() < 0.06:
@@ -137,10 +137,20 @@ class Hostile(Partner):
 
     def fault(self):
         """A frame with a fault ends the connection."""
+        self.put_off(self.spoiled(), "a frame with a fault")
+
+    def jump(self):
+        """A message whose serial isn't the next ends the connection, and isn't taken."""
+        serial = min(LIMIT, self.serial + 2 + self.draws.pick(3, 0, 1, self.random.randrange(1 << 20), 1, LIMIT))
+        self.put_off(frames.encode(frames.message_frame(0, serial, self.update())), "a serial that jumps")
+        self.tally["serials that jumped"] += 1
+
+    def put_off(self, octets, what):
+        """Sends what ends the connection."""
         self.settle()
-        self.link.write(self.spoiled())
+        self.link.write(octets)
         if not self.link.ended():
-            raise program.Difference("a frame with a fault doesn't end the connection")
+            raise program.Difference(f"{what} doesn't end the connection")
         self.poll()
         self.open()
         self.resend()
@@ -178,7 +188,7 @@ class Hostile(Partner):
         steps = [30, self.datagram, 40, self.messages, 4, self.without_effect, 4, self.settle, 1, self.ask_all,
                  0.15, self.idle, 6, self.answer_pool]
         if self.node.settings.role == "A":
-            steps += [3, self.ask_pool, 0.1, self.lose, 0.1, self.fault, 0.05, self.lie]
+            steps += [3, self.ask_pool, 0.1, self.lose, 0.1, self.fault, 0.05, self.lie, 0.1, self.jump]
         else:
-            steps += [0.5, self.lose, 0.5, self.fault, 0.3, self.lie, 0.3, self.second]
+            steps += [0.5, self.lose, 0.5, self.fault, 0.3, self.lie, 0.3, self.second, 0.5, self.jump]
         self.draws.pick(*steps)()

@@ -78,9 +78,9 @@ class Partner:
         self.datagrams += 1
         self.tally["datagrams"] += 1
 
-    def number(self, body, term=0, gap=0):
+    def number(self, body, term=0):
         """A frame of our next serial."""
-        self.serial += 1 + gap
+        self.serial += 1
         frame = frames.message_frame(term, self.serial, body)
         self.sent[self.serial] = frame
         return frame

@@ -9,7 +9,7 @@ use Rattle.link_talk.specs.declared.outbox.Handed.{Handed}
 use Rattle.link_talk.specs.Receipts.{last_taken, takes_of, newer_from}
 use Rattle.link_talk.specs.Handed.{Said, said_in, said_of, said_by, sends_of, sends_above, answer}
 use Rattle.link_talk.specs.Talking.{Takes, Says, Hears, Met, Unmet, Refused, Named, first_said, Stays, IsUnnamed}
-use Rattle.link_talk.proofs.Taken.{takes_more}
+use Rattle.link_talk.proofs.Taken.{takes_more, next_on}
 
 module _ (role : Role) where
   first_same : (x : Met) (a : List Receipt) → first_said role x x a ≡ []
@@ -29,6 +29,7 @@ module _ (role : Role) where
         added = [];
         all = same ∙ sym (append-nil a);
         takes = refl;
+        next = tt;
         sends =
             out
             ∙ (sym (append-nil (said_of o))
@@ -46,6 +47,7 @@ module _ (role : Role) where
         added = h.added;
         all = h.all;
         takes = h.takes;
+        next = h.next;
         sends = h.sends ∙ ap (λ xs. xs ++ sends_of h.added) (sym (append-nil (said_of o)));
         stays = refl;
         silent = λ none. absurd none;
@@ -63,6 +65,7 @@ module _ (role : Role) where
         added = h.added;
         all = h.all;
         takes = h.takes;
+        next = h.next;
         sends = h.sends ∙ ap (λ xs. xs ++ sends_of h.added) (out ∙ ap (λ xs. said_of o ++ xs) its);
         stays = tt;
         silent = λ none. absurd none;
@@ -76,6 +79,7 @@ module _ (role : Role) where
         added = [];
         all = same ∙ sym (append-nil a);
         takes = refl;
+        next = tt;
         sends = out ∙ (ap (λ xs. said_of o ++ xs) its ∙ sym (append-nil (said_of o ++ answer role a)));
         stays = tt;
         silent = λ _. refl;
@@ -145,6 +149,7 @@ module _ (role : Role) where
           added = h.added ++ k.added;
           all = k.all ∙ (ap (λ rs. rs ++ k.added) h.all ∙ append_assoc a h.added k.added);
           takes = takes_more a h.added k.added heard more h.takes second;
+          next = next_on a b h.added k.added h.all h.next k.next;
           sends =
               k.sends
               ∙ (ap (λ xs. (xs ++ two) ++ ks) h.sends

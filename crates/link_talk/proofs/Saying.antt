@@ -1,8 +1,8 @@
 -- Receipts that are added, and the frames that are handed out for them.
-use Rattle.std.specs.Prelude.{◌≡◌, ◌<◌, ◌≤◌, nat_lt, ℕ, true, false, Some, None, List, [], ◌∷◌, ◌++◌}
+use Rattle.std.specs.Prelude.{◌≡◌, ◌+◌, ◌≤◌, nat_lt, ℕ, true, false, Some, None, List, [], ◌∷◌, ◌++◌}
 use Rattle.std.specs.Prelude.{refl, cond}
 use Rattle.std.specs.List.{cons_option}
-use Rattle.std.proofs.Common.{ap, sym, ◌∙◌, append_assoc, append-nil}
+use Rattle.std.proofs.Common.{ap, sym, ◌∙◌, subst, append_assoc, append-nil, arith}
 use Rattle.std.proofs.lemmas.Bool.{lt-ltb, le-ltb}
 use Rattle.std.proofs.lemmas.List.Elements.{filter_map-append}
 use Rattle.binding_rules.specs.declared.message.PartnerMessage.{PartnerMessage}
@@ -18,11 +18,11 @@ use Rattle.order_book.specs.declared.order.Order.TheVariants.{Close}
 use Rattle.order_book.specs.Named.{IsNamed}
 use Rattle.locked_book.specs.declared.receipt.Receipt.{Receipt}
 use Rattle.link_talk.specs.declared.outbox.Handed.{Handed}
-use Rattle.link_talk.specs.Receipts.{last_taken, take_in, takes_of, newer_from, IsOther, IsNamedBy}
+use Rattle.link_talk.specs.Receipts.{last_taken, IsNext, take_in, takes_of, newer_from, IsOther, IsNamedBy}
 use Rattle.link_talk.specs.Handed.{said_in, said_of, sent_in, said_by, sends_of, greeting_in, greeting_kind, Greets}
 use Rattle.link_talk.specs.Messages.{body_in, message_in}
 use Rattle.link_talk.specs.Talking.{Takes, Says}
-use Rattle.link_talk.proofs.Taken.{takes_more}
+use Rattle.link_talk.proofs.Taken.{takes_more, next_on, other_next}
 
 module _ (a b c : List Receipt) (o p q : List Handed) where
   pub takes_on : (heard more : List PartnerMessage) → Takes heard a b o p → Takes more b c p q
@@ -34,6 +34,7 @@ module _ (a b c : List Receipt) (o p q : List Handed) where
         added = h.added ++ k.added;
         all = k.all ∙ (ap (λ rs. rs ++ k.added) h.all ∙ append_assoc a h.added k.added);
         takes = takes_more a h.added k.added heard more h.takes second;
+        next = next_on a b h.added k.added h.all h.next k.next;
         sends =
             k.sends
             ∙ (ap (λ xs. xs ++ sends_of k.added) h.sends
@@ -50,6 +51,7 @@ says_nothing a b o p same out =
       added = [];
       all = same ∙ sym (append-nil a);
       takes = refl;
+      next = tt;
       sends = out ∙ sym (append-nil (said_of o));
     }
 
@@ -59,7 +61,7 @@ event_other : (e : Event) → ((m : PartnerMessage) → e ≡ TakeLine m → ⊥
 event_other (TakeLine m) other = absurd (other m refl)
 event_other _ other = refl
 
-other_takes : (b : BookState) (now : ℕ) (order : Order) (e : Event) → IsOther order → IsNamed b now order e
+pub other_takes : (b : BookState) (now : ℕ) (order : Order) (e : Event) → IsOther order → IsNamed b now order e
     → take_in e ≡ None
 other_takes b now (Request a) e _ h = ap take_in h.2
 other_takes b now (Renew a) e _ h = ap take_in h.2
@@ -80,10 +82,12 @@ other_takes b now Close e _ h = ap take_in h
 pub one_said : (a b : List Receipt) (o p : List Handed) (r : Receipt) (order : Order) → b ≡ a ++ r ∷ []
     → IsNamedBy order r.line → IsOther order → said_of p ≡ said_of o ++ sends_of (r ∷ []) → Says a b o p
 one_said a b o p r order all named other out =
+    let none : take_in r.line.event ≡ None = other_takes named.0 r.line.reading order r.line.event other named.1 in
     record {
       added = r ∷ [];
       all = all;
-      takes = ap (λ x. cons_option x []) (other_takes named.0 r.line.reading order r.line.event other named.1);
+      takes = ap (λ x. cons_option x []) none;
+      next = (other_next (last_taken a) r.line.event none, tt);
       sends = out;
     }
 
@@ -140,14 +144,15 @@ none_sent o r none = sym (append-nil (said_of o)) ∙ ap (λ xs. said_of o ++ xs
 -- ---- one message that is taken
 
 pub one_taken : (a b : List Receipt) (o : List Handed) (r : Receipt) (m : PartnerMessage) → b ≡ a ++ r ∷ []
-    → r.line.event ≡ TakeLine m → last_taken a < m.serial → Takes (m ∷ []) a b o o
-one_taken a b o r m all takes newer =
-    let test : nat_lt (last_taken a) m.serial ≡ true = lt-ltb (last_taken a) m.serial newer in
+    → r.line.event ≡ TakeLine m → m.serial ≡ last_taken a + 1 → Takes (m ∷ []) a b o o
+one_taken a b o r m all takes next =
+    let test : nat_lt (last_taken a) m.serial ≡ true = lt-ltb (last_taken a) m.serial (omega arith) in
     record {
       added = r ∷ [];
       all = all;
       takes =
           ap (λ e. cons_option (take_in e) []) takes ∙ sym (ap (λ t. cond t (m ∷ []) []) test);
+      next = (subst (λ e. IsNext (last_taken a) e) (sym takes) next, tt);
       sends = none_sent o r (sends_none r (λ x is. cc));
     }
 
@@ -160,14 +165,15 @@ passed_over a b o p m same out old =
       added = [];
       all = same ∙ sym (append-nil a);
       takes = sym (ap (λ t. cond t (m ∷ []) []) test);
+      next = tt;
       sends = ap (λ fs. said_of fs) out ∙ sym (append-nil (said_of o));
     }
 
 -- one that is taken, and what is done then
 pub taken_then_says : (a b c : List Receipt) (o q : List Handed) (r : Receipt) (m : PartnerMessage) → b ≡ a ++ r ∷ []
-    → r.line.event ≡ TakeLine m → last_taken a < m.serial → Says b c o q → Takes (m ∷ []) a c o q
-taken_then_says a b c o q r m all takes newer h =
-    takes_on a b c o o q (m ∷ []) [] (one_taken a b o r m all takes newer) h
+    → r.line.event ≡ TakeLine m → m.serial ≡ last_taken a + 1 → Says b c o q → Takes (m ∷ []) a c o q
+taken_then_says a b c o q r m all takes next h =
+    takes_on a b c o o q (m ∷ []) [] (one_taken a b o r m all takes next) h
 
 -- ---- for the functions that say
 

@@ -1,15 +1,14 @@
 -- The messages that receipts take.
-use Rattle.std.specs.Prelude.{◌≡◌, ◌<◌, nat_lt, ℕ, Bool, true, false, List, [], ◌∷◌, ◌++◌, refl}
+use Rattle.std.specs.Prelude.{◌≡◌, nat_lt, ℕ, Bool, true, false, None, List, [], ◌∷◌, ◌++◌, refl}
 use Rattle.std.specs.Prelude.{cond}
 use Rattle.std.specs.List.{cons_option}
 use Rattle.std.proofs.Common.{ap, sym, ◌∙◌, subst}
-use Rattle.std.proofs.lemmas.Bool.{ltb-true}
 use Rattle.std.proofs.lemmas.List.Elements.{filter_map-append}
 use Rattle.binding_rules.specs.declared.message.PartnerMessage.{PartnerMessage}
 use Rattle.journal_lines.specs.declared.event.Event.{Event}
 use Rattle.journal_lines.specs.declared.event.Event.TheVariants.{Take}
 use Rattle.locked_book.specs.declared.receipt.Receipt.{Receipt}
-use Rattle.link_talk.specs.Receipts.{taken_by, taken_after, last_taken, IsNewer, AreNewer, take_in, taken_in, takes_of}
+use Rattle.link_talk.specs.Receipts.{taken_by, taken_after, last_taken, IsNext, AreNext, take_in, taken_in, takes_of}
 use Rattle.link_talk.specs.Receipts.{newer_from}
 
 -- the serial of the last of the messages, or this one
@@ -62,38 +61,20 @@ takes_more old first second heard more one two =
     ∙ (ap (λ ms. newer_from (last_taken old) heard ++ ms) (two ∙ ap (λ n. newer_from n more) last)
     ∙ sym (newer-append (last_taken old) heard more)))
 
--- ---- none is taken twice
+-- what is taken behind receipts whose messages follow each other, follows them
+next_more : (last : ℕ) (xs ys : List Receipt) → AreNext last xs → AreNext (taken_after last xs) ys
+    → AreNext last (xs ++ ys)
+next_more last [] ys h k = k
+next_more last (x ∷ xs) ys h k = (h.0, next_more (taken_by last x.line.event) xs ys h.1 k)
 
-abbrev IsHead : ℕ → PartnerMessage → List PartnerMessage → Type 0
-IsHead last m rest = (last < m.serial) × ((more : List PartnerMessage) × (rest ≡ newer_from m.serial more))
+pub next_on : (old all first second : List Receipt) → all ≡ old ++ first → AreNext (last_taken old) first
+    → AreNext (last_taken all) second → AreNext (last_taken old) (first ++ second)
+next_on old all first second added h k =
+    let last : last_taken all ≡ taken_after (last_taken old) first =
+    ap (λ rs. taken_after 0 rs) added ∙ taken_after-append 0 old first in
+    next_more (last_taken old) first second h (subst (λ n. AreNext n second) last k)
 
-head_by : (last : ℕ) (x m : PartnerMessage) (xs rest : List PartnerMessage) (t : Bool) → nat_lt last x.serial ≡ t
-    → (newer_from last xs ≡ m ∷ rest → IsHead last m rest)
-    → cond t (x ∷ newer_from x.serial xs) (newer_from last xs) ≡ m ∷ rest → IsHead last m rest
-head_by last x m xs rest true at later is =
-    let head : x ≡ m = cc in
-    let tail : newer_from x.serial xs ≡ rest = cc in (
-      subst (λ y. last < y.serial) head (ltb-true last x.serial at),
-      (xs, sym tail ∙ ap (λ y. newer_from y.serial xs) head),
-    )
-head_by last x m xs rest false at later is = later is
-
-newer_head : (last : ℕ) (heard : List PartnerMessage) (m : PartnerMessage) (rest : List PartnerMessage)
-    → newer_from last heard ≡ m ∷ rest → IsHead last m rest
-newer_head last [] m rest is = absurd cc
-newer_head last (x ∷ xs) m rest is =
-    head_by last x m xs rest (nat_lt last x.serial) refl (newer_head last xs m rest) is
-
-event_newer : (last : ℕ) (heard : List PartnerMessage) (rs : List Receipt)
-    → ((l : ℕ) (h : List PartnerMessage) → takes_of rs ≡ newer_from l h → AreNewer l rs)
-    → (e : Event) → cons_option (take_in e) (takes_of rs) ≡ newer_from last heard
-    → IsNewer last e × AreNewer (taken_by last e) rs
-event_newer last heard rs rest (Take m) is =
-    let head = newer_head last heard m (takes_of rs) (sym is) in
-    (head.0, rest m.serial head.1.0 head.1.1)
-event_newer last heard rs rest _ is = (tt, rest last heard is)
-
-pub are_newer : (last : ℕ) (heard : List PartnerMessage) (rs : List Receipt) → takes_of rs ≡ newer_from last heard
-    → AreNewer last rs
-are_newer last heard [] is = tt
-are_newer last heard (r ∷ rs) is = event_newer last heard rs (λ l h. are_newer l h rs) r.line.event is
+-- a line that takes no message
+pub other_next : (last : ℕ) (e : Event) → take_in e ≡ None → IsNext last e
+other_next last (Take m) none = absurd cc
+other_next last _ none = tt

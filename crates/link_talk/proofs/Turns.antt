@@ -9,13 +9,12 @@ use Rattle.locked_book.specs.declared.receipt.Receipt.{Receipt}
 use Rattle.link_talk.specs.declared.came.Came.{Came}
 use Rattle.link_talk.specs.declared.came.Came.TheVariants.{Octets, Nothing}
 use Rattle.link_talk.specs.declared.outbox.Handed.{Handed}
-use Rattle.link_talk.specs.Receipts.{last_taken, Goes}
+use Rattle.link_talk.specs.Receipts.{Goes}
 use Rattle.link_talk.specs.Handed.{said_of}
 use Rattle.link_talk.specs.Talking.{Says, Hears, HearsFront, messages_in, Met, Named}
 use Rattle.link_talk.specs.Turning.{Carries, AreMessages, IsTurn, IsWholeTurn}
 use Rattle.link_talk.proofs.Hearing.{hears_of, hears_on, hears_nothing}
 use Rattle.link_talk.proofs.Front.{none_of}
-use Rattle.link_talk.proofs.Taken.{are_newer}
 
 module _ (role : Role) (came : Came) (held : List ℕ) (x y : Met) (a b : List Receipt) (o p : List Handed) where
   -- no message was heard
@@ -80,17 +79,13 @@ module _ (role : Role) (came : Came) (held : List ℕ) (x y : Met) (last : ℕ) 
       → IsWholeTurn role came held rest x y a c o q
   whole_on rest h = (h.0, h.1, then_says h.0 h.2)
 
--- ---- no message was taken twice
+-- ---- no message was taken twice, or left out
 
 pub turn_goes : (role : Role) (came : Came) (held : List ℕ) (x y : Met) (a b : List Receipt) (o p : List Handed)
     → IsTurn role came held x y a b o p → Goes a b
 turn_goes role came held x y a b o p turn =
     let heard = turn.2.3 in
-    record {
-      added = heard.added;
-      all = heard.all;
-      newer = are_newer (last_taken a) turn.2.0 heard.added heard.takes;
-    }
+    record { added = heard.added; all = heard.all; next = heard.next }
 
 pub ruleset parts = (turn_refused, turn_silent, turn_heard, whole_silent, whole_heard, hears_nothing)
 

@@ -1,5 +1,5 @@
--- What the receipts of an end tell: the messages of the partner's that were taken, and that none was taken twice.
-use Rattle.std.specs.Prelude.{◌≡◌, ◌<◌, nat_lt, ℕ, ⊤, Option, Some, None, List, [], ◌∷◌, ◌++◌, if◌then◌else◌}
+-- What the receipts of an end tell: the messages of the partner's that were taken, none twice and none left out.
+use Rattle.std.specs.Prelude.{◌≡◌, ◌+◌, nat_lt, ℕ, ⊤, Option, Some, None, List, [], ◌∷◌, ◌++◌, if◌then◌else◌}
 use Rattle.std.specs.List.{filter_map}
 use Rattle.binding_rules.specs.declared.message.PartnerMessage.{PartnerMessage}
 use Rattle.journal_lines.specs.declared.event.Event.{Event}
@@ -24,20 +24,20 @@ taken_after last (r ∷ rs) = taken_after (taken_by last r.line.event) rs
 abbrev pub last_taken : List Receipt → ℕ
 last_taken receipts = taken_after 0 receipts
 
--- if the event takes a message, it is newer than the last one
-abbrev pub IsNewer : ℕ → Event → Type 0
-IsNewer last (Take message) = last < message.serial
-IsNewer last _ = ⊤
+-- if the event takes a message, its serial is the next behind the last one's
+abbrev pub IsNext : ℕ → Event → Type 0
+IsNext last (Take message) = message.serial ≡ last + 1
+IsNext last _ = ⊤
 
-abbrev pub AreNewer : ℕ → List Receipt → Type 0
-AreNewer last [] = ⊤
-AreNewer last (r ∷ rs) = IsNewer last r.line.event × AreNewer (taken_by last r.line.event) rs
+abbrev pub AreNext : ℕ → List Receipt → Type 0
+AreNext last [] = ⊤
+AreNext last (r ∷ rs) = IsNext last r.line.event × AreNext (taken_by last r.line.event) rs
 
--- receipts were added and no other changed, and each message that was taken is newer than those before
+-- receipts were added and no other changed, and the serial of each message that was taken is the next
 pub record Goes (old new : List Receipt) : Type 0 where
   pub added : List Receipt
   pub all : new ≡ old ++ added
-  pub newer : AreNewer (last_taken old) added
+  pub next : AreNext (last_taken old) added
 
 -- any order but that a message is taken
 abbrev pub IsOther : Order → Type 0

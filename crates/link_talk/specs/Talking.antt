@@ -8,16 +8,17 @@ use Rattle.locked_book.specs.declared.receipt.Receipt.{Receipt}
 use Rattle.link_talk.specs.declared.outbox.Handed.{Handed}
 use Rattle.link_talk.specs.declared.stage.Stage.{Stage}
 use Rattle.link_talk.specs.declared.stage.Stage.TheVariants.{Greeting, Refused as IsRefused, Joined, Ended}
-use Rattle.link_talk.specs.Receipts.{last_taken, takes_of, newer_from}
+use Rattle.link_talk.specs.Receipts.{last_taken, AreNext, takes_of, newer_from}
 use Rattle.link_talk.specs.Handed.{Said, said_of, sends_of, sends_above, answer}
 use Rattle.link_talk.specs.Messages.{message_in}
 
--- Lines were added. Of the messages that were heard they take those that are newer than all before; and what they send
--- was handed out, in their order, and no other message.
+-- Lines were added. Of the messages that were heard they take those that are newer than all before, each the next by
+-- its serial; and what they send was handed out, in their order, and no other message.
 pub record Takes (heard : List PartnerMessage) (had has : List Receipt) (was is : List Handed) : Type 0 where
   pub added : List Receipt
   pub all : has ≡ had ++ added
   pub takes : takes_of added ≡ newer_from (last_taken had) heard
+  pub next : AreNext (last_taken had) added
   pub sends : said_of is ≡ said_of was ++ sends_of added
 
 -- the same, but that no message was heard
@@ -70,14 +71,16 @@ abbrev pub IsUnnamed : Met → Type 0
 IsUnnamed (Named last) = ⊥
 IsUnnamed _ = ⊤
 
--- Lines were added. Of the messages that were heard they take those that are newer than all before. Where the partner
--- was met, its answer and what was sent above the serial that it named was handed out first; then what the lines send,
--- in their order; and no other greeting and no other message. Before it named a serial, no line was added.
+-- Lines were added. Of the messages that were heard they take those that are newer than all before, each the next by
+-- its serial. Where the partner was met, its answer and what was sent above the serial that it named was handed out
+-- first; then what the lines send, in their order; and no other greeting and no other message. Before it named a
+-- serial, no line was added.
 pub record Hears (role : Role) (heard : List PartnerMessage) (before after : Met) (had has : List Receipt)
     (was is : List Handed) : Type 0 where
   pub added : List Receipt
   pub all : has ≡ had ++ added
   pub takes : takes_of added ≡ newer_from (last_taken had) heard
+  pub next : AreNext (last_taken had) added
   pub sends : said_of is ≡ said_of was ++ first_said role before after had ++ sends_of added
   pub stays : Stays before after
   pub silent : IsUnnamed after → added ≡ []

@@ -1,6 +1,6 @@
 //! One end of the link, and what it orders.
 
-ghost use Rattle.std.specs.Prelude.{◌≡◌, ◌<◌, ◌++◌, ◌∷◌, [], IfOk, OnOk, OnErr};
+ghost use Rattle.std.specs.Prelude.{◌≡◌, ◌+◌, ◌++◌, ◌∷◌, [], IfOk, OnOk, OnErr};
 ghost use Rattle.journal_lines.specs.declared.event.Event.TheVariants.{Take};
 ghost use Rattle.locked_book.specs.declared.receipt.Receipt.{Receipt as ReceiptValue};
 ghost use Rattle.link_talk.specs.Receipts.{IsOther, last_taken};
@@ -78,7 +78,7 @@ impl<'a, B: PairBook> End<'a, B> {
         pass: &mut B::Pass,
         message: &PartnerMessage,
     ) -> Result<bool, TalkError>
-        requires { last_taken (B.Pass.receipts pass.old) < message.now.serial }
+        requires { message.now.serial ≡ last_taken (B.Pass.receipts pass.old) + 1 }
         ensures taken { OnOk result ((r : ReceiptValue) × (r.line.event ≡ Take message.now)
             × (B.Pass.receipts pass.new ≡ B.Pass.receipts pass.old ++ r ∷ [])) }
         ensures refused { OnErr result (B.Pass.receipts pass.new ≡ B.Pass.receipts pass.old) }

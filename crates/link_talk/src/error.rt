@@ -10,7 +10,8 @@ use thiserror::Error;
 /// Why a talk ended.
 #[derive(Clone, Copy, Debug, PartialEq, Eq, Error)]
 pub enum TalkError {
-    /// What came is no frame, or not one that may come there; or the partner has lost its journal.
+    /// What came is no frame, or not one that may come there; or a message whose serial isn't the next; or the partner
+    /// has lost its journal.
     #[error("the partner sent what may not come there")]
     Frame,
     /// The pass is a stranger to the book, or the book refuses a message of the partner's.

@@ -142,7 +142,8 @@ impl<'a, B: PairBook> End<'a, B> {
         }
     }
 
-    /// Takes a message, unless it was taken before.
+    /// Takes the next message. One that was taken before is passed over. `Frame` where the serial jumps: the partner
+    /// leaves none out, so a message was lost, or it isn't the partner's.
     #[tactic(auto, using(crate::proofs::Front::one_message))]
     fn take(
         &self,
@@ -155,8 +156,12 @@ impl<'a, B: PairBook> End<'a, B> {
         ensures taken { OnOk result (Takes (message.now ∷ []) (B.Pass.receipts pass.old) (B.Pass.receipts pass.new)
             duties.old.out.items duties.new.out.items) }
     {
-        if message.serial <= last_taken(pass.receipts()) {
+        let last = last_taken(pass.receipts());
+        if message.serial <= last {
             return Ok(());
+        }
+        if message.serial.number() > last.number() + 1 {
+            return Err(TalkError::Frame);
         }
         let is_accepted = self.take_in(pass, message)?;
         self.follow(pass, duties, &message.body, is_accepted)

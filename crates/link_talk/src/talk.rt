@@ -147,10 +147,11 @@ impl Talk {
     /// Takes what came by a read, and hands out what follows from it: the frames that `hand_out` gives, in their order.
     /// What was sent and taken it knows by the receipts of the pass, which is the same for each connection. However it
     /// ends, the lines that were added take exactly those of the messages that were heard which are newer than all
-    /// before; and what they send is handed out, in order, behind what was sent above the serial that the partner
-    /// named.
+    /// before, and each is the next by its serial; and what they send is handed out, in order, behind what was sent
+    /// above the serial that the partner named.
     ///
-    /// `Frame` where what came is no frame or not the one that comes there, or the partner has lost its journal;
+    /// `Frame` where what came is no frame or not the one that comes there, its serial jumps, or the partner has lost
+    /// its journal;
     /// `Serve` where the pass is a stranger to the book, or the book has no room for a message that came: were that
     /// passed over, a later one would be taken in its place, and this one lost. `Memory` where a growth was refused.
     /// Then the connection has to be ended, behind what was handed out. Any other refusal of the book is passed over.
@@ -164,7 +165,7 @@ impl Talk {
     ) -> Result<(), TalkError>
         ensures turn { IsTurn settings.now.role came.now self.old.held (met_at self.old.stage) (met_at self.new.stage)
             (B.Pass.receipts pass.old) (B.Pass.receipts pass.new) self.old.handed self.new.handed }
-        ensures newer { Goes (B.Pass.receipts pass.old) (B.Pass.receipts pass.new) }
+        ensures next { Goes (B.Pass.receipts pass.old) (B.Pass.receipts pass.new) }
         ensures whole { OnOk result (IsGoing self.new.stage → IsWholeTurn settings.now.role came.now self.old.held
             self.new.held (met_at self.old.stage) (met_at self.new.stage) (B.Pass.receipts pass.old)
             (B.Pass.receipts pass.new) self.old.handed self.new.handed) }

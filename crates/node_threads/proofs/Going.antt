@@ -9,9 +9,6 @@ use Rattle.journal_lines.specs.declared.event.Event.{Event}
 use Rattle.journal_lines.specs.declared.line.Journal.{Journal}
 use Rattle.book_state.specs.Book.{BookState}
 use Rattle.order_book.specs.declared.order.Order.{Order}
-use Rattle.order_book.specs.declared.order.Order.TheVariants.{Request, Renew, Release, Expire, Backup, Reclaim, Seize}
-use Rattle.order_book.specs.declared.order.Order.TheVariants.{SendUpdate, SendReply, SendContact, Take, State, Restart}
-use Rattle.order_book.specs.declared.order.Order.TheVariants.{Close}
 use Rattle.order_book.specs.declared.order.Asked.{Asked}
 use Rattle.server_book.specs.Messages.{order_by}
 use Rattle.order_book.specs.Named.{IsNamed}
@@ -19,56 +16,33 @@ use Rattle.order_book.specs.Replayed.{IsLegal, state_of}
 use Rattle.locked_book.specs.declared.error.ServeError.{ServeError}
 use Rattle.locked_book.specs.declared.receipt.Receipt.{Receipt}
 use Rattle.locked_book.specs.Serving.{PassState, IsPassServed, last_receipt}
-use Rattle.link_talk.specs.Receipts.{taken_by, taken_after, last_taken, IsNewer, AreNewer, Goes, IsOther}
+use Rattle.link_talk.specs.Receipts.{last_taken, IsNext, Goes, IsOther}
+use Rattle.link_talk.proofs.Saying.{other_takes}
+use Rattle.link_talk.proofs.Taken.{next_on, other_next}
 
 -- ---- lists
 
-taken_after-append : (last : ℕ) (xs ys : List Receipt) → taken_after last (xs ++ ys)
-    ≡ taken_after (taken_after last xs) ys
-taken_after-append last [] ys = refl
-taken_after-append last (x ∷ xs) ys = taken_after-append (taken_by last x.line.event) xs ys
-
-newer_more : (last : ℕ) (xs ys : List Receipt) → AreNewer last xs → AreNewer (taken_after last xs) ys
-    → AreNewer last (xs ++ ys)
-newer_more last [] ys h k = k
-newer_more last (x ∷ xs) ys h k = (h.0, newer_more (taken_by last x.line.event) xs ys h.1 k)
-
 pub goes_nowhere : (old new : List Receipt) → new ≡ old → Goes old new
-goes_nowhere old new same = record { added = []; all = same ∙ sym (append-nil old); newer = tt }
+goes_nowhere old new same = record { added = []; all = same ∙ sym (append-nil old); next = tt }
 
 pub goes_on : (a b c : List Receipt) → Goes a b → Goes b c → Goes a c
 goes_on a b c h k =
-    let last : taken_after 0 b ≡ taken_after (taken_after 0 a) h.added =
-    ap (λ rs. taken_after 0 rs) h.all ∙ taken_after-append 0 a h.added in
     record {
       added = h.added ++ k.added;
       all = k.all ∙ (ap (λ rs. rs ++ k.added) h.all ∙ append_assoc a h.added k.added);
-      newer = newer_more (last_taken a) h.added k.added h.newer (subst (λ n. AreNewer n k.added) last k.newer);
+      next = next_on a b h.added k.added h.all h.next k.next;
     }
 
 -- ---- orders
 
-pub other_newer : (b : BookState) (now : ℕ) (order : Order) (e : Event) (last : ℕ) → IsOther order
+pub named_next : (b : BookState) (now : ℕ) (order : Order) (e : Event) (last : ℕ) → IsOther order
     → IsNamed b now order e
-    → IsNewer last e
-other_newer b now (Request a) e last _ h = subst (λ x. IsNewer last x) (sym h.2) tt
-other_newer b now (Renew a) e last _ h = subst (λ x. IsNewer last x) (sym h.2) tt
-other_newer b now (Release a) e last _ h = subst (λ x. IsNewer last x) (sym h.2) tt
-other_newer b now (Expire p) e last _ h = subst (λ x. IsNewer last x) (sym h) tt
-other_newer b now (Backup p) e last _ h = subst (λ x. IsNewer last x) (sym h) tt
-other_newer b now (Reclaim p) e last _ h = subst (λ x. IsNewer last x) (sym h) tt
-other_newer b now (Seize p) e last _ h = subst (λ x. IsNewer last x) (sym h) tt
-other_newer b now (SendUpdate p) e last _ h = subst (λ x. IsNewer last x) (sym h.2) tt
-other_newer b now (SendReply p) e last _ h = subst (λ x. IsNewer last x) (sym h.2) tt
-other_newer b now SendContact e last _ h = subst (λ x. IsNewer last x) (sym h.3) tt
-other_newer b now (Take m) e last other h = absurd other
-other_newer b now (State word) e last _ h = subst (λ x. IsNewer last x) (sym h) tt
-other_newer b now Restart e last _ h = subst (λ x. IsNewer last x) (sym h) tt
-other_newer b now Close e last _ h = subst (λ x. IsNewer last x) (sym h) tt
+    → IsNext last e
+named_next b now order e last other h = other_next last e (other_takes b now order e other h)
 
-pub one_goes : (old new : List Receipt) (r : Receipt) → new ≡ old ++ r ∷ [] → IsNewer (last_taken old) r.line.event
+pub one_goes : (old new : List Receipt) (r : Receipt) → new ≡ old ++ r ∷ [] → IsNext (last_taken old) r.line.event
     → Goes old new
-one_goes old new r all newer = record { added = r ∷ []; all = all; newer = (newer, tt) }
+one_goes old new r all next = record { added = r ∷ []; all = all; next = (next, tt) }
 
 -- what an order does that isn't a take
 pub other_goes : (old new : PassState) (now : ℕ) (order : Order) (result : Result Receipt ServeError)
@@ -76,7 +50,7 @@ pub other_goes : (old new : PassState) (now : ℕ) (order : Order) (result : Res
     → IfOk result (λ r. (new.receipts ≡ old.receipts ++ r ∷ []) × (new.share ≡ old.share + 1))
     → OnErr result (new ≡ old) → IsOther order → Goes old.receipts new.receipts
 other_goes old new now order (Ok r) served accepted refused other =
-    one_goes old.receipts new.receipts r accepted.0 (other_newer (state_of served.0) r.line.reading order r.line.event
+    one_goes old.receipts new.receipts r accepted.0 (named_next (state_of served.0) r.line.reading order r.line.event
     (last_taken old.receipts) other served.2.1.line.named)
 other_goes old new now order (Err e) served accepted refused other =
     goes_nowhere old.receipts new.receipts (ap (λ p. p.receipts) refused)

@@ -26,7 +26,7 @@ use Rattle.client_service.specs.Serving.{IsOrderServed}
 use Rattle.client_service.specs.Telling.{ByLine, IsServedAs, IsOfferedAs, EndsAtOnce, Ends}
 use Rattle.client_service.specs.Answering.{order_for, AreTold, IsTold, IsSilent}
 use Rattle.link_talk.specs.Receipts.{last_taken, Goes, IsOther}
-use Rattle.node_threads.proofs.Going.{other_newer, one_goes, goes_nowhere, goes_on, by_kind}
+use Rattle.node_threads.proofs.Going.{named_next, one_goes, goes_nowhere, goes_on, by_kind}
 
 -- no receipt more
 none_more : (had added : List Receipt) → added ≡ [] → Goes had (had ++ added)
@@ -38,7 +38,7 @@ module _ (MayHave : List Receipt → Journal → Type 0) (now : ℕ) where
       → IsOrderServed MayHave now had order (Ok r) → Goes had (had ++ r ∷ [])
   one_served had order r other served =
       one_goes had (had ++ r ∷ []) r refl
-      (other_newer (state_of served.0) r.line.reading order r.line.event (last_taken had) other served.3.1.line.named)
+      (named_next (state_of served.0) r.line.reading order r.line.event (last_taken had) other served.3.1.line.named)
 
   by_line : (had : List Receipt) (order : Order) (added : List Receipt) (reply : Reply) → IsOther order
       → ByLine MayHave now had order added reply → Goes had (had ++ added)
