@@ -1,16 +1,15 @@
 -- What was told of files, and one file more.
-use Rattle.std.specs.Prelude.{◌≡◌, ℕ, ◌+◌, ◌<◌, ◌⊎◌, List, [], ◌∷◌, ◌++◌, Option, Some, None, slice_get, length}
+use Rattle.std.specs.Prelude.{◌≡◌, ℕ, ◌+◌, ◌<◌, ◌⊎◌, List, [], ◌∷◌, ◌++◌, Some, slice_get, length}
 use Rattle.std.proofs.Common.{zero, suc, arith, sym, ◌∙◌, ap, subst, inl, inr, refl}
 use Rattle.std.proofs.lemmas.Bool.{cases_lt}
 use Rattle.binding_rules.specs.declared.role.Role.{Role}
 use Rattle.binding_rules.specs.declared.role.Role.TheVariants.{Primary, Secondary}
-use Rattle.journal_archive.specs.declared.outline.Outline.{Outline}
 use Rattle.journal_archive.specs.declared.outline.Filed.{Filed}
 use Rattle.journal_archive.specs.Shelves.{IsShelfOf}
 use Rattle.archive_files.specs.declared.found.Found.TheVariants.{Volume}
 use Rattle.archive_files.specs.declared.cataloguing.PassedOver.{PassedOver}
 use Rattle.archive_files.specs.declared.cataloguing.Catalogue.{Catalogue}
-use Rattle.archive_files.specs.Found.{IsFound, found_by, outline_of}
+use Rattle.archive_files.specs.Found.{IsFound}
 use Rattle.archive_files.specs.Catalogues.{IsIn, IsKept, IsCatalogue}
 use Rattle.archive_files.specs.Telling.{AreTold}
 
@@ -29,16 +28,10 @@ in_last : {X : Type 0} (xs : List X) (x : X) → slice_get (xs ++ x ∷ []) (len
 in_last [] x = refl
 in_last (z ∷ zs) x = in_last zs x
 
-file_by : (file : ℕ) (v : Filed) (o : Option Outline) → Volume v ≡ found_by file o → v.file ≡ file
-file_by file v (Some o) h = let e : v ≡ record { file = file; outline = o } = cc in ap (λ (z : Filed). z.file) e
-file_by file v None h = absurd (cc)
-
 -- a volume that was found in a file says which
 in_its_file : (had : ℕ → List ℕ → Type 0) (file : ℕ) (v : Filed) → IsFound (had file) file (Volume v)
     → IsFound (had v.file) v.file (Volume v)
-in_its_file had file v found =
-    let e = file_by file v (outline_of found.1 (length found.0)) found.4 in
-    subst (λ n. IsFound (had n) n (Volume v)) (sym e) found
+in_its_file had file v found = subst (λ n. IsFound (had n) n (Volume v)) (sym found.0) found
 
 less_or : (count k : ℕ) → k < count + 1 → (k < count) ⊎ (k ≡ count)
 less_or count k lt = elim (cases_lt k count) [ inl a ↦ inl a | inr b ↦ inr (omega arith) ]

@@ -1,37 +1,42 @@
 -- What a file is.
-use Rattle.std.specs.Prelude.{◌≡◌, ℕ, ◌-◌, ⊤, List, Option, Some, None, Ok, Err, length, slice_get}
-use Rattle.journal_lines.specs.Head.{volume_number}
-use Rattle.journal_lines.specs.declared.line.Line.{Line}
-use Rattle.open_volume.specs.declared.volume.Phase.{Phase}
-use Rattle.open_volume.specs.declared.volume.Phase.TheVariants.{GoingOn}
+use Rattle.std.specs.Prelude.{◌≡◌, ℕ, ◌⊎◌, ⊤, List, Option, Some, None, Ok, Err, length}
 use Rattle.open_volume.specs.declared.volume.VolumeSoFar.{VolumeSoFar}
 use Rattle.open_volume.specs.Faults.{volume_of}
-use Rattle.journal_archive.specs.declared.outline.Ending.{Ending}
-use Rattle.journal_archive.specs.declared.outline.Ending.TheVariants.{Closed, GoesOn}
 use Rattle.journal_archive.specs.declared.outline.Outline.{Outline}
 use Rattle.journal_copy.specs.Copies.{before_zero, whole_lines}
+use Rattle.volume_edges.specs.declared.end.FileEnd.{FileEnd}
+use Rattle.volume_edges.specs.Beginning.{IsHeaded}
+use Rattle.volume_edges.specs.Outlining.{outline_of, outline_by}
+use Rattle.archive_files.specs.Parts.{IsBeginning, IsEnd}
+use Rattle.archive_files.specs.declared.found.Glimpse.{Glimpse}
+use Rattle.archive_files.specs.declared.found.Glimpse.TheVariants.{Volume as IsVolume, NoJournal as IsNone, Unclear}
 use Rattle.archive_files.specs.declared.found.Found.{Found}
-use Rattle.archive_files.specs.declared.found.Found.TheVariants.{Volume, Unwritten, Faulty, Unreadable}
+use Rattle.archive_files.specs.declared.found.Found.TheVariants.{Volume, Unwritten, NoJournal, Faulty, Unreadable}
 
-abbrev pub ending_of : Phase → Ending
-ending_of GoingOn = GoesOn
-ending_of _ = Closed
+-- the volume that a copy with these octets has
+abbrev pub Has : List ℕ → VolumeSoFar → Type 0
+Has octets v = volume_of (whole_lines (before_zero octets)) ≡ Ok v
 
-abbrev pub outline_by : VolumeSoFar → ℕ → Option Line → Option Line → Option Outline
-outline_by v octets (Some first) (Some last) = Some (record {
-  side = v.journal.role;
-  number = volume_number v.journal.head;
-  opened = first.reading;
-  last = last.reading;
-  ending = ending_of v.phase;
-  octets = octets;
-})
-outline_by v octets _ _ = None
+-- its edges, of two moments perhaps, tell this outline
+abbrev pub IsToldByEdges : (List ℕ → Type 0) → Outline → Type 0
+IsToldByEdges had outline =
+    (beginning : List ℕ) × (end : FileEnd) × IsBeginning had beginning × IsEnd had end
+    × (outline_by beginning end ≡ Some outline)
 
--- the outline of a volume, by its first line and its last
-abbrev pub outline_of : VolumeSoFar → ℕ → Option Outline
-outline_of v octets =
-    outline_by v octets (slice_get v.journal.lines 0) (slice_get v.journal.lines (length v.journal.lines - 1))
+-- all of its octets tell it
+abbrev pub IsToldByAll : (List ℕ → Type 0) → Option Outline → Type 0
+IsToldByAll had outline =
+    (octets : List ℕ) × (v : VolumeSoFar) × had octets × Has octets v × (outline_of v (length octets) ≡ outline)
+
+-- the file begins with a line that is no journal's, or with none
+abbrev pub BeginsAsNone : (List ℕ → Type 0) → Type 0
+BeginsAsNone had = (beginning : List ℕ) × IsBeginning had beginning × (IsHeaded beginning → ⊥)
+
+-- what the edges of a file tell
+abbrev pub IsGlimpsed : (List ℕ → Type 0) → Glimpse → Type 0
+IsGlimpsed had (IsVolume outline) = IsToldByEdges had outline
+IsGlimpsed had IsNone = BeginsAsNone had
+IsGlimpsed had Unclear = ⊤
 
 abbrev pub found_by : ℕ → Option Outline → Found
 found_by file (Some outline) = Volume (record { file = file; outline = outline })
@@ -40,14 +45,12 @@ found_by file None = Unwritten
 abbrev pub found_in : (file octets : ℕ) → VolumeSoFar → Found
 found_in file octets v = found_by file (outline_of v octets)
 
--- the volume that a copy with these octets has
-abbrev pub Has : List ℕ → VolumeSoFar → Type 0
-Has octets v = volume_of (whole_lines (before_zero octets)) ≡ Ok v
-
 -- the file, which had some octets when it was read, is this
 abbrev pub IsFound : (List ℕ → Type 0) → (file : ℕ) → Found → Type 0
-IsFound had file Unreadable = ⊤
+IsFound had file (Volume f) =
+    (f.file ≡ file) × (IsToldByEdges had f.outline ⊎ IsToldByAll had (Some f.outline))
+IsFound had file Unwritten = IsToldByAll had None
+IsFound had file NoJournal = BeginsAsNone had
 IsFound had file (Faulty fault) =
     (octets : List ℕ) × had octets × (volume_of (whole_lines (before_zero octets)) ≡ Err fault)
-IsFound had file found =
-    (octets : List ℕ) × (v : VolumeSoFar) × had octets × Has octets v × (found ≡ found_in file (length octets) v)
+IsFound had file Unreadable = ⊤

@@ -1,3 +1,4 @@
+pub mod Parts
 pub mod Found
 pub mod Catalogues
 pub mod Showing

@@ -1,8 +1,8 @@
 -- What files show of a moment.
-use Rattle.std.specs.Prelude.{◌≡◌, ◌≢◌, ℕ, List, []}
-use Rattle.journal_lines.specs.Head.{volume_number}
+use Rattle.std.specs.Prelude.{◌≡◌, ◌≢◌, ◌≤◌, ℕ, List, [], Some, length}
 use Rattle.journal_text.specs.Closed.{IsClosed}
 use Rattle.open_volume.specs.declared.volume.VolumeSoFar.{VolumeSoFar}
+use Rattle.journal_archive.specs.declared.outline.Outline.{Outline}
 use Rattle.journal_archive.specs.declared.outline.Filed.{Filed}
 use Rattle.journal_archive.specs.declared.answer.Pair.{Pair}
 use Rattle.journal_archive.specs.declared.answer.Answer.TheVariants.{Shown as IsPair, Lacking as IsLacking}
@@ -10,17 +10,26 @@ use Rattle.journal_archive.specs.Answers.{IsAnswer}
 use Rattle.journal_archive.specs.declared.archive.Archive.{Archive}
 use Rattle.journal_copy.specs.declared.pair.ShownPair.{ShownPair}
 use Rattle.journal_copy.specs.Shown.{shown_pair}
+use Rattle.volume_edges.specs.Outlining.{outline_of}
 use Rattle.archive_files.specs.declared.showing.Shown.{Shown}
 use Rattle.archive_files.specs.declared.showing.Shown.TheVariants.{Journals, Lacking}
 use Rattle.archive_files.specs.Found.{Has}
 
--- it's the side's volume of that number
-abbrev pub IsOf : VolumeSoFar → Filed → Type 0
-IsOf v filed = (v.journal.role ≡ filed.outline.side) × (volume_number v.journal.head ≡ filed.outline.number)
+-- the later outline is of the same volume, which has grown or stayed as it was
+pub record HasGrown (before later : Outline) : Type 0 where
+  pub side : before.side ≡ later.side
+  pub number : before.number ≡ later.number
+  pub opened : before.opened ≡ later.opened
+  pub last : before.last ≤ later.last
+  pub octets : before.octets ≤ later.octets
+
+-- a volume of so many octets is what was filed, or what that has grown to
+abbrev pub IsOf : VolumeSoFar → (octets : ℕ) → Filed → Type 0
+IsOf v octets filed = (now : Outline) × (outline_of v octets ≡ Some now) × HasGrown filed.outline now
 
 -- a copy of that volume, of octets that its file had
 abbrev pub IsCopyOf : (List ℕ → Type 0) → Filed → VolumeSoFar → Type 0
-IsCopyOf had filed v = (octets : List ℕ) × had octets × Has octets v × IsOf v filed
+IsCopyOf had filed v = (octets : List ℕ) × had octets × Has octets v × IsOf v (length octets) filed
 
 -- the two journals that copies of both volumes show
 abbrev pub IsShown : (ℕ → List ℕ → Type 0) → Pair → ShownPair → Type 0

@@ -4,6 +4,7 @@ ghost use Rattle.std.specs.Prelude.{◌≡◌};
 ghost use Rattle.archive_files.specs.declared.error.FilesError.TheVariants.{Memory, Archive};
 
 use journal_archive::ArchiveError;
+use journal_copy::JournalFault;
 use std::alloc::{AllocError, AllocFailed};
 use thiserror::Error;
 
@@ -13,9 +14,12 @@ pub enum FilesError {
     /// Their volumes can't be of one pair of servers.
     #[error("{0}")]
     Archive(ArchiveError),
-    /// This file couldn't be read again, or is no journal any longer.
+    /// This file couldn't be read again, or has another volume now, or less of it.
     #[error("file {file} isn't what it was")]
     Changed { file: usize },
+    /// This file has this fault, its first, which its edges don't show.
+    #[error("file {file}: {fault}")]
+    Faulty { file: usize, fault: JournalFault },
     /// A growth was refused.
     #[error("out of memory")]
     Memory,

@@ -1,8 +1,10 @@
 //! Files that may be journals.
 
 ghost use Rattle.std.specs.Prelude.{◌≡◌, ℕ, List, IfOk};
+ghost use Rattle.archive_files.specs.Parts.{IsBeginning, IsEnd};
 
 use std::alloc::Global;
+use volume_edges::FileEnd;
 
 /// Why a file wasn't read.
 #[derive(Clone, Copy, Debug, PartialEq, Eq)]
@@ -13,7 +15,7 @@ pub enum Unreadable {
     Memory,
 }
 
-/// Files that can be read whole, by their counts from 0.
+/// Files that can be read whole or at their edges, by their counts from 0.
 pub trait JournalFiles {
     /// That the file had these octets when it was read.
     ghost had: { Self → ℕ → List ℕ → Type 0 };
@@ -28,4 +30,12 @@ pub trait JournalFiles {
     /// All octets of a file, as it has them now.
     fn read(&self, alloc: Global, file: usize) -> Result<Vec<u8>, Unreadable>
         ensures { IfOk result (λ octets. had self.now file octets.items) };
+
+    /// The first octets of a file, as it has them now: so many, or all where it has fewer.
+    fn beginning(&self, alloc: Global, file: usize, octets: u32) -> Result<Vec<u8>, Unreadable>
+        ensures { IfOk result (λ beginning. IsBeginning (had self.now file) beginning.items) };
+
+    /// The last octets of a file, as it has them now: so many, or all where it has fewer.
+    fn end(&self, alloc: Global, file: usize, octets: u32) -> Result<FileEnd, Unreadable>
+        ensures { IfOk result (IsEnd (had self.now file)) };
 }

@@ -1,9 +1,14 @@
 //! Which journals of some files answer a question, whatever device has the files.
 //!
-//! [`catalogue_of`] reads each file once and says what it is: the outline of a volume, for the archive, or why it's
-//! passed over. [`shown_at`] chooses the pair of volumes that shows a moment, reads these two, and gives the two
-//! journals that they show; or it says what is lacking. The contracts speak of octets that a file had when it was read
+//! [`catalogue_of`] looks at the edges of each file and says what it is: the outline of a volume, for the archive, or
+//! why it's passed over. Only where the edges don't tell is a file read whole. [`shown_at`] chooses the pair of volumes
+//! that shows a moment, reads these two whole, and gives the two journals that they show, or says what is lacking; a
+//! file that isn't what its edges said is refused there. The contracts speak of octets that a file had when it was read
 //! (`had` of [`JournalFiles`]): a file that a server writes on may have others each time.
+//!
+//! Two files with one volume of a side count once where their outlines are the same: first and last reading, octets,
+//! and whether it's closed. Where these differ nothing is answered (`ArchiveError::Differ`): what stands between isn't
+//! compared.
 //!
 //! ```text
 //! let catalogue = catalogue_of(alloc, &files)?;
@@ -29,3 +34,4 @@ pub use found::Found;
 pub use laws::what_is_shown_is_what_is_asked;
 pub use reaching::shown_until;
 pub use showing::{Shown, shown_at};
+pub use volume_edges::FileEnd;

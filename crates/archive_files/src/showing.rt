@@ -2,15 +2,16 @@
 
 ghost use Rattle.std.specs.Prelude.{◌↔◌, IsTrue, IfOk};
 ghost use Rattle.open_volume.specs.Spelling.{IsWrittenSoFar};
-ghost use Rattle.archive_files.specs.Showing.{IsOf, IsCopyOf, IsShown, IsShownAt, AreClosed};
+ghost use Rattle.archive_files.specs.Showing.{HasGrown, IsOf, IsCopyOf, IsShown, IsShownAt, AreClosed};
 
 use crate::error::FilesError;
 use crate::files::{JournalFiles, Unreadable};
 use binding_rules::Role;
-use journal_archive::{Answer, Archive, Filed, Lack, Pair};
+use journal_archive::{Answer, Archive, Filed, Lack, Outline, Pair};
 use journal_copy::{JournalError, ShownPair, VolumeSoFar, read_copy, show_pair};
 use lead_time::{Skew, Transit};
 use std::alloc::Global;
+use volume_edges::outline_of;
 
 /// What files show of a moment.
 #[derive(Debug, Drop)]
@@ -21,7 +22,8 @@ pub enum Shown {
     Lacking(Role, Lack),
 }
 
-/// The volume that its file has now: the same one, perhaps longer. `Changed` where it's none or another.
+/// The volume that a file has now: the one that was filed, perhaps longer. `Changed` where it's another or can't be read,
+/// `Faulty` where it's none.
 fn read_again<F: JournalFiles>(
     alloc: Global,
     files: &F,
@@ -30,29 +32,43 @@ fn read_again<F: JournalFiles>(
     ensures copy { IfOk result (IsCopyOf (F.had files.now filed.now.file) filed.now) }
     ensures written { IfOk result IsWrittenSoFar }
 {
-    let changed = FilesError::Changed { file: filed.file };
-    let octets = match files.read(alloc, filed.file) {
+    let file = filed.file;
+    let octets = match files.read(alloc, file) {
         Ok(octets) => octets,
-        Err(Unreadable::Device) => return Err(changed),
+        Err(Unreadable::Device) => return Err(FilesError::Changed { file }),
         Err(Unreadable::Memory) => return Err(FilesError::Memory),
     };
     let volume = match read_copy(alloc, &octets) {
         Ok(copied) => copied.volume,
-        Err(JournalError::Fault(_)) => return Err(changed),
+        Err(JournalError::Fault(fault)) => return Err(FilesError::Faulty { file, fault }),
         Err(JournalError::Memory) => return Err(FilesError::Memory),
     };
-    if is_of(&volume, filed) {
+    if is_of(&volume, octets.len() as u64, filed) {
         Ok(volume)
     } else {
-        Err(changed)
+        Err(FilesError::Changed { file })
     }
 }
 
-fn is_of(volume: &VolumeSoFar, filed: &Filed) -> bool
-    ensures { IsTrue result ↔ IsOf volume.now filed.now }
+/// Returns whether a volume of so many octets is what was filed, or what that has grown to.
+fn is_of(volume: &VolumeSoFar, octets: u64, filed: &Filed) -> bool
+    ensures { IsTrue result ↔ IsOf volume.now octets filed.now }
 {
-    volume.journal.role == filed.outline.side
-        && volume.journal.head.volume() == filed.outline.number
+    match outline_of(volume, octets) {
+        Some(outline) => has_grown(&filed.outline, &outline),
+        None => false,
+    }
+}
+
+/// Returns whether the later outline is of the same volume, which has grown or stayed as it was.
+fn has_grown(before: &Outline, later: &Outline) -> bool
+    ensures { IsTrue result ↔ HasGrown before.now later.now }
+{
+    before.side == later.side
+        && before.number == later.number
+        && before.opened == later.opened
+        && before.last <= later.last
+        && before.octets <= later.octets
 }
 
 /// The journals that a pair of volumes shows, by what their files have now.
@@ -66,8 +82,9 @@ fn shown_by<F: JournalFiles>(alloc: Global, files: &F, pair: &Pair) -> Result<Sh
     Ok(shown)
 }
 
-/// The two journals that the files show of a moment in milliseconds of true time, or what is lacking. `Changed` where a
-/// file isn't what the archive knows of it, `Memory` where a growth was refused.
+/// The two journals that the files show of a moment in milliseconds of true time, or what is lacking. The two files are
+/// read whole: `Changed` where one isn't what the archive knows of it, `Faulty` where it's no journal, `Memory` where a
+/// growth was refused.
 pub fn shown_at<F: JournalFiles>(
     alloc: Global,
     files: &F,

@@ -2,7 +2,7 @@
 
 ghost use Rattle.std.specs.Prelude.{⊤, length};
 
-use archive_files::{Found, JournalFiles, Shown, Unreadable, catalogue_of, shown_at};
+use archive_files::{FileEnd, Found, JournalFiles, Shown, Unreadable, catalogue_of, shown_at};
 use journal_lines::Journal;
 use journal_text::write;
 use lead_time::{Skew, Transit};
@@ -27,6 +27,19 @@ impl JournalFiles for Texts<'_> {
     fn read(&self, alloc: Global, file: usize) -> Result<Vec<u8>, Unreadable> {
         let text = self.texts.get(file).ok_or(Unreadable::Device)?;
         Vec::from_slice(alloc, text.as_bytes()).map_err(|_| Unreadable::Memory)
+    }
+
+    fn beginning(&self, alloc: Global, file: usize, _octets: u32) -> Result<Vec<u8>, Unreadable> {
+        let text = self.texts.get(file).ok_or(Unreadable::Device)?;
+        Vec::from_slice(alloc, text.as_bytes()).map_err(|_| Unreadable::Memory)
+    }
+
+    #[tactic(auto, using(archive_files::proofs::AnyParts::any_end))]
+    fn end(&self, alloc: Global, file: usize, _octets: u32) -> Result<FileEnd, Unreadable> {
+        let text = self.texts.get(file).ok_or(Unreadable::Device)?;
+        let octets = Vec::from_slice(alloc, text.as_bytes()).map_err(|_| Unreadable::Memory)?;
+        let size = octets.len() as u64;
+        Ok(FileEnd { size, octets })
     }
 }
 
@@ -77,7 +90,7 @@ fn shows_two_copies_as_far_as_each_bears_out_the_other(rt: HostRuntime) -> Resul
     let skew = Skew::new(500)?;
     let catalogue = catalogue_of(rt.alloc(), &texts)?;
     assert_eq!(rt; catalogue.passed_over.len(), 2);
-    assert!(rt; matches!(catalogue.passed_over[1].found, Found::Faulty(_)));
+    assert!(rt; matches!(catalogue.passed_over[1].found, Found::NoJournal));
     let shown = shown_at(
         rt.alloc(),
         &texts,

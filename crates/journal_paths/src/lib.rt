@@ -1,7 +1,7 @@
 //! Files of journals at paths of the operating system.
 //!
 //! `JournalPaths` are the files that paths name, of a directory those in it and none deeper, for `archive_files` to
-//! read. What the system answers has no meaning in a contract.
+//! read, whole or at their edges. What the system answers has no meaning in a contract.
 //!
 //! ```text
 //! let files = JournalPaths::at(&rt, &words)?;
@@ -9,12 +9,12 @@
 //! ```
 #![tactic(auto)]
 
-ghost use Rattle.std.specs.Prelude.{⊤, length};
+ghost use Rattle.std.specs.Prelude.{◌≤◌, ⊤, length, IfOk};
 
-use archive_files::{JournalFiles, Unreadable};
+use archive_files::{FileEnd, JournalFiles, Unreadable};
 use std::alloc::Global;
-use std::fs;
-use std::io::{self, ErrorKind};
+use std::fs::{self, File};
+use std::io::{self, Error, ErrorKind, Read, Seek, SeekFrom};
 use std::path::{Path, PathBuf};
 
 /// Files at paths, by their counts.
@@ -70,6 +70,41 @@ impl<'a> JournalPaths<'a> {
     }
 }
 
+fn unreadable(error: &Error) -> Unreadable {
+    match error.kind() {
+        ErrorKind::OutOfMemory => Unreadable::Memory,
+        _ => Unreadable::Device,
+    }
+}
+
+/// So many octets from where a file stands, or all where fewer are left.
+fn read_some(alloc: Global, file: &mut File, octets: u32) -> io::Result<Vec<u8>> {
+    let mut some = Vec::new(alloc);
+    file.take(u64::from(octets)).read_to_end(&mut some)?;
+    Ok(some)
+}
+
+fn read_beginning(rt: &HostRuntime, path: Path<'_>, octets: u32) -> io::Result<Vec<u8>> {
+    let mut file = File::open(rt, path)?;
+    read_some(rt.alloc(), &mut file, octets)
+}
+
+/// The last octets of a file, and how many it had by the time that they were read.
+fn read_end(rt: &HostRuntime, path: Path<'_>, octets: u32) -> io::Result<FileEnd>
+    ensures { IfOk result (λ end. length end.octets.items ≤ end.size) }
+{
+    let mut file = File::open(rt, path)?;
+    let from = file
+        .seek(SeekFrom::End(0))?
+        .saturating_sub(u64::from(octets));
+    file.seek(SeekFrom::Start(from))?;
+    let last = read_some(rt.alloc(), &mut file, octets)?;
+    match from.checked_add(last.len() as u64) {
+        Some(size) => Ok(FileEnd { size, octets: last }),
+        None => Err(Error::from(ErrorKind::FileTooLarge)),
+    }
+}
+
 impl JournalFiles for JournalPaths<'_> {
     ghost had = { λ s file octets. ⊤ };
 
@@ -83,8 +118,24 @@ impl JournalFiles for JournalPaths<'_> {
         let path = self.path(file).ok_or(Unreadable::Device)?;
         match fs::read(self.rt, path) {
             Ok(octets) => Ok(octets),
-            Err(error) if error.kind() == ErrorKind::OutOfMemory => Err(Unreadable::Memory),
-            Err(_) => Err(Unreadable::Device),
+            Err(error) => Err(unreadable(&error)),
+        }
+    }
+
+    fn beginning(&self, _alloc: Global, file: usize, octets: u32) -> Result<Vec<u8>, Unreadable> {
+        let path = self.path(file).ok_or(Unreadable::Device)?;
+        match read_beginning(self.rt, path, octets) {
+            Ok(beginning) => Ok(beginning),
+            Err(error) => Err(unreadable(&error)),
+        }
+    }
+
+    #[tactic(auto, using(archive_files::proofs::AnyParts::any_end))]
+    fn end(&self, _alloc: Global, file: usize, octets: u32) -> Result<FileEnd, Unreadable> {
+        let path = self.path(file).ok_or(Unreadable::Device)?;
+        match read_end(self.rt, path, octets) {
+            Ok(end) => Ok(end),
+            Err(error) => Err(unreadable(&error)),
         }
     }
 }

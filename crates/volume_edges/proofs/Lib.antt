@@ -1,0 +1,3 @@
+mod Edges
+mod LastLines
+pub mod Told

@@ -1,0 +1,4 @@
+pub mod Beginning
+pub mod End
+pub mod Outlining
+pub mod Laws
