@@ -2,3 +2,4 @@ pub mod Orders
 pub mod Messages
 pub mod Books
 pub mod Offers
+pub mod ToldAgain

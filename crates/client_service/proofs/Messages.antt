@@ -18,7 +18,7 @@ use Rattle.client_service.specs.Answering.{order_for, AreTold}
 use Rattle.client_service.specs.Ending.{EndsAt, AreFirstTold, IsCutShort}
 use Rattle.client_service.proofs.Orders.{last_number-append}
 
-take_next : {X : Type 0} (xs : List X) (i : ℕ) (x : X) → slice_get xs i ≡ Some x → take (suc i) xs ≡ take i xs ++ x ∷ []
+pub take_next : {X : Type 0} (xs : List X) (i : ℕ) (x : X) → slice_get xs i ≡ Some x → take (suc i) xs ≡ take i xs ++ x ∷ []
 take_next [] i x h = absurd cc
 take_next (y ∷ xs) zero x h = let same : y ≡ x = cc in ap (λ z. z ∷ []) same
 take_next (y ∷ xs) (suc i) x h = ap (λ zs. y ∷ zs) (take_next xs i x h)

@@ -22,6 +22,8 @@ use Rattle.server_book.specs.Messages.{answer_of}
 use Rattle.client_service.specs.declared.silence.Silence.{Silence}
 use Rattle.client_service.specs.declared.silence.Silence.TheVariants.{Refused, TooLong, Memory}
 use Rattle.client_service.specs.Answering.{order_for, AreTold, IsSilent}
+use Rattle.standing_lease.specs.declared.terms.RenewTerms.{RenewTerms}
+use Rattle.client_service.specs.Again.{IsAgain, AreAgain, latest}
 use Rattle.client_service.specs.declared.partner.Partner.{Partner}
 use Rattle.client_service.specs.declared.told.Told.{Told}
 use Rattle.client_service.specs.Lines.{last_number}
@@ -121,3 +123,31 @@ abbrev pub IsUnwritten : List ℕ → ClientMessage → List IaAnswer → Silenc
 IsUnwritten own m answers TooLong = MAX_OCTETS < length (message_octets (answer_of m own answers))
 IsUnwritten own m answers Memory = ⊤
 IsUnwritten own m answers why = ⊥
+
+-- ---- without a line
+
+-- what is told of a refusal
+abbrev pub IsDenial : ServeError → IaAnswer → Type 0
+IsDenial (Book NoSuchBinding) answer = answer ≡ NoBinding
+IsDenial (Book NoPrefixLeft) answer = answer ≡ NoPrefix
+IsDenial _ answer = ⊥
+
+-- the IA_PD at a place is told this again
+abbrev pub IsAgainAt : (List Receipt → Journal → Type 0) → RenewTerms → ClientMessage → ℕ → ℕ → List Receipt
+    → IaAnswer → Option ℕ → Type 0
+IsAgainAt MayHave t m now place had answer number =
+    (ia : IaPd) × (slice_get m.ias place ≡ Some ia) × IsAgain MayHave t now had (order_for m ia) answer number
+
+-- the first so many IA_PDs are told this again, and the number is that of the last line that they are told by
+abbrev pub AreFirstAgain : (List Receipt → Journal → Type 0) → RenewTerms → ClientMessage → ℕ → ℕ → List Receipt
+    → List IaAnswer → Option ℕ → Type 0
+AreFirstAgain MayHave t m now count had answers line =
+    (numbers : List (Option ℕ)) × AreAgain MayHave t m now had (take count m.ias) answers numbers
+    × (line ≡ latest numbers)
+
+-- all of them
+abbrev pub AreAllAgain : (List Receipt → Journal → Type 0) → RenewTerms → ClientMessage → ℕ → List Receipt
+    → List IaAnswer → Option ℕ → Type 0
+AreAllAgain MayHave t m now had answers line =
+    (length answers ≡ length m.ias) × ((numbers : List (Option ℕ))
+    × AreAgain MayHave t m now had m.ias answers numbers × (line ≡ latest numbers))

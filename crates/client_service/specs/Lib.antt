@@ -2,4 +2,5 @@ pub mod Lines
 pub mod Serving
 pub mod Telling
 pub mod Answering
+pub mod Again
 pub mod Ending

@@ -1,6 +1,7 @@
 //! The answer to one message.
 
 ghost use Rattle.std.specs.Prelude.{◌≡◌, ◌≤◌, length, IfOk, IfErr, None};
+ghost use Rattle.client_service.specs.Again.{IsToldAgain};
 ghost use Rattle.dhcp6_pd.specs.declared.message.ClientKind.TheVariants.{Solicit};
 ghost use Rattle.client_service.specs.declared.partner.Partner.TheVariants.{Up};
 ghost use Rattle.dhcp6_pd.specs.Layout.{message_octets};
@@ -8,19 +9,21 @@ ghost use Rattle.server_book.specs.Messages.{answer_of};
 ghost use Rattle.client_service.specs.Answering.{IsTold, IsSilent};
 ghost use Rattle.client_service.specs.Ending.{IsUnwritten};
 
+use crate::again::all_again;
 use crate::hearing::all_told;
 use crate::partner::Partner;
 use crate::service::Service;
 use crate::silence::Silence;
 use client_id::Duid;
-use dhcp6_pd::{ClientMessage, PdError, encode};
+use dhcp6_pd::{ClientKind, ClientMessage, PdError, encode};
 use lead_time::Reading;
 use server_book::{IaAnswer, answer_of};
+use standing_lease::RenewTerms;
 use std::alloc::Global;
 use std::marker::Model;
 
 /// The answer to one message: its octets, the peer that they go to, and the number of the last line that they tell of.
-/// Only [`answer_to`] makes one.
+/// Only [`answer_to`] and [`answer_again`] make one.
 #[derive(Drop)]
 pub struct Answer<P> {
     octets: Vec<u8>,
@@ -112,6 +115,42 @@ pub fn answer_to<S: Service, P: Drop>(
     }
     let all = all_told(alloc, service, pass, partner, now, message)?;
     let octets = written(alloc, own, message, &all.answers)?;
+    Ok(Answer {
+        octets,
+        peer,
+        line: all.line,
+    })
+}
+
+/// Answers a client's message without a line, where each of its IA_PDs asks for what its client has by a line that may be
+/// told again by the terms, or is refused: the octets tell the first for the seconds that remain. Otherwise it gives the
+/// peer back, and the message is one for [`answer_to`]: a SOLICIT, a message of which an IA_PD needs a line, and any
+/// where a growth is refused.
+pub fn answer_again<S: Service, P: Drop>(
+    alloc: Global,
+    service: &S,
+    pass: &S::Pass,
+    own: &Duid,
+    partner: Partner,
+    terms: &RenewTerms,
+    now: Reading,
+    message: &ClientMessage,
+    peer: P,
+) -> Result<Answer<P>, P>
+    ensures told { IfOk result (λ a. IsToldAgain S.may_have terms.now own.now message.now now (S.receipts pass.now)
+        a.octets a.line) }
+    ensures back { IfOk result (λ a. a.peer ≡ peer) }
+    ensures unanswered { IfErr result (λ p. p ≡ peer) }
+{
+    if message.kind == ClientKind::Solicit || message.ias.as_slice().is_empty() {
+        return Err(peer);
+    }
+    let Some(all) = all_again(alloc, service, pass, partner, terms, now, message) else {
+        return Err(peer);
+    };
+    let Ok(octets) = written(alloc, own, message, &all.answers) else {
+        return Err(peer);
+    };
     Ok(Answer {
         octets,
         peer,

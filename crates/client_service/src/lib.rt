@@ -17,6 +17,7 @@
 //! ```
 #![tactic(auto)]
 
+mod again;
 mod alone;
 mod answer;
 mod hearing;
@@ -28,7 +29,7 @@ mod silence;
 mod told;
 
 pub use alone::Alone;
-pub use answer::{Answer, answer_to};
+pub use answer::{Answer, answer_again, answer_to};
 pub use partner::Partner;
 pub use service::Service;
 pub use shared::Shared;

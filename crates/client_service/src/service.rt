@@ -4,12 +4,13 @@ ghost use Rattle.std.specs.Prelude.{◌≡◌, ◌∷◌, ◌++◌, [], List, If
 ghost use Rattle.journal_lines.specs.declared.line.Journal.{Journal};
 ghost use Rattle.order_book.specs.Answer.{IsRequest};
 ghost use Rattle.locked_book.specs.declared.receipt.Receipt.{Receipt as ReceiptValue};
-ghost use Rattle.client_service.specs.Serving.{IsOrderServed, IsOfferMade, IsSeizableFound};
+ghost use Rattle.client_service.specs.Serving.{IsOrderServed, IsOfferMade, IsSeizableFound, IsRecalled};
 
 use lead_time::Reading;
 use locked_book::{Receipt, ServeError};
 use order_book::Order;
 use prefix_range::Prefix;
+use standing_lease::{RenewTerms, Standing};
 
 /// A server's book, that takes orders by a pass: [`Alone`](crate::Alone) is a book that nobody else serves, and
 /// [`Shared`](crate::Shared) one behind a lock.
@@ -53,4 +54,15 @@ pub trait Service {
     ) -> Result<Option<Prefix>, ServeError>
         ensures found { IsSeizableFound may_have now (receipts pass.old) result }
         ensures same { receipts pass.new ≡ receipts pass.old };
+
+    /// Returns what an order's client has by a line of the journal that may be told again, or the order's first
+    /// refusal; none where nothing is told again. It writes no line.
+    fn recall(
+        &self,
+        pass: &Self::Pass,
+        terms: &RenewTerms,
+        now: Reading,
+        order: &Order,
+    ) -> Result<Option<Standing>, ServeError>
+        ensures recalled { IsRecalled may_have terms.now now (receipts pass.now) order.now result };
 }

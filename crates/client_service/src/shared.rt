@@ -5,6 +5,7 @@ use lead_time::Reading;
 use locked_book::{BookName, Pass, Receipt, ServeError, SharedBook};
 use order_book::Order;
 use prefix_range::Prefix;
+use standing_lease::{RenewTerms, Standing};
 use std::sync::Wait;
 
 /// Serves a book behind a lock, by passes to it. Between two orders others may add lines: what is known of the journal
@@ -49,5 +50,16 @@ impl<N: BookName, R: Wait> Service for Shared<'_, N, R> {
             Ok(work) => Ok(work.seizable),
             Err(refusal) => Err(refusal),
         }
+    }
+
+    /// Nothing is told again of a book that many share.
+    fn recall(
+        &self,
+        _pass: &Pass<N>,
+        _terms: &RenewTerms,
+        _now: Reading,
+        _order: &Order,
+    ) -> Result<Option<Standing>, ServeError> {
+        Ok(None)
     }
 }

@@ -1,0 +1,64 @@
+-- What a client is told of its whole message without a line: what it has already, for the seconds that remain of it.
+use Rattle.std.specs.Prelude.{◌≡◌, ◌≢◌, ℕ, ⊤, max, List, [], ◌∷◌, Option, Some, None}
+use Rattle.dhcp6_pd.specs.declared.message.ClientKind.TheVariants.{Solicit}
+use Rattle.dhcp6_pd.specs.declared.message.ClientMessage.{ClientMessage}
+use Rattle.dhcp6_pd.specs.declared.message.IaPd.{IaPd}
+use Rattle.dhcp6_pd.specs.Layout.{message_octets}
+use Rattle.journal_lines.specs.declared.line.Journal.{Journal}
+use Rattle.order_book.specs.declared.order.Order.{Order}
+use Rattle.order_book.specs.declared.error.BookError.TheVariants.{NoPrefix as NoPrefixLeft, NoBinding as NoSuchBinding}
+use Rattle.server_book.specs.declared.messages.IaAnswer.{IaAnswer}
+use Rattle.server_book.specs.declared.messages.IaAnswer.TheVariants.{Given, NoPrefix, NoBinding}
+use Rattle.server_book.specs.Messages.{answer_of}
+use Rattle.locked_book.specs.declared.receipt.Receipt.{Receipt}
+use Rattle.standing_lease.specs.declared.terms.RenewTerms.{RenewTerms}
+use Rattle.standing_lease.specs.Standing.{IsStanding}
+use Rattle.client_service.specs.Serving.{AtBook}
+use Rattle.client_service.specs.Telling.{ByRefusal}
+use Rattle.client_service.specs.Answering.{order_for}
+
+-- ---- numbers of lines
+
+abbrev pub later : Option ℕ → Option ℕ → Option ℕ
+later (Some a) (Some b) = Some (max a b)
+later None b = b
+later (Some a) None = Some a
+
+-- the greatest of these and this one
+abbrev pub latest_with : Option ℕ → List (Option ℕ) → Option ℕ
+latest_with number [] = number
+latest_with number (n ∷ ns) = latest_with (later number n) ns
+
+-- the greatest; none where there is none
+abbrev pub latest : List (Option ℕ) → Option ℕ
+latest numbers = latest_with None numbers
+
+-- ---- what is told
+
+-- Of one IA_PD: what its client has by the line of this number, or the first refusal of its order.
+abbrev pub IsAgain : (List Receipt → Journal → Type 0) → RenewTerms → ℕ → List Receipt → Order → IaAnswer → Option ℕ
+    → Type 0
+IsAgain MayHave t now had order (Given p valid) (Some number) =
+    AtBook MayHave had (λ j. IsStanding j t now order (record { prefix = p; valid = valid; number = number }))
+IsAgain MayHave t now had order NoPrefix None = ByRefusal MayHave now had order [] NoPrefixLeft
+IsAgain MayHave t now had order NoBinding None = ByRefusal MayHave now had order [] NoSuchBinding
+IsAgain MayHave t now had order _ _ = ⊥
+
+-- each IA_PD in its order
+abbrev pub AreAgain : (List Receipt → Journal → Type 0) → RenewTerms → ClientMessage → ℕ → List Receipt → List IaPd
+    → List IaAnswer → List (Option ℕ) → Type 0
+AreAgain MayHave t m now had [] [] [] = ⊤
+AreAgain MayHave t m now had (ia ∷ ias) (answer ∷ answers) (number ∷ numbers) =
+    IsAgain MayHave t now had (order_for m ia) answer number × AreAgain MayHave t m now had ias answers numbers
+AreAgain MayHave t m now had _ _ _ = ⊥
+
+-- The octets are those of the server's answer to the message, which isn't a SOLICIT: it tells each IA_PD what its client
+-- has already, or its refusal. No line is written, and the number is that of the last line that it tells of.
+pub record IsToldAgain (MayHave : List Receipt → Journal → Type 0) (t : RenewTerms) (own : List ℕ) (m : ClientMessage)
+    (now : ℕ) (had : List Receipt) (octets : List ℕ) (line : Option ℕ) : Type 0 where
+  pub answers : List IaAnswer
+  pub numbers : List (Option ℕ)
+  pub asks : m.kind ≢ Solicit
+  pub told : AreAgain MayHave t m now had m.ias answers numbers
+  pub spelled : octets ≡ message_octets (answer_of m own answers)
+  pub last : line ≡ latest numbers

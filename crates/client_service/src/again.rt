@@ -1,0 +1,117 @@
+//! What the IA_PDs of a message are told without a line.
+
+ghost use Rattle.std.specs.Prelude.{◌≡◌, ◌<◌, length, IfSome};
+ghost use Rattle.client_service.specs.Again.{IsAgain, later};
+ghost use Rattle.client_service.specs.Ending.{AreAllAgain, IsAgainAt, IsDenial};
+
+use crate::hearing::AllTold;
+use crate::partner::Partner;
+use crate::service::Service;
+use crate::told::Told;
+use dhcp6_pd::ClientMessage;
+use lead_time::Reading;
+use locked_book::ServeError;
+use order_book::{BookError, Order};
+use server_book::{IaAnswer, order_of};
+use standing_lease::RenewTerms;
+use std::alloc::Global;
+
+/// Returns what a client is told of a refusal for which no unit of a partner's may be taken over.
+fn denied(partner: Partner, refusal: &ServeError) -> Option<IaAnswer>
+    ensures { IfSome result (IsDenial refusal.now) }
+{
+    match refusal {
+        ServeError::Book(BookError::NoBinding) => Some(IaAnswer::NoBinding),
+        ServeError::Book(BookError::NoPrefix) => match partner {
+            Partner::Up => Some(IaAnswer::NoPrefix),
+            Partner::Down => None,
+        },
+        _ => None,
+    }
+}
+
+/// Returns what an order's client is told without a line, if it has something that may be told again, or is refused.
+#[tactic(auto, using(crate::proofs::ToldAgain::again))]
+fn told_again<S: Service>(
+    service: &S,
+    pass: &S::Pass,
+    partner: Partner,
+    terms: &RenewTerms,
+    now: Reading,
+    order: &Order,
+) -> Option<Told>
+    ensures { IfSome result (λ t. IsAgain S.may_have terms.now now (S.receipts pass.now) order.now t.answer t.line) }
+{
+    match service.recall(pass, terms, now, order) {
+        Ok(Some(standing)) => Some(Told {
+            answer: IaAnswer::Given {
+                prefix: standing.prefix,
+                valid: standing.valid,
+            },
+            line: Some(standing.number),
+        }),
+        Ok(None) => None,
+        Err(refusal) => match denied(partner, &refusal) {
+            Some(answer) => Some(Told { answer, line: None }),
+            None => None,
+        },
+    }
+}
+
+/// The greater of two numbers of lines, if there is one.
+fn later(one: Option<u32>, other: Option<u32>) -> Option<u32>
+    ensures { result ≡ later one other }
+{
+    match (one, other) {
+        (Some(a), Some(b)) => Some(a.max(b)),
+        (None, number) | (number, None) => number,
+    }
+}
+
+/// Returns what the message's IA_PD at a place is told without a line, counted from 0.
+fn again_at<S: Service>(
+    service: &S,
+    pass: &S::Pass,
+    partner: Partner,
+    terms: &RenewTerms,
+    now: Reading,
+    message: &ClientMessage,
+    place: usize,
+) -> Option<Told>
+    requires { place < length message.now.ias }
+    ensures { IfSome result (λ t. IsAgainAt S.may_have terms.now message.now now place (S.receipts pass.now)
+        t.answer t.line) }
+{
+    match order_of(message, place) {
+        Some(order) => told_again(service, pass, partner, terms, now, &order),
+        None => unreachable!(),
+    }
+}
+
+/// Returns what all IA_PDs of a message are told without a line; none where one of them needs a line, or a growth is
+/// refused.
+pub(crate) fn all_again<S: Service>(
+    alloc: Global,
+    service: &S,
+    pass: &S::Pass,
+    partner: Partner,
+    terms: &RenewTerms,
+    now: Reading,
+    message: &ClientMessage,
+) -> Option<AllTold>
+    ensures { IfSome result (λ all. AreAllAgain S.may_have terms.now message.now now (S.receipts pass.now)
+        all.answers.items all.line) }
+{
+    let mut answers = Vec::new(alloc);
+    let mut line = None;
+    for place in 0..message.ias.as_slice().len() {
+        let Some(told) = again_at(service, pass, partner, terms, now, message, place) else {
+            return None;
+        };
+        line = later(line, told.line);
+        if answers.push(told.answer).is_err() {
+            return None;
+        }
+    }
+    Some(AllTold { answers, line })
+}
