@@ -15,6 +15,7 @@ use link_talk::{PairBook, Receipts};
 use locked_book::{Look, Receipt, ServeError, Work, look_at, work_at};
 use order_book::{BookError, Order};
 use prefix_range::Prefix;
+use standing_lease::{RenewTerms, Standing, standing_of};
 
 /// Gives orders to a served book, which is its own pass.
 #[derive(Clone, Copy, Debug)]
@@ -94,6 +95,22 @@ impl Service for Served {
         match show(pass) {
             Ok(()) => Ok(pass.book().first_to_seize(now)),
             Err(refusal) => Err(refusal),
+        }
+    }
+
+    fn recall(
+        &self,
+        pass: &ServedBook,
+        terms: &RenewTerms,
+        now: Reading,
+        order: &Order,
+    ) -> Result<Option<Standing>, ServeError> {
+        if let Err(refusal) = show(pass) {
+            return Err(refusal);
+        }
+        match standing_of(pass.book(), terms, now, order) {
+            Ok(found) => Ok(found),
+            Err(error) => Err(ServeError::Book(error)),
         }
     }
 }
