@@ -29,6 +29,7 @@ impl JournalFiles for Texts<'_> {
         Vec::from_slice(alloc, text.as_bytes()).map_err(|_| Unreadable::Memory)
     }
 
+    #[tactic(auto, using(archive_files::proofs::AnyParts::any_beginning))]
     fn beginning(&self, alloc: Global, file: usize, _octets: u32) -> Result<Vec<u8>, Unreadable> {
         let text = self.texts.get(file).ok_or(Unreadable::Device)?;
         Vec::from_slice(alloc, text.as_bytes()).map_err(|_| Unreadable::Memory)
