@@ -4,16 +4,18 @@ use Rattle.std.specs.List.{AllByRecursion}
 use Rattle.dhcp6_pd.specs.declared.message.ClientMessage.{ClientMessage}
 use Rattle.locked_book.specs.declared.receipt.Receipt.{Receipt}
 use Rattle.client_service.specs.Answering.{AnswerTo, IsTold, IsSilent}
+use Rattle.client_service.specs.Again.{IsToldAgain}
 use Rattle.client_service.specs.declared.partner.Partner.{Partner}
 use Rattle.client_service.specs.declared.silence.Silence.TheVariants.{Memory}
 use Rattle.server_run.specs.declared.leaving.HeldAnswer.{HeldAnswer}
 use Rattle.served_book.specs.Served.{ServedState, receipts_in}
 use Rattle.server_run.specs.Live.{LiveState, Grows}
-use Rattle.server_run.specs.Owing.{HasReceipts, IsOwed}
+use Rattle.standing_lease.specs.declared.terms.RenewTerms.{RenewTerms}
+use Rattle.server_run.specs.Owing.{HasReceipts, Tells, IsOwed}
 
-pub stays_owed : {P : Type 0} (own : List ℕ) (receipts more all : List Receipt) (a : AnswerTo P)
-    → all ≡ receipts ++ more → IsOwed own receipts a → IsOwed own all a
-stays_owed own receipts more all a grows o = record {
+pub stays_owed : {P : Type 0} (own : List ℕ) (t : RenewTerms) (receipts more all : List Receipt) (a : AnswerTo P)
+    → all ≡ receipts ++ more → IsOwed own t receipts a → IsOwed own t all a
+stays_owed own t receipts more all a grows o = record {
   partner = o.partner;
   message = o.message;
   read = o.read;
@@ -25,26 +27,26 @@ stays_owed own receipts more all a grows o = record {
 }
 
 -- all that are owed stay so
-pub all_owed : {P : Type 0} (own : List ℕ) (receipts more all : List Receipt) (held : List (HeldAnswer P))
-    → all ≡ receipts ++ more → AllByRecursion (λ (h : HeldAnswer P). IsOwed own receipts h.answer) held
-    → AllByRecursion (λ (h : HeldAnswer P). IsOwed own all h.answer) held
-all_owed own receipts more all [] grows owed = tt
-all_owed own receipts more all (h ∷ held) grows owed =
-    (stays_owed own receipts more all h.answer grows owed.0, all_owed own receipts more all held grows owed.1)
+pub all_owed : {P : Type 0} (own : List ℕ) (t : RenewTerms) (receipts more all : List Receipt) (held : List (HeldAnswer P))
+    → all ≡ receipts ++ more → AllByRecursion (λ (h : HeldAnswer P). IsOwed own t receipts h.answer) held
+    → AllByRecursion (λ (h : HeldAnswer P). IsOwed own t all h.answer) held
+all_owed own t receipts more all [] grows owed = tt
+all_owed own t receipts more all (h ∷ held) grows owed =
+    (stays_owed own t receipts more all h.answer grows owed.0, all_owed own t receipts more all held grows owed.1)
 
 -- and one more
-pub one_more_owed : {P : Type 0} (own : List ℕ) (receipts : List Receipt) (held : List (HeldAnswer P))
-    (h : HeldAnswer P) → AllByRecursion (λ (x : HeldAnswer P). IsOwed own receipts x.answer) held
-    → IsOwed own receipts h.answer
-    → AllByRecursion (λ (x : HeldAnswer P). IsOwed own receipts x.answer) (held ++ h ∷ [])
-one_more_owed own receipts [] h owed one = (one, tt)
-one_more_owed own receipts (x ∷ held) h owed one = (owed.0, one_more_owed own receipts held h owed.1 one)
+pub one_more_owed : {P : Type 0} (own : List ℕ) (t : RenewTerms) (receipts : List Receipt) (held : List (HeldAnswer P))
+    (h : HeldAnswer P) → AllByRecursion (λ (x : HeldAnswer P). IsOwed own t receipts x.answer) held
+    → IsOwed own t receipts h.answer
+    → AllByRecursion (λ (x : HeldAnswer P). IsOwed own t receipts x.answer) (held ++ h ∷ [])
+one_more_owed own t receipts [] h owed one = (one, tt)
+one_more_owed own t receipts (x ∷ held) h owed one = (owed.0, one_more_owed own t receipts held h owed.1 one)
 
 -- an answer that tells what was just added is owed
-pub just_owed : {P : Type 0} (own : List ℕ) (partner : Partner) (m : ClientMessage) (read : ℕ)
-    (had has : List Receipt) (a : AnswerTo P) → IsTold HasReceipts partner own m read had has a.octets a.line
-    → IsOwed own has a
-just_owed own partner m read had has a told = record {
+pub just_owed : {P : Type 0} (own : List ℕ) (t : RenewTerms) (partner : Partner) (m : ClientMessage) (read : ℕ)
+    (had has : List Receipt) (a : AnswerTo P) → Tells partner t own m read had has a.octets a.line
+    → IsOwed own t has a
+just_owed own t partner m read had has a told = record {
   partner = partner;
   message = m;
   read = read;
@@ -70,11 +72,11 @@ same_grows old new same = (
   ),
 )
 
-pub held_as : {P : Type 0} (own : List ℕ) (receipts : List Receipt) (held is : List (HeldAnswer P)) → is ≡ held
-    → AllByRecursion (λ (h : HeldAnswer P). IsOwed own receipts h.answer) held
-    → AllByRecursion (λ (h : HeldAnswer P). IsOwed own receipts h.answer) is
-held_as {P} own receipts held is same owed =
-    subst (λ (hs : List (HeldAnswer P)). AllByRecursion (λ (h : HeldAnswer P). IsOwed own receipts h.answer) hs)
+pub held_as : {P : Type 0} (own : List ℕ) (t : RenewTerms) (receipts : List Receipt) (held is : List (HeldAnswer P)) → is ≡ held
+    → AllByRecursion (λ (h : HeldAnswer P). IsOwed own t receipts h.answer) held
+    → AllByRecursion (λ (h : HeldAnswer P). IsOwed own t receipts h.answer) is
+held_as {P} own t receipts held is same owed =
+    subst (λ (hs : List (HeldAnswer P)). AllByRecursion (λ (h : HeldAnswer P). IsOwed own t receipts h.answer) hs)
     (sym same) owed
 
 pub held_more : {X : Type 0} (was mid is : List X) (h : X) → is ≡ mid ++ h ∷ [] → mid ≡ was → is ≡ was ++ h ∷ []

@@ -4,7 +4,6 @@ use Rattle.journal_lines.specs.declared.line.Journal.{Journal}
 use Rattle.client_service.specs.Lines.{receipts_of}
 use Rattle.order_book.specs.NextBook.{IsNextBook}
 use Rattle.locked_book.specs.declared.receipt.Receipt.{Receipt}
-use Rattle.served_book.specs.Served.{IsApplied}
 use Rattle.torn_disk.specs.Disk.{Call}
 use Rattle.volume_folder.specs.Names.{NameCall, names_after, AreSettled}
 use Rattle.open_volume.specs.Spelling.{IsWrittenSoFar}

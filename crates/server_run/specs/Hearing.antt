@@ -7,14 +7,15 @@ use Rattle.dhcp6_pd.specs.Faults.{message_of}
 use Rattle.journal_lines.specs.declared.line.Journal.{Journal}
 use Rattle.order_book.specs.Replayed.{state_of}
 use Rattle.served_book.specs.Served.{receipts_in}
-use Rattle.client_service.specs.Answering.{AnswerTo, IsTold, IsSilent}
+use Rattle.client_service.specs.Answering.{AnswerTo, IsSilent}
 use Rattle.client_service.specs.declared.partner.Partner.{Partner}
 use Rattle.client_service.specs.declared.partner.Partner.TheVariants.{Up, Down}
 use Rattle.server_run.specs.declared.heard.Heard.{Heard}
 use Rattle.server_run.specs.declared.heard.Heard.TheVariants.{Answered, Unanswered, Unread}
 use Rattle.server_run.specs.declared.leaving.HeldAnswer.{HeldAnswer}
 use Rattle.server_run.specs.Live.{LiveState}
-use Rattle.server_run.specs.Owing.{HasReceipts}
+use Rattle.standing_lease.specs.declared.terms.RenewTerms.{RenewTerms}
+use Rattle.server_run.specs.Owing.{HasReceipts, Tells}
 
 -- what a server takes its partner for, by the reading since which it is down
 abbrev pub partner_by : Option ℕ → Partner
@@ -25,18 +26,17 @@ abbrev pub partner_of : Journal → Partner
 partner_of j = partner_by (state_of j).down
 
 -- One answer more is held back: to the peer, at this reading, and it tells the message what the receipts say that its
--- orders added. Or there is none, for a reason, and none more is held back.
-abbrev pub IsHeard : {P : Type 0} → (own : List ℕ) → (peer : P) → (datagram : List ℕ) → (read : ℕ)
+-- orders added, or again what stands. Or there is none, for a reason, and none more is held back.
+abbrev pub IsHeard : {P : Type 0} → (own : List ℕ) → RenewTerms → (peer : P) → (datagram : List ℕ) → (read : ℕ)
     → LiveState → LiveState → List (HeldAnswer P) → List (HeldAnswer P) → Heard → Type 0
-IsHeard {P} own peer datagram read old new was held (Answered kind) =
+IsHeard {P} own t peer datagram read old new was held (Answered kind) =
     (m : ClientMessage) × (a : AnswerTo P) × Spells own datagram m × (kind ≡ m.kind) × (a.peer ≡ peer)
-    × IsTold HasReceipts (partner_of old.served.journal) own m read (receipts_in old.served) (receipts_in new.served)
-    a.octets a.line
+    × Tells (partner_of old.served.journal) t own m read (receipts_in old.served) (receipts_in new.served) a.octets a.line
     × (held ≡ was ++ record { answer = a; read = read } ∷ [])
-IsHeard own peer datagram read old new was held (Unanswered why) =
+IsHeard own t peer datagram read old new was held (Unanswered why) =
     (m : ClientMessage) × Spells own datagram m
     × IsSilent HasReceipts (partner_of old.served.journal) own m read (receipts_in old.served) (receipts_in new.served)
     why
     × (held ≡ was)
-IsHeard own peer datagram read old new was held (Unread e) =
+IsHeard own t peer datagram read old new was held (Unread e) =
     (new ≡ old) × (held ≡ was) × Gives (λ (m : ClientMessage). m) (Err e) (message_of own datagram)

@@ -1,5 +1,6 @@
 pub mod Live
 pub mod Going
+pub mod Terms
 pub mod Owing
 pub mod Saying
 pub mod Hearing

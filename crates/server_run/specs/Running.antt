@@ -5,14 +5,16 @@ use Rattle.link_talk.specs.Turning.{TalkState}
 use Rattle.served_book.specs.Served.{receipts_in}
 use Rattle.volume_folder.specs.Names.{NameCall, AreSettled}
 use Rattle.server_run.specs.declared.leaving.HeldAnswer.{HeldAnswer}
+use Rattle.standing_lease.specs.declared.terms.RenewTerms.{RenewTerms}
 use Rattle.server_run.specs.Live.{LiveState}
 use Rattle.server_run.specs.Owing.{IsOwed}
 use Rattle.server_run.specs.Saying.{IsTalkBacked}
 
--- its own identifier, the calls that were made to its folder, its open volume, the answers that are held back, and the
+-- its own identifier, by what it tells grants again, the calls that were made to its folder, its open volume, the answers that are held back, and the
 -- talk of the connection with its partner
 pub record RunState (P : Type 0) : Type 0 where
   pub own : List ℕ
+  pub terms : RenewTerms
   pub names : List NameCall
   pub volume : LiveState
   pub held : List (HeldAnswer P)
@@ -22,5 +24,5 @@ pub record RunState (P : Type 0) : Type 0 where
 -- is backed by them.
 pub record IsRunning {P : Type 0} (s : RunState P) : Type 0 where
   pub names : AreSettled s.names
-  pub owed : AllByRecursion (λ (h : HeldAnswer P). IsOwed s.own (receipts_in s.volume.served) h.answer) s.held
+  pub owed : AllByRecursion (λ (h : HeldAnswer P). IsOwed s.own s.terms (receipts_in s.volume.served) h.answer) s.held
   pub said : IsTalkBacked (receipts_in s.volume.served) s.talk

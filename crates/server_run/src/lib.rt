@@ -20,4 +20,4 @@ pub use heard::Heard;
 pub use leaving::{HeldAnswer, Leaving};
 pub use live_volume::{LiveVolume, Unsettled};
 pub use running::{Running, Settled};
-pub use starting::{Beginning, end, first, follow, go_on, restarted};
+pub use starting::{Beginning, end, first, follow, go_on, restarted, server_of};

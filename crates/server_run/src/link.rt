@@ -89,8 +89,8 @@ where
         ensures talk { self.new.talk ≡ None }
         ensures journal { self.new.volume.served.journal ≡ self.old.volume.served.journal }
         ensures file { (self.new.volume.kept ≡ self.old.volume.kept) × (self.new.volume.calls ≡ self.old.volume.calls) }
-        ensures rest { (self.new.own ≡ self.old.own) × (self.new.names ≡ self.old.names)
-            × (self.new.held ≡ self.old.held) }
+        ensures rest { (self.new.own ≡ self.old.own) × (self.new.terms ≡ self.old.terms)
+            × (self.new.names ≡ self.old.names) × (self.new.held ≡ self.old.held) }
     {
         let stage = self.stage();
         self.talk = None;

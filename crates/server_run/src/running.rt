@@ -25,6 +25,7 @@ use lead_time::Reading;
 use link_talk::{Handed, Talk};
 use locked_book::{Receipt, ServeError};
 use order_book::{Book, Order};
+use standing_lease::RenewTerms;
 use std::alloc::Global;
 use std::marker::Model;
 use volume_folder::Folder;
@@ -35,6 +36,7 @@ use volume_folder::Folder;
 pub struct Running<F: Folder, P: Drop> {
     pub(crate) alloc: Global,
     pub(crate) own: Duid,
+    pub(crate) terms: RenewTerms,
     pub(crate) folder: F,
     pub(crate) volume: LiveVolume<F::File>,
     pub(crate) held: Vec<HeldAnswer<P>>,
@@ -48,6 +50,7 @@ impl<F: Folder, P: Drop> Model for Running<F, P> {
 
     ghost view = { λ r. record {
       own = r.own;
+      terms = r.terms;
       names = F.calls r.folder;
       volume = r.volume;
       held = r.held.items;
@@ -56,6 +59,7 @@ impl<F: Folder, P: Drop> Model for Running<F, P> {
 
     ghost invariant = { λ r. IsRunning (record {
       own = r.own;
+      terms = r.terms;
       names = F.calls r.folder;
       volume = r.volume;
       held = r.held.items;
@@ -84,14 +88,28 @@ impl<F: Folder + Drop, P: Drop> Running<F, P>
 where
     F::File: Drop,
 {
-    /// A server of an open volume in a folder, which holds nothing back.
-    pub fn new(alloc: Global, own: Duid, folder: F, volume: LiveVolume<F::File>) -> Running<F, P>
+    /// A server of an open volume in a folder, which tells grants again by these terms. It holds nothing back.
+    pub fn new(
+        alloc: Global,
+        own: Duid,
+        terms: RenewTerms,
+        folder: F,
+        volume: LiveVolume<F::File>,
+    ) -> Running<F, P>
         requires { AreSettled (F.calls folder) }
-        ensures { result ≡ record { own = own; names = F.calls folder; volume = volume; held = []; talk = None } }
+        ensures { result ≡ record {
+          own = own;
+          terms = terms;
+          names = F.calls folder;
+          volume = volume;
+          held = [];
+          talk = None;
+        } }
     {
         Running {
             alloc,
             own,
+            terms,
             folder,
             volume,
             held: Vec::new(alloc),
@@ -114,9 +132,9 @@ where
     }
 
     /// Hears a datagram that came from a peer at a reading. Where it is a client's message to this server, its orders
-    /// are done, and the answer is held back until the next `settle`.
+    /// are done, or it is told again what it has; the answer is held back until the next `settle`.
     pub fn hear(&mut self, read: Reading, datagram: &[u8], peer: P) -> Heard
-        ensures heard { IsHeard self.old.own peer datagram.now read self.old.volume self.new.volume
+        ensures heard { IsHeard self.old.own self.old.terms peer datagram.now read self.old.volume self.new.volume
             self.old.held self.new.held result }
         ensures grows { (added : List ReceiptValue) × Grows self.old.volume self.new.volume added }
         ensures rest { self.new ≡ record self.old { volume = self.new.volume; held = self.new.held } }
@@ -130,10 +148,15 @@ where
             Err(_) => return Heard::Unanswered(Silence::Memory),
         }
         let partner = partner_of(self.volume.book());
-        match self
-            .volume
-            .answer(self.alloc, &self.own, partner, read, &message, peer)
-        {
+        match self.volume.answer(
+            self.alloc,
+            &self.own,
+            partner,
+            &self.terms,
+            read,
+            &message,
+            peer,
+        ) {
             Ok(answer) => {
                 hold(&mut self.held, HeldAnswer { answer, read });
                 Heard::Answered(message.kind)
@@ -166,7 +189,7 @@ where
         ensures answers { IfOk result (λ s. (s.leaving.answers.items ≡ self.held) × (s.running.held ≡ [])) }
         // All that leaves is what these receipts say, and those that aren't older are of the lines that are on the
         // disk.
-        ensures owed { IfOk result (λ s. AllByRecursion (λ h. IsOwed self.own (receipts_in self.volume.served) h.answer)
+        ensures owed { IfOk result (λ s. AllByRecursion (λ h. IsOwed self.own self.terms (receipts_in self.volume.served) h.answer)
             s.leaving.answers.items) }
         ensures said { IfOk result (λ s. AreBacked (receipts_in self.volume.served) s.leaving.frames.items) }
         ensures frames { IfOk result (λ s. s.leaving.frames.items ≡ handed_of self.talk) }
@@ -179,6 +202,7 @@ where
         let Running {
             alloc,
             own,
+            terms,
             folder,
             volume,
             held,
@@ -190,6 +214,7 @@ where
             running: Running {
                 alloc,
                 own,
+                terms,
                 folder,
                 volume,
                 held: Vec::new(alloc),

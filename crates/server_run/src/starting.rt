@@ -1,6 +1,6 @@
 //! The start of a server, with what its folder led to.
 
-ghost use Rattle.std.specs.Prelude.{◌≡◌, ◌-◌, ◌≤◌, ◌∷◌, [], length, IfOk};
+ghost use Rattle.std.specs.Prelude.{◌≡◌, ◌-◌, ◌≤◌, ◌∷◌, [], length, IfOk, None};
 ghost use Rattle.torn_disk.specs.Disk.{opened};
 ghost use Rattle.volume_folder.specs.Names.{names_after, AreSettled};
 ghost use Rattle.order_book.specs.NextBook.{MayRoll};
@@ -12,6 +12,7 @@ ghost use Rattle.journal_lines.specs.declared.line.Journal.{Journal};
 ghost use Rattle.journal_lines.specs.declared.line.Line.{Line as LineValue};
 ghost use Rattle.order_book.specs.Replayed.{with_line};
 ghost use Rattle.folder_recovery.specs.Folder.{AreVolumesSoFar};
+ghost use Rattle.server_run.specs.Terms.{terms_of};
 ghost use Rattle.server_run.specs.Beginning.{Begins, BeginsBehind, HasBook, HasNextBook, HasSameFiles};
 ghost use Rattle.open_volume.specs.Spelling.{IsWrittenSoFar};
 ghost use Rattle.book_volumes.specs.Volumes.{going_on, HasVolume};
@@ -26,6 +27,7 @@ use locked_book::Receipt;
 use order_book::{Book, Order};
 use served_book::ServedBook;
 use server_settings::Settings;
+use standing_lease::RenewTerms;
 use std::alloc::Global;
 use volume_folder::Folder;
 
@@ -36,6 +38,44 @@ pub struct Beginning<'a> {
     pub settings: &'a Settings,
     pub now: Reading,
     pub older: Vec<Receipt>,
+    /// The age, in seconds, from which on a grant isn't told again: with 0 none is.
+    pub renew_floor: u32,
+}
+
+/// By what a server of these settings tells grants again.
+fn terms_of(settings: &Settings, renew_floor: u32) -> RenewTerms
+    ensures { result ≡ terms_of settings.now renew_floor }
+{
+    RenewTerms {
+        floor: renew_floor,
+        skew: settings.skew(),
+        transit: settings.transit(),
+        life: settings.life(),
+    }
+}
+
+/// A server of an open volume in a folder, by its settings. It holds nothing back.
+pub fn server_of<F: Folder + Drop, P: Drop>(
+    alloc: Global,
+    settings: &Settings,
+    renew_floor: u32,
+    folder: F,
+    volume: LiveVolume<F::File>,
+) -> Running<F, P>
+where
+    F::File: Drop,
+    requires { AreSettled (F.calls folder) }
+    ensures { result ≡ record {
+      own = settings.now.duid;
+      terms = terms_of settings.now renew_floor;
+      names = F.calls folder;
+      volume = volume;
+      held = [];
+      talk = None;
+    } }
+{
+    let terms = terms_of(settings, renew_floor);
+    Running::new(alloc, *settings.duid(), terms, folder, volume)
 }
 
 /// The server of a volume that was begun behind these receipts.
@@ -51,13 +91,14 @@ where
     requires written { IsWrittenSoFar (going_on begun.book) }
     ensures begins { IfOk result (Begins with.entry.settings.now.duid with.entry.older.items begun.book
         (length begun.book.lines)) }
+    ensures terms { IfOk result (λ r. r.terms ≡ terms_of with.entry.settings.now with.entry.renew_floor) }
     ensures has { IfOk result (λ r. HasBook begun.book r.names (names_after (F.calls folder)).files r.volume) }
 {
     let Begun { book, file } = begun;
     let kept = book.journal().len();
     let served = ServedBook::new(with.alloc, book, with.older)?;
     let volume = LiveVolume::new(served, file, kept);
-    Ok(Running::new(with.alloc, *with.settings.duid(), folder, volume))
+    Ok(server_of(with.alloc, with.settings, with.renew_floor, folder, volume))
 }
 
 /// Opens the first book of a server, and begins its first volume in a folder that has no file.
@@ -72,6 +113,7 @@ where
     ensures begins { IfOk result (Begins with.entry.settings.now.duid with.entry.older.items
         (opening with.entry.settings.now with.entry.now)
         (length (opening with.entry.settings.now with.entry.now).lines)) }
+    ensures terms { IfOk result (λ r. r.terms ≡ terms_of with.entry.settings.now with.entry.renew_floor) }
     ensures has { IfOk result (λ r. (j : Journal) × AreVolumesSoFar with.entry.settings.now.role [] (going_on j)
         × HasBook j r.names 1 r.volume) }
 {
@@ -96,6 +138,7 @@ where
     requires some { 1 ≤ length book.lines }
     ensures begins { IfOk result
         (Begins with.entry.settings.now.duid with.entry.older.items book (length book.lines - 1)) }
+    ensures terms { IfOk result (λ r. r.terms ≡ terms_of with.entry.settings.now with.entry.renew_floor) }
     ensures has { IfOk result (λ r. (j : Journal) (l : LineValue) → book ≡ with_line j l
         → HasBook j r.names (names_after (F.calls folder)).files r.volume) }
 {
@@ -104,7 +147,7 @@ where
         Ok(file) => {
             let served = ServedBook::new(with.alloc, book, with.older)?;
             let volume = LiveVolume::new(served, file, lines - 1);
-            Ok(Running::new(with.alloc, *with.settings.duid(), folder, volume))
+            Ok(server_of(with.alloc, with.settings, with.renew_floor, folder, volume))
         }
         Err(error) => Err(BeginFault::NotReopened(error)),
     }
@@ -124,6 +167,7 @@ where
     requires opened { F.File.calls file ≡ opened content.now ∷ [] }
     ensures begins { IfOk result
         (BeginsBehind with.entry.settings.now.duid with.entry.older.items book with.entry.now) }
+    ensures terms { IfOk result (λ r. r.terms ≡ terms_of with.entry.settings.now with.entry.renew_floor) }
     ensures has { IfOk result (λ r. HasNextBook book (names_after (F.calls folder)).files r.names r.volume) }
 {
     let lines = book.journal().len();
@@ -134,7 +178,7 @@ where
     let served = ServedBook::new(with.alloc, book, with.older)?;
     let volume = LiveVolume::new(served, file, lines);
     match rolled(with.alloc, &mut folder, volume, with.now) {
-        Ok(volume) => Ok(Running::new(with.alloc, *with.settings.duid(), folder, volume)),
+        Ok(volume) => Ok(server_of(with.alloc, with.settings, with.renew_floor, folder, volume)),
         Err(fault) => Err(BeginFault::NotRolled(fault)),
     }
 }
@@ -154,6 +198,7 @@ where
     requires rolls { MayRoll book }
     ensures begins { IfOk result
         (BeginsBehind with.entry.settings.now.duid with.entry.older.items book with.entry.now) }
+    ensures terms { IfOk result (λ r. r.terms ≡ terms_of with.entry.settings.now with.entry.renew_floor) }
     ensures has { IfOk result (λ r. HasNextBook book (names_after (F.calls folder)).files r.names r.volume) }
 {
     let last = match reopen_ended(with.alloc, file, content, &book) {
@@ -165,7 +210,7 @@ where
             let kept = next.journal().len();
             let served = ServedBook::new(with.alloc, book, with.older)?.follow(next)?;
             let volume = LiveVolume::new(served, file, kept);
-            Ok(Running::new(with.alloc, *with.settings.duid(), folder, volume))
+            Ok(server_of(with.alloc, with.settings, with.renew_floor, folder, volume))
         }
         Err(error) => Err(BeginFault::NotBegun(error)),
     }

@@ -8,7 +8,7 @@ use Rattle.server_run.proofs.starting.go_on.Goals as goal
 pub returns-in_ok-served-in-Ok-clause-has : goal.returns-in_ok-served-in-Ok-clause-has
 returns-in_ok-served-in-Ok-clause-has g c =
     let lines = c.journal-lines.ensures.lines in
-    let running = c.new-in-Ok.ensures in
+    let running = c.server_of.ensures in
     has_before c.args.book _ _ _ _ (ap (λ s. s.names) running)
     (ap (λ s. s.volume.calls) running ∙ c.new-volume.ensures.calls)
     (ap (λ s. s.volume.kept) running ∙ c.new-volume.ensures.kept ∙ ap (λ ls. length ls - 1) lines)

@@ -12,7 +12,7 @@ invariant_of-self g c =
     let grown = c.turn.ensures.grows in
     record {
       names = c.self.invariant.names;
-      owed = all_owed _ _ grown.0 _ _ grown.1.0 c.self.invariant.owed;
+      owed = all_owed _ _ _ grown.0 _ _ grown.1.0 c.self.invariant.owed;
       said = heard_backed _ _ _ _ _ _ _ _ c.turn.ensures.turn.2.3
           (subst (IsTalkBacked _) c.in-Some.is c.self.invariant.said);
     }

@@ -7,6 +7,6 @@ invariant_of-self g c =
     let grown = c.serve.ensures.grows in
     record {
       names = c.self.invariant.names;
-      owed = all_owed _ _ grown.0 _ _ grown.1.0 c.self.invariant.owed;
+      owed = all_owed _ _ _ grown.0 _ _ grown.1.0 c.self.invariant.owed;
       said = talk_later _ grown.0 _ c.self.inside.talk grown.1.0 c.self.invariant.said;
     }

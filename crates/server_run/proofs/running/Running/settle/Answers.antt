@@ -10,15 +10,15 @@ use Rattle.server_run.proofs.running.Running.settle.Goals as goal
 pub invariant_of-result : goal.invariant_of-result
 invariant_of-result g c = record {
   names = c.self.invariant.names;
-  owed = held_as _ _ [] _ c.new.ensures.items tt;
+  owed = held_as _ _ _ [] _ c.new.ensures.items tt;
   said = nothing_said (receipts_in c.in_ok-volume.volume.served) c.frames_of-frames.new.talk c.frames_of-frames.ensures.none;
 }
 
 pub returns-clause-owed : goal.returns-clause-owed
 returns-clause-owed g c =
-    subst (λ s. AllByRecursion (λ h. IsOwed s.own (receipts_in s.volume.served) h.answer)
+    subst (λ s. AllByRecursion (λ h. IsOwed s.own s.terms (receipts_in s.volume.served) h.answer)
     c.new-2.result.answers.items) c.self.view_is
-    (held_as _ _ c.self.inside.held.items _ (ap (λ v. v.items) c.new-2.ensures.0) c.self.invariant.owed)
+    (held_as _ _ _ c.self.inside.held.items _ (ap (λ v. v.items) c.new-2.ensures.0) c.self.invariant.owed)
 
 pub returns-clause-said : goal.returns-clause-said
 returns-clause-said g c =
