@@ -22,6 +22,9 @@ use volume_folder::Folder;
 /// How many units the pool has.
 const UNITS: usize = 16;
 
+/// The age in seconds from which on a grant isn't told again: each order has its own line.
+const RENEW_FLOOR: u32 = 0;
+
 /// A server over its disk.
 #[derive(Drop)]
 pub(crate) struct Server {
@@ -168,6 +171,7 @@ impl Server {
             folder,
             count,
             &self.settings,
+            RENEW_FLOOR,
             Pairing::Paired,
             now,
         ) {
@@ -190,6 +194,7 @@ impl Server {
             folder,
             count,
             &self.settings,
+            RENEW_FLOOR,
             Pairing::Paired,
             now,
         );

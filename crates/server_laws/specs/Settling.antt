@@ -28,7 +28,8 @@ pub record IsSettled {P : Type 0} (old : RunState P) (answers : List (HeldAnswer
   pub names : new.names ≡ old.names
   pub all : answers ≡ old.held
   pub none : new.held ≡ []
-  pub owed : AllByRecursion (λ (h : HeldAnswer P). IsOwed old.own (receipts_in old.volume.served) h.answer) answers
+  pub owed : AllByRecursion (λ (h : HeldAnswer P). IsOwed old.own old.terms (receipts_in old.volume.served) h.answer)
+      answers
 
 -- The book was closed, its volume ended, and the next one begun behind it; what is held back is the same.
 pub record IsRolled {P : Type 0} (old new : RunState P) : Type 0 where
