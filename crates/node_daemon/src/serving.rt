@@ -193,13 +193,22 @@ fn start_server(
     alloc: Global,
     volumes: RealVolumes,
     settings: &Settings,
+    renew_floor: u32,
     pairing: Pairing,
     now: &Moment,
 ) -> Result<Started<RealVolumes, SocketAddr>, ServeFailure>
     requires { volumes.noted.calls ≡ held volumes.count ∷ [] }
 {
     let count = volumes.count();
-    match start(alloc, volumes, count, settings, pairing, now.reading) {
+    match start(
+        alloc,
+        volumes,
+        count,
+        settings,
+        renew_floor,
+        pairing,
+        now.reading,
+    ) {
         Ok(started) => Ok(started),
         Err(error) => Err(ServeFailure::Start(error)),
     }
@@ -291,6 +300,7 @@ pub fn serve<R: Wait + Files + Net + RandomSource + Handle, L: Print>(
         alloc,
         volumes,
         server,
+        settings.renew_floor,
         pairing_of(settings.node.ways.link),
         &now,
     )?;

@@ -1,5 +1,5 @@
 -- What a server that goes on for years runs by, of the members of a TOML document.
-use Rattle.std.specs.Prelude.{◌≡◌, ◌&&◌, ⊤, ℕ, ℤ, pos, negsuc, Bool, true, false, nat_le, List, codes, Option, Some, None}
+use Rattle.std.specs.Prelude.{◌≡◌, ◌&&◌, ◌/◌, max, ⊤, ℕ, ℤ, pos, negsuc, Bool, true, false, nat_le, List, codes, Option, Some, None}
 use Rattle.std.specs.Prelude.{if◌then◌else◌, IsSome, ◌⊎◌, ◌≢◌, [], string_bytes}
 use Rattle.toml.specs.Data.{Data, Members, get_member, as_integer, as_bool, as_str}
 use Rattle.text_fields.specs.Parsing.{◌>>=◌}
@@ -11,7 +11,7 @@ use Rattle.server_settings.specs.declared.error.OpenError.{OpenError}
 use Rattle.server_settings.specs.declared.error.OpenError.TheVariants.{Overlap, Memory as NoMemory}
 use Rattle.serve_settings.specs.declared.error.ServeSettingsError.{ServeSettingsError}
 use Rattle.serve_settings.specs.declared.error.ServeSettingsError.TheVariants.{Node, Heartbeat, VolumeLines, VolumeHours}
-use Rattle.serve_settings.specs.declared.error.ServeSettingsError.TheVariants.{Alone, NoPartner, PartnerOfAlone, NoLinkKey, LinkKey}
+use Rattle.serve_settings.specs.declared.error.ServeSettingsError.TheVariants.{Alone, NoPartner, PartnerOfAlone, NoLinkKey, LinkKey, RenewFloor}
 use Rattle.serve_settings.specs.declared.protection.LinkProtection.{LinkProtection}
 use Rattle.serve_settings.specs.declared.protection.LinkProtection.TheVariants.{KeyFile, OtherLayer}
 
@@ -55,6 +55,29 @@ IsLimitFault m Heartbeat = heartbeat_in m ≡ None
 IsLimitFault m VolumeLines = volume_lines_in m ≡ None
 IsLimitFault m VolumeHours = volume_hours_in m ≡ None
 IsLimitFault m _ = ⊥
+
+-- ---- grants that are told again
+
+-- a whole number of seconds, a year at most
+abbrev pub floor_within : ℤ → Option ℕ
+floor_within (pos n) = if nat_le n 31536000 then Some n else None
+floor_within (negsuc n) = None
+
+unfoldable pub floor_of : Data → Option ℕ
+floor_of value = as_integer value >>= floor_within
+
+-- where nothing is said, a tenth of the desired lifetime, and 10 at least
+abbrev pub floor_or : ℕ → Option Data → Option ℕ
+floor_or life None = Some (max 10 (life / 10))
+floor_or life (Some value) = floor_of value
+
+-- the age in seconds from which on a grant isn't told again
+unfoldable pub floor_in : ℕ → Members → Option ℕ
+floor_in life members = floor_or life (get_member (codes "renew_floor") members)
+
+abbrev pub IsFloorFault : Members → ServeSettingsError → Type 0
+IsFloorFault m RenewFloor = (life : ℕ) × (floor_in life m ≡ None)
+IsFloorFault m _ = ⊥
 
 -- ---- the partner
 
@@ -117,10 +140,11 @@ IsProtected members (Some protection) = (alone_in members ≡ Some false) × IsP
 -- ---- the document
 
 -- a server runs by what a document says
-pub record IsServed (members : Members) (server : ServerSettings) (upkeep : Limits)
+pub record IsServed (members : Members) (server : ServerSettings) (upkeep : Limits) (floor : ℕ)
     (protection : Option LinkProtection) : Type 0 where
   pub named : named_in members ≡ Some server
   pub limits : limits_in members ≡ Some upkeep
+  pub floor_is : floor_in server.life members ≡ Some floor
   pub partner : HasPartnerOrIsAlone members
   pub protected : IsProtected members protection
 
@@ -136,6 +160,7 @@ IsRefusal text (Node e) = IsNodeRefusal text e
 IsRefusal text Heartbeat = (members : Members) × IsDocument text members × IsLimitFault members Heartbeat
 IsRefusal text VolumeLines = (members : Members) × IsDocument text members × IsLimitFault members VolumeLines
 IsRefusal text VolumeHours = (members : Members) × IsDocument text members × IsLimitFault members VolumeHours
+IsRefusal text RenewFloor = (members : Members) × IsDocument text members × IsFloorFault members RenewFloor
 IsRefusal text Alone = (members : Members) × IsDocument text members × IsPartnerFault members Alone
 IsRefusal text NoPartner = (members : Members) × IsDocument text members × IsPartnerFault members NoPartner
 IsRefusal text PartnerOfAlone = (members : Members) × IsDocument text members × IsPartnerFault members PartnerOfAlone

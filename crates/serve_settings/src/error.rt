@@ -18,6 +18,9 @@ pub enum ServeSettingsError {
     /// What is at `volume_hours` is no number within its limits.
     #[error("volume_hours: wants a whole number of hours, 1 to 8760")]
     VolumeHours,
+    /// What is at `renew_floor` is no number within its limits.
+    #[error("renew_floor: wants a whole number of seconds, 0 to 31536000")]
+    RenewFloor,
     /// What is at `alone` is no truth value.
     #[error("alone: wants true or false")]
     Alone,

@@ -5,6 +5,7 @@ ghost use Rattle.toml.specs.Data.{get_member};
 ghost use Rattle.toml.specs.View.{view, table_view};
 ghost use Rattle.text_fields.specs.Parsing.{Finds};
 ghost use Rattle.serve_settings.specs.Serving.{counted, limit_at, alone_in, limits_in, IsLimitFault};
+ghost use Rattle.serve_settings.specs.Serving.{floor_of, floor_in, IsFloorFault};
 ghost use Rattle.serve_settings.specs.Serving.{HasPartnerOrIsAlone, IsPartnerFault};
 
 use crate::error::ServeSettingsError;
@@ -19,6 +20,12 @@ const VOLUME_LINES: u32 = 200_000;
 
 /// Hours of a volume, where nothing else is said.
 const VOLUME_HOURS: u32 = 24;
+
+/// Seconds of a year.
+const YEAR: u32 = 31_536_000;
+
+/// The least age of a grant that isn't told again, in seconds, where nothing else is said.
+const LEAST_FLOOR: u32 = 10;
 
 /// Returns the value at a key.
 pub(crate) fn value_at<'a>(table: &'a Table, key: &str) -> Option<&'a Value>
@@ -83,6 +90,37 @@ pub(crate) fn upkeep_in(table: &Table) -> Result<Upkeep, ServeSettingsError>
     match Upkeep::new(heartbeat, volume_lines, volume_hours) {
         Some(upkeep) => Ok(upkeep),
         None => unreachable!(),
+    }
+}
+
+/// The whole number of seconds that a value is, a year at most.
+#[tactic(auto, unfolding(crate::specs::Serving::floor_of))]
+fn floor_of(value: &Value) -> Option<u32>
+    ensures { Finds (λ n. n) result (floor_of (view value.now)) }
+{
+    let number = u32::try_from(value.as_integer()?).ok()?;
+    if number <= YEAR { Some(number) } else { None }
+}
+
+/// The age in seconds from which on a grant isn't told again, by a document and the desired lifetime: with 0 none is.
+#[tactic(auto, unfolding(crate::specs::Serving::floor_in))]
+fn floor_in(table: &Table, life: u32) -> Option<u32>
+    ensures { Finds (λ n. n) result (floor_in life (table_view table.now)) }
+{
+    match value_at(table, "renew_floor") {
+        Some(value) => floor_of(value),
+        None => Some((life / 10).max(LEAST_FLOOR)),
+    }
+}
+
+/// The same. `RenewFloor` where that key has no number within its limits.
+pub(crate) fn renew_floor_in(table: &Table, life: u32) -> Result<u32, ServeSettingsError>
+    ensures { MatchResult result (λ floor. floor_in life (table_view table.now) ≡ Some floor)
+        (IsFloorFault (table_view table.now)) }
+{
+    match floor_in(table, life) {
+        Some(floor) => Ok(floor),
+        None => Err(ServeSettingsError::RenewFloor),
     }
 }
 

@@ -8,7 +8,7 @@ ghost use Rattle.serve_settings.specs.Serving.{IsServed, IsNodeRefusal, IsRefusa
 ghost use Rattle.serve_settings.specs.Serving.{HasPartnerOrIsAlone, IsProtected, IsPartnerFault, IsKeyFault};
 
 use crate::error::ServeSettingsError;
-use crate::limits::{is_alone, upkeep_in};
+use crate::limits::{is_alone, renew_floor_in, upkeep_in};
 use crate::protection::{LinkProtection, protection_in};
 use node_threads::NodeSettings;
 use server_settings::OpenError;
@@ -22,6 +22,9 @@ pub struct ServeSettings {
     pub node: NodeSettings,
     /// Where a key isn't there, what [`Upkeep::DEFAULT`] has.
     pub upkeep: Upkeep,
+    /// The age, in seconds, from which on a grant isn't told again: with 0 none is. Where the key isn't there, a tenth of the
+    /// desired lifetime, and 10 at least.
+    pub renew_floor: u32,
     /// What protects the link with the partner; none where there is no partner.
     pub protection: Option<LinkProtection>,
 }
@@ -51,12 +54,12 @@ fn table_of(alloc: Global, text: &[u8]) -> Result<Table, OpenError>
 
 impl ServeSettings {
     /// The settings that a TOML document names: those of a node, `link_key` where there is a `link`, and `heartbeat`,
-    /// `volume_lines`, `volume_hours` and `alone`, which may each be left out. `Node` where no node runs by it, or a growth
+    /// `volume_lines`, `volume_hours`, `renew_floor` and `alone`, which may each be left out. `Node` where no node runs by it, or a growth
     /// was refused; else `Alone`, `NoPartner` or `PartnerOfAlone`; else `NoLinkKey` or `LinkKey`; else `Heartbeat`,
-    /// `VolumeLines` or `VolumeHours`.
+    /// `VolumeLines` or `VolumeHours`; else `RenewFloor`.
     pub fn read(alloc: Global, text: &[u8]) -> Result<ServeSettings, ServeSettingsError>
         ensures served { IfOk result (λ s. (members : Members) × IsDocument text.now members
-            × IsServed members s.node.server s.upkeep s.protection) }
+            × IsServed members s.node.server s.upkeep s.renew_floor s.protection) }
         ensures refused { IfErr result (IsRefusal text.now) }
     {
         let node = match NodeSettings::read(alloc, text) {
@@ -72,9 +75,11 @@ impl ServeSettings {
             Err(error) => return Err(error),
         };
         let upkeep = upkeep_in(&table)?;
+        let renew_floor = renew_floor_in(&table, node.server.life())?;
         Ok(ServeSettings {
             node,
             upkeep,
+            renew_floor,
             protection,
         })
     }

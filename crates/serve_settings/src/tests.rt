@@ -38,8 +38,17 @@ fn limits(alloc: Global, keys: &str) -> Result<Result<Upkeep, ServeSettingsError
     })
 }
 
+/// The age from which on a server of the document with some keys more tells no grant again.
+fn floor(alloc: Global, keys: &str) -> Result<Option<u32>, AllocError> {
+    let text = format!(in alloc; "{NODE}alone = true\n{keys}{POOL}")?;
+    Ok(match ServeSettings::read(alloc, text.as_bytes()) {
+        Ok(settings) => Some(settings.renew_floor),
+        Err(_) => None,
+    })
+}
+
 /// Keys of documents that are refused, and by what.
-const REFUSED: [(&str, ServeSettingsError); 15] = [
+const REFUSED: [(&str, ServeSettingsError); 17] = [
     ("", ServeSettingsError::NoPartner),
     (
         "lnik = \"[2001:db8::b]:647\"\n",
@@ -81,6 +90,14 @@ const REFUSED: [(&str, ServeSettingsError); 15] = [
         ServeSettingsError::VolumeHours,
     ),
     (
+        "alone = true\nrenew_floor = -1\n",
+        ServeSettingsError::RenewFloor,
+    ),
+    (
+        "alone = true\nrenew_floor = 31536001\n",
+        ServeSettingsError::RenewFloor,
+    ),
+    (
         "alone = true\nlink = 647\n",
         ServeSettingsError::Node(OpenError::Settings),
     ),
@@ -106,6 +123,9 @@ fn reads_what_a_server_runs_by(rt: HostRuntime) -> Result<(), Fail> {
         panic!(rt; "each is at least 1");
     };
     assert_eq!(rt; limits(alloc, least)?, Ok(upkeep));
+    assert_eq!(rt; floor(alloc, "")?, Some(360));
+    assert_eq!(rt; floor(alloc, "renew_floor = 0\n")?, Some(0));
+    assert_eq!(rt; floor(alloc, "renew_floor = 31536000\n")?, Some(31_536_000));
     Ok(())
 }
 

@@ -2,7 +2,7 @@
 use Rattle.std.specs.Prelude.{ℕ, List, codes}
 use Rattle.settings_advice.specs.declared.key.Key.{Key}
 use Rattle.settings_advice.specs.declared.key.Key.TheVariants.{Role, Duid, SkewMs, Mclt, Life, TransitMs, Listen, Link}
-use Rattle.settings_advice.specs.declared.key.Key.TheVariants.{LinkKey, Workers, Heartbeat, VolumeLines, VolumeHours, Alone}
+use Rattle.settings_advice.specs.declared.key.Key.TheVariants.{LinkKey, Workers, Heartbeat, VolumeLines, VolumeHours, RenewFloor, Alone}
 use Rattle.settings_advice.specs.declared.key.Key.TheVariants.{Pool, Prefix, Unit}
 
 abbrev pub key_name : Key → List ℕ
@@ -19,6 +19,7 @@ key_name Workers = codes "workers"
 key_name Heartbeat = codes "heartbeat"
 key_name VolumeLines = codes "volume_lines"
 key_name VolumeHours = codes "volume_hours"
+key_name RenewFloor = codes "renew_floor"
 key_name Alone = codes "alone"
 key_name Pool = codes "pool"
 key_name Prefix = codes "prefix"

@@ -22,6 +22,7 @@ pub enum Key {
     Heartbeat,
     VolumeLines,
     VolumeHours,
+    RenewFloor,
     Alone,
     Pool,
     /// Of a pool.
@@ -30,9 +31,9 @@ pub enum Key {
     Unit,
 }
 
-/// The keys of a node's settings. `link_key`, `heartbeat`, `volume_lines`, `volume_hours` and `alone` are read by a server
-/// that goes on for years, and passed over by all others: no value there is a reason to refuse settings.
-pub const KEYS: [Key; 15] = [
+/// The keys of a node's settings. `link_key`, `heartbeat`, `volume_lines`, `volume_hours`, `renew_floor` and `alone` are
+/// read by a server that goes on for years, and passed over by all others: no value there is a reason to refuse settings.
+pub const KEYS: [Key; 16] = [
     Key::Role,
     Key::Duid,
     Key::SkewMs,
@@ -46,6 +47,7 @@ pub const KEYS: [Key; 15] = [
     Key::Heartbeat,
     Key::VolumeLines,
     Key::VolumeHours,
+    Key::RenewFloor,
     Key::Alone,
     Key::Pool,
 ];
@@ -72,6 +74,7 @@ impl Key {
             Key::Heartbeat => "heartbeat",
             Key::VolumeLines => "volume_lines",
             Key::VolumeHours => "volume_hours",
+            Key::RenewFloor => "renew_floor",
             Key::Alone => "alone",
             Key::Pool => "pool",
             Key::Prefix => "prefix",
