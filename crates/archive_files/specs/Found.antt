@@ -9,7 +9,7 @@ use Rattle.volume_edges.specs.Beginning.{IsHeaded}
 use Rattle.volume_edges.specs.Outlining.{outline_of, outline_by}
 use Rattle.archive_files.specs.Parts.{IsBeginning, IsEnd}
 use Rattle.archive_files.specs.declared.found.Glimpse.{Glimpse}
-use Rattle.archive_files.specs.declared.found.Glimpse.TheVariants.{Volume as IsVolume, NoJournal as IsNone, Unclear}
+use Rattle.archive_files.specs.declared.found.Glimpse.TheVariants.{Volume as IsVolume, NoJournal as IsNoJournal, Unclear}
 use Rattle.archive_files.specs.declared.found.Found.{Found}
 use Rattle.archive_files.specs.declared.found.Found.TheVariants.{Volume, Unwritten, NoJournal, Faulty, Unreadable}
 
@@ -35,7 +35,7 @@ BeginsAsNone had = (beginning : List ℕ) × IsBeginning had beginning × (IsHea
 -- what the edges of a file tell
 abbrev pub IsGlimpsed : (List ℕ → Type 0) → Glimpse → Type 0
 IsGlimpsed had (IsVolume outline) = IsToldByEdges had outline
-IsGlimpsed had IsNone = BeginsAsNone had
+IsGlimpsed had IsNoJournal = BeginsAsNone had
 IsGlimpsed had Unclear = ⊤
 
 abbrev pub found_by : ℕ → Option Outline → Found
