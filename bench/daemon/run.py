@@ -51,7 +51,7 @@ def directory(folder):
     """A new directory of a server that is alone."""
     shutil.rmtree(folder, ignore_errors=True)
     folder.mkdir(parents=True)
-    (folder / "settings.toml").write_text("alone = true\nvolume_lines = 1000000\n" + SETTINGS)
+    (folder / "settings.toml").write_text("alone = true\nvolume_lines = 1000000\nrenew_floor = 0\n" + SETTINGS)
     return folder
 
 

@@ -24,6 +24,7 @@ link_key = "{key}"
 workers = 1
 heartbeat = 2
 volume_lines = {volume_lines}
+renew_floor = 0
 [[pool]]
 prefix = "2001:db8::/49"
 unit = 56

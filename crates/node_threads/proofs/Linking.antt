@@ -35,6 +35,7 @@ behind role gs fs heard x y a b behind_words =
       added = h.added;
       all = h.all;
       takes = h.takes;
+      next = h.next;
       sends =
           filter_map-append said_in gs fs
           ∙ (ap (λ ms. said_of gs ++ ms) its ∙ sym (append_assoc (said_of gs) first sends));
