@@ -1,5 +1,5 @@
 -- What files show of a moment.
-use Rattle.std.specs.Prelude.{◌≡◌, ◌≢◌, ◌≤◌, ℕ, List, [], Some, length}
+use Rattle.std.specs.Prelude.{◌≡◌, ◌≢◌, ℕ, List, [], Some}
 use Rattle.journal_text.specs.Closed.{IsClosed}
 use Rattle.open_volume.specs.declared.volume.VolumeSoFar.{VolumeSoFar}
 use Rattle.journal_archive.specs.declared.outline.Outline.{Outline}
@@ -15,21 +15,19 @@ use Rattle.archive_files.specs.declared.showing.Shown.{Shown}
 use Rattle.archive_files.specs.declared.showing.Shown.TheVariants.{Journals, Lacking}
 use Rattle.archive_files.specs.Found.{Has}
 
--- the later outline is of the same volume, which has grown or stayed as it was
-pub record HasGrown (before later : Outline) : Type 0 where
-  pub side : before.side ≡ later.side
-  pub number : before.number ≡ later.number
-  pub opened : before.opened ≡ later.opened
-  pub last : before.last ≤ later.last
-  pub octets : before.octets ≤ later.octets
+-- both are of one volume, of whichever of its lines
+pub record AreOfOne (filed read : Outline) : Type 0 where
+  pub side : filed.side ≡ read.side
+  pub number : filed.number ≡ read.number
+  pub opened : filed.opened ≡ read.opened
 
--- a volume of so many octets is what was filed, or what that has grown to
-abbrev pub IsOf : VolumeSoFar → (octets : ℕ) → Filed → Type 0
-IsOf v octets filed = (now : Outline) × (outline_of v octets ≡ Some now) × HasGrown filed.outline now
+-- it's the volume that was filed
+abbrev pub IsOf : VolumeSoFar → Filed → Type 0
+IsOf v filed = (read : Outline) × (outline_of v filed.outline.octets ≡ Some read) × AreOfOne filed.outline read
 
 -- a copy of that volume, of octets that its file had
 abbrev pub IsCopyOf : (List ℕ → Type 0) → Filed → VolumeSoFar → Type 0
-IsCopyOf had filed v = (octets : List ℕ) × had octets × Has octets v × IsOf v (length octets) filed
+IsCopyOf had filed v = (octets : List ℕ) × had octets × Has octets v × IsOf v filed
 
 -- the two journals that copies of both volumes show
 abbrev pub IsShown : (ℕ → List ℕ → Type 0) → Pair → ShownPair → Type 0

@@ -14,7 +14,7 @@ pub enum FilesError {
     /// Their volumes can't be of one pair of servers.
     #[error("{0}")]
     Archive(ArchiveError),
-    /// This file couldn't be read again, or has another volume now, or less of it.
+    /// This file couldn't be read again, or has another volume now.
     #[error("file {file} isn't what it was")]
     Changed { file: usize },
     /// This file has this fault, its first, which its edges don't show.

@@ -27,7 +27,8 @@ pub trait JournalFiles {
     fn count(&self) -> usize
         ensures { result ≡ files self.now };
 
-    /// All octets of a file, as it has them now.
+    /// All octets of a file, as it has them now. Where a server that still writes it says how much of it is on a disk,
+    /// these alone.
     fn read(&self, alloc: Global, file: usize) -> Result<Vec<u8>, Unreadable>
         ensures { IfOk result (λ octets. had self.now file octets.items) };
 

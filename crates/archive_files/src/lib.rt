@@ -3,7 +3,7 @@
 //! [`catalogue_of`] looks at the edges of each file and says what it is: the outline of a volume, for the archive, or
 //! why it's passed over. Only where the edges don't tell is a file read whole. [`shown_at`] chooses the pair of volumes
 //! that shows a moment, reads these two whole, and gives the two journals that they show, or says what is lacking; a
-//! file that isn't what its edges said is refused there. The contracts speak of octets that a file had when it was read
+//! file with another volume than its edges said is refused there. The contracts speak of octets that a file had when it was read
 //! (`had` of [`JournalFiles`]): a file that a server writes on may have others each time.
 //!
 //! Two files with one volume of a side count once where their outlines are the same: first and last reading, octets,

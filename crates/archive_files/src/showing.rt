@@ -2,7 +2,7 @@
 
 ghost use Rattle.std.specs.Prelude.{◌↔◌, IsTrue, IfOk};
 ghost use Rattle.open_volume.specs.Spelling.{IsWrittenSoFar};
-ghost use Rattle.archive_files.specs.Showing.{HasGrown, IsOf, IsCopyOf, IsShown, IsShownAt, AreClosed};
+ghost use Rattle.archive_files.specs.Showing.{AreOfOne, IsOf, IsCopyOf, IsShown, IsShownAt, AreClosed};
 
 use crate::error::FilesError;
 use crate::files::{JournalFiles, Unreadable};
@@ -22,8 +22,8 @@ pub enum Shown {
     Lacking(Role, Lack),
 }
 
-/// The volume that a file has now: the one that was filed, perhaps longer. `Changed` where it's another or can't be read,
-/// `Faulty` where it's none.
+/// The volume that a file has now: the one that was filed, with more lines perhaps, or with fewer where not all that its
+/// edges showed is on a disk. `Changed` where it's another or can't be read, `Faulty` where it's none.
 fn read_again<F: JournalFiles>(
     alloc: Global,
     files: &F,
@@ -43,32 +43,27 @@ fn read_again<F: JournalFiles>(
         Err(JournalError::Fault(fault)) => return Err(FilesError::Faulty { file, fault }),
         Err(JournalError::Memory) => return Err(FilesError::Memory),
     };
-    if is_of(&volume, octets.len() as u64, filed) {
+    if is_of(&volume, filed) {
         Ok(volume)
     } else {
         Err(FilesError::Changed { file })
     }
 }
 
-/// Returns whether a volume of so many octets is what was filed, or what that has grown to.
-fn is_of(volume: &VolumeSoFar, octets: u64, filed: &Filed) -> bool
-    ensures { IsTrue result ↔ IsOf volume.now octets filed.now }
+fn is_of(volume: &VolumeSoFar, filed: &Filed) -> bool
+    ensures { IsTrue result ↔ IsOf volume.now filed.now }
 {
-    match outline_of(volume, octets) {
-        Some(outline) => has_grown(&filed.outline, &outline),
+    match outline_of(volume, filed.outline.octets) {
+        Some(outline) => is_same(&filed.outline, &outline),
         None => false,
     }
 }
 
-/// Returns whether the later outline is of the same volume, which has grown or stayed as it was.
-fn has_grown(before: &Outline, later: &Outline) -> bool
-    ensures { IsTrue result ↔ HasGrown before.now later.now }
+/// Returns whether both outlines are of one volume, of whichever of its lines.
+fn is_same(filed: &Outline, read: &Outline) -> bool
+    ensures { IsTrue result ↔ AreOfOne filed.now read.now }
 {
-    before.side == later.side
-        && before.number == later.number
-        && before.opened == later.opened
-        && before.last <= later.last
-        && before.octets <= later.octets
+    filed.side == read.side && filed.number == read.number && filed.opened == read.opened
 }
 
 /// The journals that a pair of volumes shows, by what their files have now.

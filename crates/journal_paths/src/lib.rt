@@ -1,10 +1,11 @@
 //! Files of journals at paths of the operating system.
 //!
 //! `JournalPaths` are the files that paths name, of a directory those in it and none deeper, for `archive_files` to
-//! read, whole or at their edges. What the system answers has no meaning in a contract.
+//! read, whole or at their edges. Where a server runs over a directory it's asked how much of the volume that it writes
+//! is on its disk, and of that volume no more is read. What the system answers has no meaning in a contract.
 //!
 //! ```text
-//! let files = JournalPaths::at(&rt, &words)?;
+//! let files = JournalPaths::at(&rt, &rt, &words)?;
 //! let catalogue = catalogue_of(rt.alloc(), &files)?;
 //! ```
 #![tactic(auto)]
@@ -15,13 +16,27 @@ use archive_files::{FileEnd, JournalFiles, Unreadable};
 use std::alloc::Global;
 use std::fs::{self, File};
 use std::io::{self, Error, ErrorKind, Read, Seek, SeekFrom};
+use std::net::Net;
 use std::path::{Path, PathBuf};
+use synced_lines::{Synced, ask, first_lines};
+
+/// The name of a server's socket in its directory.
+const CONTROL: &str = "control";
+
+/// How many lines of a file are on its server's disk.
+#[derive(Clone, Copy, Debug, PartialEq, Eq)]
+struct Live {
+    file: usize,
+    lines: u64,
+}
 
 /// Files at paths, by their counts.
 #[derive(Drop)]
 pub struct JournalPaths<'a> {
     rt: &'a HostRuntime,
     paths: Vec<PathBuf>,
+    live: Vec<Live>,
+    silent: Vec<PathBuf>,
 }
 
 /// Returns whether the path is known to be no file. A link that leads nowhere isn't: its reader tells.
@@ -43,30 +58,112 @@ fn add_files_in(rt: &HostRuntime, paths: &mut Vec<PathBuf>, folder: Path<'_>) ->
     Ok(())
 }
 
-/// Adds what a path names: a file, or the files of a directory.
-fn add_path(rt: &HostRuntime, paths: &mut Vec<PathBuf>, path: Path<'_>) -> io::Result<()> {
-    if fs::metadata(rt, path)?.is_dir() {
-        return add_files_in(rt, paths, path);
+/// The file of a directory that has the volume of this number, by the name that its server gives it.
+fn file_of(
+    rt: &HostRuntime,
+    paths: &[PathBuf],
+    folder: Path<'_>,
+    number: u64,
+) -> io::Result<Option<usize>> {
+    for side in ["A", "B"] {
+        let name = format!(in rt.alloc(); "{side}-{number:07}.journal")?;
+        let path = folder.join(rt.alloc(), name.as_str())?;
+        for file in 0..paths.len() {
+            if paths[file].as_path().as_str() == path.as_path().as_str() {
+                return Ok(Some(file));
+            }
+        }
     }
-    paths.push(path.to_path_buf(rt.alloc())?)?;
-    Ok(())
+    Ok(None)
+}
+
+/// A word that names nothing, or nothing that can be looked at.
+#[derive(Debug, Drop)]
+pub struct PathError {
+    /// Which of the words, from 0.
+    pub word: usize,
+    /// What the system said.
+    pub error: Error,
 }
 
 impl<'a> JournalPaths<'a> {
-    /// The files that these paths name, in the order of the paths, and of a directory's in the system's. The system's
-    /// error where a path names nothing or can't be looked at.
-    pub fn at(rt: &'a HostRuntime, words: &[String]) -> io::Result<JournalPaths<'a>> {
-        let mut paths = Vec::new(rt.alloc());
-        for word in words {
-            add_path(rt, &mut paths, Path::new(word.as_str()))?;
+    /// The files that these words name, in the order of the words, and of a directory's in the system's. The first word
+    /// that names nothing, or what can't be looked at.
+    pub fn at(
+        rt: &'a HostRuntime,
+        net: &impl Net,
+        words: &[&str],
+    ) -> Result<JournalPaths<'a>, PathError> {
+        let alloc = rt.alloc();
+        let mut files = JournalPaths {
+            rt,
+            paths: Vec::new(alloc),
+            live: Vec::new(alloc),
+            silent: Vec::new(alloc),
+        };
+        for word in 0..words.len() {
+            match files.add(net, Path::new(words[word])) {
+                Ok(()) => {}
+                Err(error) => return Err(PathError { word, error }),
+            }
         }
-        Ok(JournalPaths { rt, paths })
+        Ok(files)
+    }
+
+    /// Adds what a path names: a file, or the files of a directory.
+    fn add(&mut self, net: &impl Net, path: Path<'_>) -> io::Result<()> {
+        if !fs::metadata(self.rt, path)?.is_dir() {
+            self.paths.push(path.to_path_buf(self.rt.alloc())?)?;
+            return Ok(());
+        }
+        // (its files first: of a volume that begins later nothing is read)
+        add_files_in(self.rt, &mut self.paths, path)?;
+        self.ask_server(net, path)
+    }
+
+    /// Asks the server that runs over a directory, if one does, how much of its volume is on the disk.
+    fn ask_server(&mut self, net: &impl Net, folder: Path<'_>) -> io::Result<()> {
+        let control = folder.join(self.rt.alloc(), CONTROL)?;
+        if fs::metadata(self.rt, control.as_path()).is_err() {
+            return Ok(());
+        }
+        let Some(Synced { number, lines }) = ask(net, self.rt.alloc(), control.as_path()) else {
+            self.silent.push(control)?;
+            return Ok(());
+        };
+        if let Some(file) = file_of(self.rt, &self.paths, folder, number)? {
+            self.live.push(Live { file, lines })?;
+        }
+        Ok(())
     }
 
     /// The path of a file.
     pub fn path(&self, file: usize) -> Option<Path<'_>> {
         let path = self.paths.get(file)?;
         Some(path.as_path())
+    }
+
+    /// The paths of all files, in the order of their counts.
+    pub fn paths(&self) -> &[PathBuf] {
+        &self.paths
+    }
+
+    /// The sockets at which no server answered, though their directories have them: what is read there may not be on a
+    /// disk yet.
+    pub fn silent(&self) -> &[PathBuf] {
+        &self.silent
+    }
+
+    /// What a file has on its server's disk of what was read of it; all where no server runs over it.
+    fn on_disk(&self, file: usize, octets: Vec<u8>) -> Vec<u8> {
+        let mut octets = octets;
+        for live in &self.live {
+            if live.file == file {
+                let whole = first_lines(&octets, live.lines.saturating_add(1)).len();
+                octets.truncate(whole);
+            }
+        }
+        octets
     }
 }
 
@@ -117,7 +214,7 @@ impl JournalFiles for JournalPaths<'_> {
     fn read(&self, _alloc: Global, file: usize) -> Result<Vec<u8>, Unreadable> {
         let path = self.path(file).ok_or(Unreadable::Device)?;
         match fs::read(self.rt, path) {
-            Ok(octets) => Ok(octets),
+            Ok(octets) => Ok(self.on_disk(file, octets)),
             Err(error) => Err(unreadable(&error)),
         }
     }
