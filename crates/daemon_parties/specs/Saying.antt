@@ -1,6 +1,6 @@
 -- What the partner is told: frames that are given to a connection, each whole, in their order.
-use Rattle.std.specs.Prelude.{◌≡◌, ◌⊎◌, ℕ, List, [], ◌∷◌, ◌++◌, Option, map}
-use Rattle.daemon_devices.specs.Giving.{Sent, Gives, Stays}
+use Rattle.std.specs.Prelude.{◌≡◌, ◌⊎◌, ⊤, List, [], ◌∷◌, ◌++◌, Option, Some, None, IfSome, map}
+use Rattle.daemon_devices.specs.Giving.{Sent, Gives, Stays, OnlyHears, IsUnused}
 use Rattle.failover_message.specs.Frames.{frame_octets}
 use Rattle.failover_message.specs.declared.frame.Frame.{Frame}
 use Rattle.failover_message.specs.declared.frame.FrameKind.TheVariants.{Disconnect}
@@ -16,6 +16,8 @@ pub data AreGiven (first : Sent) : List Frame → Sent → Type 0 where
       → AreGiven first (frames ++ frame ∷ []) new
   kept : (frames : List Frame) (old new : Sent)
       → AreGiven first frames old → Stays old new → AreGiven first frames new
+  heard : (frames : List Frame) (old new : Sent)
+      → AreGiven first frames old → OnlyHears old new → AreGiven first frames new
 
 abbrev pub frames_of : List Handed → List Frame
 frames_of handed = map (λ (h : Handed). h.frame) handed
@@ -43,3 +45,26 @@ pub record Says (frames : List Frame) (old new : Sent) : Type 0 where
   pub all : frames ≡ front ++ rest
   pub last : IsLastWord words
   pub given : AreGiven old (front ++ words) new
+
+-- ---- the connection that stands, if one does
+
+-- Frames were said to it, where one stood; it stands on, or it is over.
+abbrev pub SaysOver : List Frame → Option Sent → Option Sent → Type 0
+SaysOver frames None after = after ≡ None
+SaysOver frames (Some old) after = (last : Sent) × Says frames old last × IfSome after (λ new. new ≡ last)
+
+-- It stands on, and was given nothing.
+abbrev pub StandsOn : Option Sent → Option Sent → Type 0
+StandsOn None after = after ≡ None
+StandsOn (Some old) after = (new : Sent) × (after ≡ Some new) × AreGiven old [] new
+
+-- it is the one that stood
+abbrev pub IsSame : Option Sent → Sent → Type 0
+IsSame None new = ⊥
+IsSame (Some old) new = OnlyHears old new
+
+-- While a server hears, it gives nothing: what stands then is the one that stood, or another that was let in, over which
+-- no record was put yet.
+abbrev pub MayStand : Option Sent → Option Sent → Type 0
+MayStand before None = ⊤
+MayStand before (Some new) = IsSame before new ⊎ IsUnused new.passage

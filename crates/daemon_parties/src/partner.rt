@@ -1,14 +1,14 @@
 //! The partner: the connections that wait, and the one that stands.
 
-ghost use Rattle.std.specs.Prelude.{◌≡◌, IfSome};
-ghost use Rattle.daemon_devices.specs.Giving.{Sent};
+ghost use Rattle.std.specs.Prelude.{◌≡◌, [], Some, None, IfOk, IfSome};
+ghost use Rattle.daemon_devices.specs.Giving.{IsUnused};
 ghost use Rattle.daemon_parties.specs.Hearing.{HasSameFiles};
-ghost use Rattle.daemon_parties.specs.Saying.{frames_of, Says};
+ghost use Rattle.daemon_parties.specs.Saying.{frames_of, SaysOver, StandsOn, MayStand};
 
 use crate::clocks::{Clocks, Moment};
 use crate::hearing::HearingError;
 use crate::standing::{Standing, parting_of};
-use daemon_devices::{Connection, Door, Got, Leaving, WaitingRoom};
+use daemon_devices::{Connection, Door, Leaving, WaitingRoom};
 use lead_time::Reading;
 use link_entry::{EntryFault, Keeper};
 use link_talk::Handed;
@@ -16,12 +16,13 @@ use server_notices::{Happening, Log, Parting};
 use server_run::Running;
 use server_settings::Settings;
 use std::alloc::{AllocError, Global};
+use std::marker::Model;
 use volume_folder::Folder;
 
 /// How many octets are read at once, at most.
 const READ_SIZE: usize = 65_536;
 
-/// The way to the partner.
+/// The way to the partner. Contracts see what was given to the connection that stands, if one does.
 #[derive(Drop)]
 pub struct Partner<D: Door> {
     alloc: Global,
@@ -29,6 +30,15 @@ pub struct Partner<D: Door> {
     buffer: Vec<u8>,
     waiting: WaitingRoom<D::Stream>,
     standing: Option<Standing<D>>,
+}
+
+impl<D: Door> Model for Partner<D> {
+    ghost use Rattle.std.specs.Prelude.{Option, option_map};
+    ghost use Rattle.daemon_devices.specs.Giving.{Sent};
+
+    ghost Value = { Option Sent };
+
+    ghost view = { λ p. option_map (λ s. s.connection.sent) p.standing };
 }
 
 /// What a person is told of one that waited and wasn't let in.
@@ -45,7 +55,9 @@ fn happening_of(leaving: &Leaving) -> Happening {
 
 impl<D: Door> Partner<D> {
     /// A partner who comes by a door, and is let in by a keeper. An error where a growth was refused.
-    pub fn new(alloc: Global, door: D, keeper: Keeper) -> Result<Partner<D>, AllocError> {
+    pub fn new(alloc: Global, door: D, keeper: Keeper) -> Result<Partner<D>, AllocError>
+        ensures { IfOk result (λ p. p ≡ None) }
+    {
         Ok(Partner {
             alloc,
             door,
@@ -67,7 +79,9 @@ impl<D: Door> Partner<D> {
 
     /// Gives connections that have come a seat, as far as there is room. Where there is none the next is closed, and that
     /// is told: returns whether one was.
-    fn attend_door<L: Print>(&mut self, now: &Moment, log: &mut Log<'_, L>) -> bool {
+    fn attend_door<L: Print>(&mut self, now: &Moment, log: &mut Log<'_, L>) -> bool
+        ensures { self.new ≡ self.old }
+    {
         let stands = self.standing.is_some();
         if !self.waiting.has_room(stands) {
             return self.turn_away(now, log);
@@ -85,7 +99,9 @@ impl<D: Door> Partner<D> {
     }
 
     /// Closes a connection that has come, and tells it. Returns whether one had.
-    fn turn_away<L: Print>(&mut self, now: &Moment, log: &mut Log<'_, L>) -> bool {
+    fn turn_away<L: Print>(&mut self, now: &Moment, log: &mut Log<'_, L>) -> bool
+        ensures { self.new ≡ self.old }
+    {
         let has_other = self.door.turn_away();
         if has_other {
             log.tell_often(&Happening::TurnedAway, now.reading);
@@ -98,7 +114,10 @@ impl<D: Door> Partner<D> {
         &mut self,
         now: &Moment,
         log: &mut Log<'_, L>,
-    ) -> Option<Connection<D::Stream>> {
+    ) -> Option<Connection<D::Stream>>
+        ensures same { self.new ≡ self.old }
+        ensures unused { IfSome result (λ c. IsUnused c.sent.passage) }
+    {
         let entered = self.waiting.go_on(&mut self.buffer, now.instant);
         for leaving in self.waiting.left().as_slice() {
             log.tell_often(&happening_of(leaving), now.reading);
@@ -117,6 +136,7 @@ impl<D: Door> Partner<D> {
     where
         F::File: Drop,
         ensures files { HasSameFiles running.old running.new }
+        ensures none { self.new ≡ None }
     {
         if let Some(standing) = self.standing.take() {
             standing.tell_parting(Parting::Replaced, now, log);
@@ -135,6 +155,7 @@ impl<D: Door> Partner<D> {
     where
         F::File: Drop,
         ensures files { HasSameFiles running.old running.new }
+        ensures stands { self.new ≡ Some connection.sent }
     {
         let mut standing = Standing::new(connection, now);
         if let Err(error) = running.meet(settings) {
@@ -156,6 +177,7 @@ impl<D: Door> Partner<D> {
     where
         F::File: Drop,
         ensures files { HasSameFiles running.old running.new }
+        ensures stands { MayStand self.old self.new }
     {
         let Some(mut standing) = self.standing.take() else {
             return Ok(false);
@@ -181,6 +203,7 @@ impl<D: Door> Partner<D> {
     where
         F::File: Drop,
         ensures files { HasSameFiles running.old running.new }
+        ensures stands { MayStand self.old self.new }
     {
         if let Some(connection) = self.let_in(now, log) {
             self.replace(running, now, log);
@@ -188,8 +211,10 @@ impl<D: Door> Partner<D> {
             return Ok(true);
         }
         let has_other = self.attend_door(now, log);
-        let has_come = self.hear_standing(running, settings, has_other, now, clocks, log)?;
-        Ok(self.waiting.has_come() || has_come)
+        match self.hear_standing(running, settings, has_other, now, clocks, log) {
+            Ok(has_come) => Ok(self.waiting.has_come() || has_come),
+            Err(error) => Err(error),
+        }
     }
 
     /// Says the frames that were held back, and ends the connection where it is over.
@@ -203,9 +228,7 @@ impl<D: Door> Partner<D> {
     where
         F::File: Drop,
         ensures files { HasSameFiles running.old running.new }
-        ensures said { IfSome self.old.standing (λ s. (last : Sent)
-            × Says (frames_of frames.now) s.connection.sent last
-            × IfSome self.new.standing (λ t. t.connection.sent ≡ last)) }
+        ensures said { SaysOver (frames_of frames.now) self.old self.new }
     {
         let Some(mut standing) = self.standing.take() else {
             return;
@@ -224,7 +247,9 @@ impl<D: Door> Partner<D> {
 
     /// Ends the connection behind this turn, where there is one: in the next one the partner names what it has taken,
     /// and receipts of older volumes are forgotten.
-    pub fn meet_anew(&mut self) {
+    pub fn meet_anew(&mut self)
+        ensures { self.new ≡ self.old }
+    {
         if let Some(standing) = &mut self.standing {
             if standing.parting.is_none() {
                 standing.parting = Some(Parting::Rolled);
@@ -233,7 +258,9 @@ impl<D: Door> Partner<D> {
     }
 
     /// Says DISCONNECT, where there is a connection.
-    pub fn say_goodbye(&mut self) {
+    pub fn say_goodbye(&mut self)
+        ensures { SaysOver [] self.old self.new }
+    {
         if let Some(standing) = &mut self.standing {
             standing.say_goodbye(self.alloc);
         }
@@ -241,14 +268,12 @@ impl<D: Door> Partner<D> {
 
     /// Reads on behind DISCONNECT, and passes it over: a connection that is closed with octets unread may lose what was
     /// written last. Returns whether the other end goes on.
-    pub fn hear_out(&mut self, now: &Moment) -> bool {
+    pub fn hear_out(&mut self, now: &Moment) -> bool
+        ensures { StandsOn self.old self.new }
+    {
         let Some(standing) = &mut self.standing else {
             return false;
         };
-        let _ = standing.connection.flush();
-        !matches!(
-            standing.connection.read(&mut self.buffer, now.instant),
-            Got::End | Got::Forged
-        )
+        standing.hear_out(&mut self.buffer, now.instant)
     }
 }

@@ -1,7 +1,7 @@
 //! A connection with the partner that stands, turn by turn.
 
-ghost use Rattle.std.specs.Prelude.{◌≡◌, ◌≤◌, ℕ, List, Some, length};
-ghost use Rattle.daemon_devices.specs.Giving.{IsGiven};
+ghost use Rattle.std.specs.Prelude.{◌≡◌, ◌≤◌, ℕ, List, [], Some, length};
+ghost use Rattle.daemon_devices.specs.Giving.{IsGiven, OnlyHears};
 ghost use Rattle.failover_message.specs.Frames.{frame_octets};
 ghost use Rattle.daemon_parties.specs.Hearing.{HasSameFiles};
 ghost use Rattle.daemon_parties.specs.Saying.{frames_of, AreGiven, AreFirstGiven, Says, IsLastWord};
@@ -104,7 +104,9 @@ where
 
 impl<D: Door> Standing<D> {
     /// A connection that begins now.
-    pub(crate) fn new(connection: Connection<D::Stream>, now: &Moment) -> Standing<D> {
+    pub(crate) fn new(connection: Connection<D::Stream>, now: &Moment) -> Standing<D>
+        ensures { result.connection ≡ connection }
+    {
         Standing {
             connection,
             quiet: QuietSecond::new(now.instant),
@@ -129,6 +131,7 @@ impl<D: Door> Standing<D> {
     where
         F::File: Drop,
         ensures files { HasSameFiles running.old running.new }
+        ensures hears { OnlyHears self.old.connection.sent self.new.connection.sent }
     {
         let got = self.connection.read(buffer, begun);
         let Some(now) = clocks.now() else {
@@ -162,6 +165,7 @@ impl<D: Door> Standing<D> {
     where
         F::File: Drop,
         ensures files { HasSameFiles running.old running.new }
+        ensures connection { self.new.connection ≡ self.old.connection }
     {
         let stage = running.stage();
         if let Some(stage) = &stage {
@@ -202,7 +206,9 @@ impl<D: Door> Standing<D> {
     }
 
     /// Tells that the two have joined, once they have.
-    pub(crate) fn tell_joined<L: Print>(&mut self, stage: Option<Stage>, log: &Log<'_, L>) {
+    pub(crate) fn tell_joined<L: Print>(&mut self, stage: Option<Stage>, log: &Log<'_, L>)
+        ensures { self.new.connection ≡ self.old.connection }
+    {
         if !self.has_joined && matches!(stage, Some(Stage::Joined { .. })) {
             self.has_joined = true;
             log.tell(&Happening::Met);
@@ -225,7 +231,9 @@ impl<D: Door> Standing<D> {
     }
 
     /// Tells that nothing came over it for long, once for each time that it is so long.
-    pub(crate) fn tell_silence<L: Print>(&mut self, now: &Moment, log: &mut Log<'_, L>) {
+    pub(crate) fn tell_silence<L: Print>(&mut self, now: &Moment, log: &mut Log<'_, L>)
+        ensures { self.new.connection ≡ self.old.connection }
+    {
         if now.instant.duration_since(self.listened).as_secs() >= LONG_SILENCE {
             self.listened = now.instant;
             log.tell_often(&Happening::PartnerSilent, now.reading);
@@ -251,8 +259,19 @@ impl<D: Door> Standing<D> {
         let _ = self.connection.flush();
     }
 
+    /// Reads on behind DISCONNECT, and passes it over. Returns whether the other end goes on.
+    pub(crate) fn hear_out(&mut self, buffer: &mut [u8], now: Instant) -> bool
+        ensures { AreGiven self.old.connection.sent [] self.new.connection.sent }
+    {
+        let _ = self.connection.flush();
+        let got = self.connection.read(buffer, now);
+        !matches!(got, Got::End | Got::Forged)
+    }
+
     /// Gives it up where nothing came over it for too long, the shorter where another has come.
-    pub(crate) fn give_up(&mut self, has_other: bool, now: &Moment) {
+    pub(crate) fn give_up(&mut self, has_other: bool, now: &Moment)
+        ensures { self.new.connection ≡ self.old.connection }
+    {
         if self.parting.is_none() && self.connection.is_given_up(now.instant, has_other) {
             self.parting = Some(Parting::Silent);
         }
