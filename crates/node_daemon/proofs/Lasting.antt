@@ -1,6 +1,6 @@
 -- Turns keep a server's volumes.
-use Rattle.std.specs.Prelude.{◌≡◌, ◌⊎◌, ℕ, List, [], ◌∷◌, ◌++◌}
-use Rattle.std.proofs.Common.{inl, inr, refl, sym, ◌∙◌, ap, subst}
+use Rattle.std.specs.Prelude.{◌≡◌, ℕ, List, [], ◌∷◌, ◌++◌}
+use Rattle.std.proofs.Common.{inl, inr, sym, ◌∙◌, ap, subst}
 use Rattle.binding_rules.specs.declared.role.Role.{Role}
 use Rattle.journal_lines.specs.declared.line.Journal.{Journal}
 use Rattle.torn_disk.specs.Disk.{Call}
@@ -12,11 +12,11 @@ use Rattle.book_volumes.specs.Volumes.{ended_volume}
 use Rattle.server_run.specs.Live.{LiveState}
 use Rattle.server_run.specs.Going.{so_far}
 use Rattle.server_run.specs.Running.{RunState}
-use Rattle.server_laws.specs.Settling.{IsPut, IsRolled, IsSettled}
+use Rattle.server_laws.specs.Settling.{IsRolled}
 use Rattle.server_laws.specs.Servers.{IsServers}
-use Rattle.server_laws.specs.Laws.{StaysServers, RollsServers, SettlesKeep, RollsKeep}
+use Rattle.server_laws.specs.Laws.{StaysServers, SettlesKeep, RollsKeep}
 use Rattle.daemon_parties.specs.Hearing.{HasSameFiles}
-use Rattle.node_daemon.specs.Turning.{IsTurn, Turns, none, more, HasTurned}
+use Rattle.node_daemon.specs.Turning.{Ways, IsTurn, Turns, none, more, HasTurned}
 use Rattle.node_daemon.specs.Lasting.{Keeps, goes_on, rolls, Lasts, at_first, one_more, HasLasted}
 
 -- what puts nothing to the disk keeps the volumes
@@ -39,17 +39,17 @@ with_names role earlier files j names now v same is =
     subst (λ (ns : List NameCall). IsServers role earlier files j ns v) (sym same) is
 
 module _ {P Line : Type 0} (settle_law : SettlesKeep) (roll_law : RollsKeep) (Listens : Line → Line → Type 0)
-    (Sends : Line → P → List ℕ → Line → Type 0) (transit : ℕ) (first : Line) (begun : RunState P) (role : Role)
+    (Sends : Line → P → List ℕ → Line → Type 0) (transit : ℕ) (first : Ways Line) (begun : RunState P) (role : Role)
     (earlier : List VolumeSoFar) (files : List (List Call)) (j : Journal) where
   -- what is reached by turns, and by which
-  record Reached (way : Line) (reached : RunState P) : Type 0 where
+  record Reached (way : Ways Line) (reached : RunState P) : Type 0 where
     ended : List VolumeSoFar
     settled : List (List Call)
     journal : Journal
     lasts : Lasts Listens Sends transit first begun role earlier files j way reached ended settled journal
     is : IsServers role ended settled journal reached.names reached.volume
 
-  module _ (way : Line) (old : RunState P) (next : Line) (new : RunState P) (r : Reached way old)
+  module _ (way : Ways Line) (old : RunState P) (next : Ways Line) (new : RunState P) (r : Reached way old)
       (turn : IsTurn Listens Sends transit way old next new) where
     heard : IsServers role r.ended r.settled r.journal turn.ready.names turn.ready.volume
     heard = same_servers role r.ended r.settled r.journal old turn.ready turn.same r.is
@@ -95,13 +95,13 @@ module _ {P Line : Type 0} (settle_law : SettlesKeep) (roll_law : RollsKeep) (Li
       | inr rolled ↦ with_roll rolled
     ]
 
-  reached : (way : Line) (s : RunState P) → Turns Listens Sends transit first begun way s
+  reached : (way : Ways Line) (s : RunState P) → Turns Listens Sends transit first begun way s
       → IsServers role earlier files j begun.names begun.volume → Reached way s
   reached _ _ none is = record { ended = earlier; settled = files; journal = j; lasts = at_first; is = is }
   reached _ _ (more way old next new before turn) is =
       reached_next way old next new (reached way old before is) turn
 
-  pub has_lasted : (last : Line) → HasTurned Listens Sends transit first begun last
+  pub has_lasted : (last : Ways Line) → HasTurned Listens Sends transit first begun last
       → IsServers role earlier files j begun.names begun.volume
       → HasLasted Listens Sends transit first begun last role earlier files j
   has_lasted last turned is =
@@ -114,5 +114,5 @@ module _ {P Line : Type 0} (settle_law : SettlesKeep) (roll_law : RollsKeep) (Li
         journal = r.journal;
         lasts = r.lasts;
         is = r.is;
-        hears = turned.3;
+        since = turned.3;
       }

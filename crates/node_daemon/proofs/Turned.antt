@@ -1,22 +1,71 @@
 -- Turns, one behind the other.
-use Rattle.std.specs.Prelude.{◌≡◌, ℕ, List}
+use Rattle.std.specs.Prelude.{◌≡◌, ℕ, List, [], Option}
 use Rattle.std.proofs.Common.{sym, subst}
+use Rattle.daemon_devices.specs.Giving.{Sent}
 use Rattle.server_run.specs.Running.{RunState}
-use Rattle.daemon_parties.specs.Hearing.{MayHear, nothing}
-use Rattle.node_daemon.specs.Turning.{IsTurn, Turns, more, HasTurned}
+use Rattle.daemon_parties.specs.Hearing.{MayHear, nothing, HasSameFiles}
+use Rattle.daemon_parties.specs.Saying.{MayStand, SaysOver}
+use Rattle.daemon_parties.proofs.Given.{may_stand, said_nothing}
+use Rattle.node_daemon.specs.Turning.{Ways, ways, MayRoll, Tells, IsTurn, Turns, more, SinceThen, HasTurned}
 
 -- nothing came
 pub none_heard : {Line : Type 0} (Listens : Line → Line → Type 0) (a b : Line) → b ≡ a → MayHear Listens a b
 none_heard Listens a b is = subst (λ way. MayHear Listens a way) (sym is) nothing
 
+-- nobody came
+pub nobody_came : (a b : Option Sent) → b ≡ a → MayStand a b
+nobody_came a b is = subst (λ link. MayStand a link) (sym is) (may_stand a)
+
+-- nothing was said
+pub nothing_said : (a b : Option Sent) → b ≡ a → SaysOver [] a b
+nothing_said a b is = subst (λ link. SaysOver [] a link) (sym is) (said_nothing a)
+
+-- nothing was said, and nobody came
+pub nothing_since : {Line : Type 0} (Listens : Line → Line → Type 0) (a b : Ways Line) → b.datagrams ≡ a.datagrams
+    → SaysOver [] a.link b.link → SinceThen Listens a b
+nothing_since Listens a b same says = record {
+  hears = none_heard Listens a.datagrams b.datagrams same;
+  stood = a.link;
+  stands = may_stand a.link;
+  said = says;
+}
+
+-- what was heard, and nothing said
+pub heard_since : {Line : Type 0} (Listens : Line → Line → Type 0) (a b : Ways Line)
+    → MayHear Listens a.datagrams b.datagrams → MayStand a.link b.link → SinceThen Listens a b
+heard_since Listens a b hears stands =
+    record { hears = hears; stood = b.link; stands = stands; said = said_nothing b.link }
+
+-- a turn by what its calls keep: the ways when it woke, when it had heard, and when it told
+pub is_turn : {P Line : Type 0} (Listens : Line → Line → Type 0) (Sends : Line → P → List ℕ → Line → Type 0)
+    (transit : ℕ) (way woke heard told : Line) (link woke_link heard_link told_link : Option Sent) (next : Ways Line)
+    (old ready begun new : RunState P) → woke ≡ way → woke_link ≡ link → MayHear Listens woke heard
+    → MayStand woke_link heard_link → HasSameFiles old ready → MayRoll ready begun → told ≡ heard
+    → told_link ≡ heard_link → (t : ℕ) → t ≡ transit → Tells Sends t (ways told told_link) begun next new
+    → IsTurn Listens Sends transit (ways way link) old next new
+is_turn Listens Sends transit way woke heard told link woke_link heard_link told_link next old ready begun new same_way
+    same_link hears stands same rolls same_told same_told_link t same_transit tells = record {
+  heard = ways heard heard_link;
+  hears = subst (λ d. MayHear Listens d heard) same_way hears;
+  stands = subst (λ l. MayStand l heard_link) same_link stands;
+  ready = ready;
+  same = same;
+  begun = begun;
+  rolls = rolls;
+  tells = subst (λ n. Tells Sends n (ways heard heard_link) begun next new) same_transit
+      (subst (λ d. Tells Sends t (ways d heard_link) begun next new) same_told
+      (subst (λ l. Tells Sends t (ways told l) begun next new) same_told_link tells));
+}
+
 module _ {P Line : Type 0} (Listens : Line → Line → Type 0) (Sends : Line → P → List ℕ → Line → Type 0)
-    (transit : ℕ) (first : Line) (begun : RunState P) where
-  pub one_more_turn : (way : Line) (old : RunState P) (next : Line) (new : RunState P)
+    (transit : ℕ) (first : Ways Line) (begun : RunState P) where
+  pub one_more_turn : (way : Ways Line) (old : RunState P) (next : Ways Line) (new : RunState P)
       → Turns Listens Sends transit first begun way old → (same : ℕ) → same ≡ transit
       → IsTurn Listens Sends same way old next new → Turns Listens Sends transit first begun next new
   one_more_turn way old next new turns same is turn =
       more way old next new turns (subst (λ t. IsTurn Listens Sends t way old next new) is turn)
 
-  pub has_turned : (way : Line) (reached : RunState P) (last : Line)
-      → Turns Listens Sends transit first begun way reached → MayHear Listens way last → HasTurned Listens Sends transit first begun last
-  has_turned way reached last turns hears = (way, reached, turns, hears)
+  pub has_turned : (way : Ways Line) (reached : RunState P) (last : Ways Line)
+      → Turns Listens Sends transit first begun way reached → SinceThen Listens way last
+      → HasTurned Listens Sends transit first begun last
+  has_turned way reached last turns since = (way, reached, turns, since)

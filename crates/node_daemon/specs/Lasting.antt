@@ -1,5 +1,5 @@
 -- That the volumes in a daemon's folder are one server's, turn after turn, and at whatever moment the power goes.
-use Rattle.std.specs.Prelude.{◌≡◌, ℕ, List, [], ◌∷◌, ◌++◌}
+use Rattle.std.specs.Prelude.{ℕ, List, [], ◌∷◌, ◌++◌}
 use Rattle.binding_rules.specs.declared.role.Role.{Role}
 use Rattle.journal_lines.specs.declared.line.Journal.{Journal}
 use Rattle.torn_disk.specs.Disk.{Call}
@@ -8,8 +8,7 @@ use Rattle.book_volumes.specs.Volumes.{ended_volume}
 use Rattle.server_run.specs.Running.{RunState}
 use Rattle.server_laws.specs.Servers.{IsServers}
 use Rattle.server_laws.specs.Laws.{StaysServers, RollsServers}
-use Rattle.daemon_parties.specs.Hearing.{MayHear}
-use Rattle.node_daemon.specs.Turning.{IsTurn}
+use Rattle.node_daemon.specs.Turning.{Ways, IsTurn, SinceThen}
 
 -- What a turn keeps of a server's volumes, from where it has heard, over what it has begun, to where its lines are put:
 -- the open volume goes on, or it ends, and the next one goes on behind it. Each says what a loss of power leaves at
@@ -27,12 +26,12 @@ pub data Keeps {P : Type 0} (role : Role) (earlier : List VolumeSoFar) (files : 
 -- Turns, one after the other, each of which keeps the server's volumes: which of them have ended by now, in which
 -- files, and the journal of the open one, as far as it is in its file.
 pub data Lasts {P Line : Type 0} (Listens : Line → Line → Type 0) (Sends : Line → P → List ℕ → Line → Type 0)
-    (transit : ℕ) (first : Line) (begun : RunState P) (role : Role) (earlier : List VolumeSoFar)
+    (transit : ℕ) (first : Ways Line) (begun : RunState P) (role : Role) (earlier : List VolumeSoFar)
     (files : List (List Call)) (j : Journal)
-    : Line → RunState P → List VolumeSoFar → List (List Call) → Journal → Type 0 where
+    : Ways Line → RunState P → List VolumeSoFar → List (List Call) → Journal → Type 0 where
   at_first : Lasts Listens Sends transit first begun role earlier files j first begun earlier files j
-  one_more : (way : Line) (old : RunState P) (ended : List VolumeSoFar) (settled : List (List Call)) (k : Journal)
-      (next : Line) (new : RunState P) (ended_now : List VolumeSoFar) (settled_now : List (List Call))
+  one_more : (way : Ways Line) (old : RunState P) (ended : List VolumeSoFar) (settled : List (List Call)) (k : Journal)
+      (next : Ways Line) (new : RunState P) (ended_now : List VolumeSoFar) (settled_now : List (List Call))
       → Lasts Listens Sends transit first begun role earlier files j way old ended settled k
       → (turn : IsTurn Listens Sends transit way old next new)
       → Keeps role ended settled k turn.ready turn.begun turn.tells.settled ended_now settled_now
@@ -42,13 +41,13 @@ pub data Lasts {P Line : Type 0} (Listens : Line → Line → Type 0) (Sends : L
 -- The volumes of a daemon that began with a server's are that server's: turns were made that kept them, and since the
 -- last one nothing was put to the disk.
 pub record HasLasted {P Line : Type 0} (Listens : Line → Line → Type 0) (Sends : Line → P → List ℕ → Line → Type 0)
-    (transit : ℕ) (first : Line) (begun : RunState P) (last : Line) (role : Role) (earlier : List VolumeSoFar)
+    (transit : ℕ) (first : Ways Line) (begun : RunState P) (last : Ways Line) (role : Role) (earlier : List VolumeSoFar)
     (files : List (List Call)) (j : Journal) : Type 0 where
-  pub way : Line
+  pub way : Ways Line
   pub reached : RunState P
   pub ended : List VolumeSoFar
   pub settled : List (List Call)
   pub journal : Journal
   pub lasts : Lasts Listens Sends transit first begun role earlier files j way reached ended settled journal
   pub is : IsServers role ended settled journal reached.names reached.volume
-  pub hears : MayHear Listens way last
+  pub since : SinceThen Listens way last

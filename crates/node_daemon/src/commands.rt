@@ -71,6 +71,7 @@ impl<G: Datagrams, D: Door, K: Control, C: Clocks, T: Rest, L: Print> Daemon<'_,
     where
         F::File: Drop,
         ensures clients { self.new.clients ≡ self.old.clients }
+        ensures link { self.new.partner ≡ self.old.partner }
         ensures files { HasSameFiles running.old running.new }
     {
         let Some(request) = self.desk.hear(now.instant) else {
@@ -86,6 +87,7 @@ impl<G: Datagrams, D: Door, K: Control, C: Clocks, T: Rest, L: Print> Daemon<'_,
     /// Refuses a request.
     fn refuse(&mut self, refusal: &Refusal)
         ensures clients { self.new.clients ≡ self.old.clients }
+        ensures link { self.new.partner ≡ self.old.partner }
     {
         match format!(in self.alloc; "{refusal}") {
             Ok(words) => self.desk.refuse(words.as_str()),
@@ -103,6 +105,7 @@ impl<G: Datagrams, D: Door, K: Control, C: Clocks, T: Rest, L: Print> Daemon<'_,
     where
         F::File: Drop,
         ensures clients { self.new.clients ≡ self.old.clients }
+        ensures link { self.new.partner ≡ self.old.partner }
         ensures files { HasSameFiles running.old running.new }
     {
         if let Request::Status(form) = request {
@@ -134,6 +137,7 @@ impl<G: Datagrams, D: Door, K: Control, C: Clocks, T: Rest, L: Print> Daemon<'_,
     where
         F::File: Drop,
         ensures clients { self.new.clients ≡ self.old.clients }
+        ensures link { self.new.partner ≡ self.old.partner }
         ensures files { HasSameFiles running.old running.new }
     {
         if leave == Leave::Closed {
@@ -149,6 +153,7 @@ impl<G: Datagrams, D: Door, K: Control, C: Clocks, T: Rest, L: Print> Daemon<'_,
     where
         F::File: Drop,
         ensures clients { self.new.clients ≡ self.old.clients }
+        ensures link { self.new.partner ≡ self.old.partner }
     {
         match running.bar() {
             Some(bar) => Err(Refusal::from(bar)),
@@ -168,6 +173,7 @@ impl<G: Datagrams, D: Door, K: Control, C: Clocks, T: Rest, L: Print> Daemon<'_,
     where
         F::File: Drop,
         ensures clients { self.new.clients ≡ self.old.clients }
+        ensures link { self.new.partner ≡ self.old.partner }
         ensures files { HasSameFiles running.old running.new }
     {
         if self.partner.connected().is_some() {

@@ -1,7 +1,7 @@
 use Rattle.std.specs.Prelude.{◌≡◌}
 use Rattle.std.proofs.Common.{rules, refl, ◌∙◌}
 use Rattle.node_daemon.specs.Turning.{none}
-use Rattle.node_daemon.proofs.Turned.{none_heard, one_more_turn, has_turned}
+use Rattle.node_daemon.proofs.Turned.{nothing_since, heard_since, one_more_turn, has_turned}
 use Rattle.node_daemon.proofs.daemon.Daemon.turns.Goals as goal
 
 pub loop-turn-init : goal.loop-turn-init
@@ -17,7 +17,7 @@ loop-turn-preserved g c = record {
 pub returns-in-Err : goal.returns-in-Err
 returns-in-Err g c = record {
   turned = has_turned g.G.Datagrams.listens g.G.Datagrams.sends _ _ _ _ _ _ c.loop-turn.invariant.turns
-      c.in-Err.ensures.nothing;
+      (heard_since g.G.Datagrams.listens _ _ c.in-Err.ensures.nothing c.in-Err.ensures.link);
 }
 
 pub returns-in-Some-leave : goal.returns-in-Some-leave
@@ -27,5 +27,5 @@ returns-in-Some-leave g c =
       turned = has_turned g.G.Datagrams.listens g.G.Datagrams.sends _ _ _ _ _ _
           (one_more_turn g.G.Datagrams.listens g.G.Datagrams.sends _ _ _ _ _ _ _ c.loop-turn.invariant.turns _
           c.loop-turn.invariant.transit c.in-Ok.ensures.turn)
-          (none_heard g.G.Datagrams.listens _ _ same);
+          (nothing_since g.G.Datagrams.listens _ _ same c.go.ensures.link);
     }
