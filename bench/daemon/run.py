@@ -6,7 +6,9 @@ another disk can be asked. The daemon is alone (`alone = true`). In this order: 
 a REQUEST and its REPLY, 16 at a time) with `serve`, with `run`, which keeps its journal in memory, and with a program that has no book
 and syncs each answer by itself (plain.rs), runs of each in turn and the best of each; the time from a datagram to its answer, one client
 after another with 3 to 43 ms between; and over a volume of 200,000 lines that a kill left: the start, and the memory; and over one in
-which each of 65,536 units is delegated: the start, and the roll, beside a client that asks all the time.
+which each of 65,536 units is delegated: the start, and the roll, beside a client that asks all the time. Then the exchanges with the
+primary of a pair, both servers on this machine, beside those with a server that is alone; and a start over three volumes of 200,000
+lines each whose partner has answered none.
 """
 import os
 import pathlib
@@ -24,8 +26,8 @@ import time
 HERE = pathlib.Path(__file__).resolve().parent
 NODE = HERE.parent.parent / "crates" / "node_cli" / "out" / "node_cli"
 CLIENTS, RUNS, SINGLE, LINES, UNITS = 4_000, 5, 400, 200_000, 65_536
-PORT = 5479
-SERVER = "00030001020000000009"
+PORT, LINK = 5479, 5481
+SERVER, SECOND = "00030001020000000009", "0003000102000000000a"
 SETTINGS = f"""role = "primary"
 duid = "{SERVER}"
 skew_ms = 2000
@@ -148,6 +150,44 @@ def measure_exchanges(node, folder, asker, plain):
         print(f"serve : {other} {ratios[0]:.2f} (time), {ratios[1]:.2f} (processor)", flush=True)
 
 
+def pair(folder):
+    """The folders of a primary and a secondary that are new."""
+    both = []
+    for role, listen, address, number in [("primary", PORT, LINK, SERVER), ("secondary", PORT + 1, LINK, SECOND)]:
+        own = folder / role
+        directory(own)
+        settings = SETTINGS.replace('role = "primary"', f'role = "{role}"').replace(str(PORT), str(listen)).replace(SERVER, number)
+        (own / "settings.toml").write_text(f'link = "127.0.0.1:{address}"\nlink_key = "none"\nvolume_lines = 1000000\n' + settings)
+        both.append(own)
+    return both
+
+
+def by_pair(node, folder, asker, clients):
+    """The same of the primary of a pair, and the processor seconds of the secondary."""
+    first, second = pair(folder)
+    secondary, primary = Served(node, second), Served(node, first)
+    while not re.search(b"is connected with its partner", (first / "notes").read_bytes()):
+        time.sleep(0.01)
+    seconds = asked(asker, clients)
+    theirs, ours = secondary.stop(), primary.stop()
+    assert (first / "A-0000001.journal").read_bytes().count(b" grant ") == clients
+    return seconds, ours, theirs
+
+
+def measure_pair(node, folder, asker):
+    """Prints exchanges with the primary of a pair beside those with a server that is alone."""
+    found = {"alone": [], "pair": []}
+    for _ in range(RUNS):
+        for name, way in {"alone": by_serve, "pair": by_pair}.items():
+            once = way(node, folder, asker, 1)
+            whole = way(node, folder, asker, CLIENTS)
+            found[name].append([whole[0], *(used - before for used, before in zip(whole[1:], once[1:]))])
+    best = {name: [min(part) / CLIENTS * 1e6 for part in zip(*runs)] for name, runs in found.items()}
+    print(f"pair: {1e6 / best['pair'][0]:,.0f} exchanges a second, {best['pair'][1]:.1f} processor microseconds each at the primary, "
+          f"{best['pair'][2]:.1f} at the secondary")
+    print(f"pair : alone {best['pair'][0] / best['alone'][0]:.2f} (time), {best['pair'][1] / best['alone'][1]:.2f} (processor)", flush=True)
+
+
 def option(code, body):
     return code.to_bytes(2, "big") + len(body).to_bytes(2, "big") + body
 
@@ -244,6 +284,44 @@ def measure_start(node, folder, lines, clients):
     return served
 
 
+def add_lines(path, lines, clients):
+    """Lets a volume that goes on have so many lines: the leases of its head are renewed in turn."""
+    last = path.read_text().splitlines()[-1].split()
+    number, reading = int(last[0]), int(last[1])
+    rows = []
+    while number < lines:
+        number += 1
+        place = number % clients
+        digits = prefix_of(place).hex()
+        unit = ":".join(digits[at : at + 4] for at in range(0, 32, 4))
+        rows.append(f"{number} {reading} grant {duid(place)} 00000001 {unit}/56 3600")
+    with open(path, "a") as volume:
+        volume.write("".join(row + "\n" for row in rows))
+
+
+def measure_older(node, folder, lines, clients):
+    """Prints the start over three volumes, none of which the partner has answered: it reads them all."""
+    own = pair(folder)[0]
+    settings = (own / "settings.toml").read_text()
+    write_volume(directory(own), lines, clients)
+    # A server that is alone waits for nobody.
+    for volume in [2, 3]:
+        served = Served(node, own)
+        served.tell("roll")
+        served.stop()
+        add_lines(own / f"A-{volume:07}.journal", lines, clients)
+    (own / "settings.toml").write_text(settings)
+    starts = []
+    for _ in range(RUNS):
+        served = Served(node, own)
+        starts.append(served.start)
+        peak = served.memory("VmHWM")
+        served.kill()
+    octets = sum(path.stat().st_size for path in own.glob("*.journal"))
+    print(f"start over three volumes of {lines:,} lines each ({octets / 1e6:.0f} MB): {min(starts):.2f} s; memory {peak >> 20} MiB at the peak",
+          flush=True)
+
+
 def measure_roll(node, folder, served):
     """Prints how long a roll takes at so many units, and the longest that a client waits meanwhile, who asks all the time."""
     teller = subprocess.Popen([node, "roll", "--dir", folder], stdout=subprocess.DEVNULL)
@@ -271,6 +349,8 @@ def main():
             served = measure_start(node, folder, UNITS + 2, UNITS)
             measure_roll(node, folder, served)
             served.stop()
+            measure_pair(node, folder, asker)
+            measure_older(node, folder, LINES, 10_000)
         finally:
             for child in Served.children:
                 if child.returncode is None and child.poll() is None:
