@@ -16,12 +16,17 @@ use Rattle.attribution_desk.specs.declared.searching.Search.TheVariants.{Find, W
 use Rattle.desk_intake.specs.Input.{first_text, text_behind}
 use Rattle.attribution_desk.specs.Find.{IsRulingText, IsFinding}
 use Rattle.attribution_desk.specs.Who.{IsHolding}
-use Rattle.attribution_desk.specs.Warnings.{IsSearchWarning}
+use Rattle.attribution_desk.specs.Warnings.{WarnsOf}
 
 -- the skew that is asked with
 abbrev pub skew_of : Search → ℕ
 skew_of (Find q) = q.skew
 skew_of (Who q settings) = q.skew
+
+-- the transit
+abbrev pub transit_of : Search → ℕ
+transit_of (Find q) = q.transit
+transit_of (Who q settings) = q.transit
 
 -- who asks for a name is refused where nothing ties the journals and the question together, unless that may be
 abbrev pub Forbids : Search → Journal → Journal → Ruling → Type 0
@@ -58,14 +63,15 @@ IsSearchOf (Err fault) b q text status note = IsSaid (Verdict (JournalVerdict Pr
 IsSearchOf (Ok a) (Err fault) q text status note = IsSaid (Verdict (JournalVerdict Secondary fault)) text status note
 IsSearchOf (Ok a) (Ok b) q text status note = IsSearchOn a b q text status note
 
--- of an input: journal A, and journal B, which is all that follows
-abbrev pub IsSearch : List ℕ → Search → List ℕ → ℕ → List ℕ → Type 0
-IsSearch input q text status note =
-    IsSearchOf (journal_of_side Primary (first_text input)) (journal_of_side Secondary (text_behind input))
-    q text status note
+-- with the warnings on the journals in front of what is noted of what was found
+abbrev pub IsPairTold : Result Journal JournalFault → Result Journal JournalFault → Search → List ℕ → ℕ → List ℕ
+    → Type 0
+IsPairTold a b q text status notes =
+    (note : List ℕ) × IsSearchOf a b q text status note
+    × ((front : List ℕ) × WarnsOf q a b front × (notes ≡ front ++ note))
 
--- with warnings: those on the journals, and behind them what is noted of what was found
+-- of an input: journal A, and journal B, which is all that follows
 abbrev pub IsSearchTold : List ℕ → Search → List ℕ → List ℕ → ℕ → Type 0
 IsSearchTold input q warnings text status =
-    (note : List ℕ) × IsSearch input q text status note
-    × ((front : List ℕ) × IsSearchWarning q input front × (warnings ≡ front ++ note))
+    IsPairTold (journal_of_side Primary (first_text input)) (journal_of_side Secondary (text_behind input))
+    q text status warnings

@@ -31,10 +31,6 @@ abbrev pub WarnsOf : Search → Result Journal JournalFault → Result Journal J
 WarnsOf (FindEvidence q) a b text = IsWarningOf a b q.skew q.transit text
 WarnsOf (FindHolder q settings) a b text = text ≡ []
 
-abbrev pub IsSearchWarning : Search → List ℕ → List ℕ → Type 0
-IsSearchWarning search input text =
-    WarnsOf search (journal_of_side Primary (first_text input)) (journal_of_side Secondary (text_behind input)) text
-
 -- what a command warns of; of a search's warnings its answer says more
 abbrev pub Warns : Command → List ℕ → List ℕ → Type 0
 Warns (Audit skew transit) input text = IsJudgingWarning input skew transit text

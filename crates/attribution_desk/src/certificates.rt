@@ -37,8 +37,9 @@ fn first_length(alloc: Global, rest: &[u8]) -> Result<usize, AllocError>
     }
 }
 
-/// The texts of certificates, none of which is read yet.
-pub(crate) fn texts_in<'a>(alloc: Global, rest: &'a [u8]) -> Result<Vec<Claim<'a>>, AllocError>
+/// The texts of certificates that stand one after another, none of which is read yet. `AllocError` where a growth was
+/// refused.
+pub fn texts_in<'a>(alloc: Global, rest: &'a [u8]) -> Result<Vec<Claim<'a>>, AllocError>
     ensures { IfOk result (λ claims. AreTexts rest.now (texts_of claims.items)) }
 {
     let mut claims = Vec::new(alloc);

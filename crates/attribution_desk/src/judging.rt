@@ -2,6 +2,9 @@
 
 ghost use Rattle.std.specs.Prelude.{◌≡◌, IfOk, IfErr};
 ghost use Rattle.std.specs.Result.{ForOk};
+ghost use Rattle.causal_order.specs.Journals.{Journals, journals_of};
+ghost use Rattle.attribution.specs.Snapshot.{snapshots, IsTrueInRunsThatBeginSo};
+ghost use Rattle.volume_heads.specs.NextHead.{AreLegal};
 ghost use Rattle.certificate.specs.Faults.{certificate_of};
 ghost use Rattle.journal_text.specs.Closed.{IsClosed};
 ghost use Rattle.attribution_desk.specs.Rulings.{IsRulingOfJournals, IsRulingOfParsed};
@@ -19,8 +22,8 @@ use pair_ruling::Ruling;
 use std::alloc::Global;
 use std::thread::Threads;
 
-/// Returns what stands against the two journals; else the verdict of `audit`.
-fn ruling_on_journals(
+/// Returns what stands against the two journals; else the verdict of `audit`. `Memory` where a growth was refused.
+pub fn ruling_on_journals(
     rt: &(impl Threads + Sync),
     alloc: Global,
     primary: &Journal,
@@ -32,6 +35,10 @@ fn ruling_on_journals(
     requires primary_closed { IsClosed primary.now.lines }
     requires secondary_closed { IsClosed secondary.now.lines }
     ensures ruling { IfOk result (IsRulingOfJournals primary.now secondary.now skew transit claim.now) }
+    // What is accepted over snapshots is true in every run whose volumes begin with what was read.
+    ensures snapshots { IfOk result (λ r. r ≡ Ruling.Verdict Verdict.Accepted → (read : Journals)
+        → journals_of primary.now secondary.now ≡ snapshots read
+        → IsTrueInRunsThatBeginSo AreLegal read skew transit claim.now) }
     ensures refused { IfErr result (λ e. e ≡ DeskError.Memory) }
 {
     let case = Case::of(rt, alloc, primary, secondary, skew)?;

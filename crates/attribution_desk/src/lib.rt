@@ -1,13 +1,14 @@
 //! The desk: a command line and standard input to one verdict line.
 //!
-//! `command_of` gives the [`Command`] of the words (`desk_words`), `run` carries it out between a reader and a writer,
-//! and `judge` answers an input that is at hand. The input is journal A, journal B and the certificate, one after the
-//! other (`desk_intake`). specs/Answer says what is answered, specs/Rulings what is ruled on texts, specs/Find, Who and
-//! Clocks what searches answer.
+//! `order_of` gives the [`Order`] of the words (`desk_words`), `run` carries out its command between a reader and a
+//! writer, and `judge` answers an input that is at hand. The input is journal A, journal B and the certificate, one after
+//! the other (`desk_intake`). `search_pair`, `timeline_of` and `ruling_on_journals` answer over two journals that were
+//! read already. specs/Answer says what is answered, specs/Rulings what is ruled on texts, specs/Find, Who and Clocks
+//! what searches answer.
 //!
 //! ```text
-//! let command = command_of(alloc, &words)?;
-//! let status = run(alloc, &command, &mut reader, &mut writer)?; // 0: accepted
+//! let order = order_of(alloc, &words)?;
+//! let outcome = run(rt, alloc, &order.command, &mut reader, &mut writer)?; // status 0: accepted
 //! ```
 #![tactic(auto)]
 
@@ -27,8 +28,11 @@ mod timelines;
 
 pub use answer::Answer;
 pub use audit::judge;
+pub use certificates::{Claim, texts_in};
 pub use desk_intake::{DeskError, Watched};
-pub use desk_words::{Command, UsageError, command_of};
+pub use desk_words::{Command, Order, Source, UsageError, order_of};
+pub use judging::ruling_on_journals;
 pub use outcome::Outcome;
 pub use running::run;
-pub use timelines::timeline;
+pub use searching::{Search, Searched, search_pair};
+pub use timelines::{timeline, timeline_of};

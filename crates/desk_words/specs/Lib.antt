@@ -1,2 +1,4 @@
 pub mod Words
 pub mod Given
+pub mod Sources
+pub mod Orders

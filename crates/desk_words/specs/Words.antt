@@ -1,7 +1,7 @@
 -- The command line that clap is told of.
 use Rattle.std.specs.Prelude.{ℕ, List, [], Some, Bool, true, false, codes}
 use Rattle.clap.specs.Words.{App, Rule, new_app, new_rule, with_rule, with_subcommand}
-use Rattle.clap.specs.declared.builder.ArgAction.TheVariants.{Set, SetTrue}
+use Rattle.clap.specs.declared.builder.ArgAction.TheVariants.{Set, Append, SetTrue}
 
 -- an option with a value, which must be given where it is required
 abbrev pub option_rule : List ℕ → Bool → Rule
@@ -11,15 +11,27 @@ option_rule name required = record (new_rule name) { long = Some name; required 
 abbrev pub flag_rule : List ℕ → Rule
 flag_rule name = record (new_rule name) { long = Some name; action = Some SetTrue }
 
+-- an option with a value, which may be given again
+abbrev pub list_rule : List ℕ → Rule
+list_rule name = record (new_rule name) { long = Some name; action = Some Append }
+
+-- the command takes its journals from files too
+abbrev pub with_journals : App → App
+with_journals app = with_rule app (list_rule (codes "journals"))
+
+-- and its certificates
+abbrev pub with_certificate : App → App
+with_certificate app = with_rule (with_journals app) (option_rule (codes "certificate") false)
+
 abbrev pub audit_app : App
 audit_app =
-    with_rule (with_rule (new_app (codes "audit")) (option_rule (codes "skew-ms") true))
-    (option_rule (codes "transit-ms") false)
+    with_certificate (with_rule (with_rule (new_app (codes "audit")) (option_rule (codes "skew-ms") true))
+    (option_rule (codes "transit-ms") false))
 
 abbrev pub batch_app : App
 batch_app =
-    with_rule (with_rule (with_rule (new_app (codes "batch")) (option_rule (codes "skew-ms") true))
-    (option_rule (codes "workers") true)) (option_rule (codes "transit-ms") false)
+    with_certificate (with_rule (with_rule (with_rule (new_app (codes "batch")) (option_rule (codes "skew-ms") true))
+    (option_rule (codes "workers") true)) (option_rule (codes "transit-ms") false))
 
 -- who is asked of, and what
 abbrev pub asking_app : App
@@ -29,8 +41,8 @@ asking_app =
 
 abbrev pub find_app : App
 find_app =
-    with_rule (with_rule (with_rule asking_app (option_rule (codes "from") true)) (option_rule (codes "to") true))
-    (option_rule (codes "transit-ms") false)
+    with_journals (with_rule (with_rule (with_rule asking_app (option_rule (codes "from") true))
+    (option_rule (codes "to") true)) (option_rule (codes "transit-ms") false))
 
 -- a subcommand has to be named
 abbrev pub bare : App
@@ -50,11 +62,15 @@ moment_app =
 
 abbrev pub who_app : App
 who_app =
-    with_rule (with_rule moment_app (option_rule (codes "transit-ms") false)) (flag_rule (codes "settings-differ"))
+    with_journals (with_rule (with_rule moment_app (option_rule (codes "transit-ms") false))
+    (flag_rule (codes "settings-differ")))
+
+abbrev pub timeline_app : App
+timeline_app = with_journals (new_app (codes "timeline"))
 
 abbrev pub searching_app : App
 searching_app = with_subcommand (with_subcommand judging_app find_app.top) who_app.top
 
 abbrev pub desk : App
 desk =
-    with_subcommand (with_subcommand searching_app (new_app (codes "timeline")).top) (new_app (codes "clocks")).top
+    with_subcommand (with_subcommand searching_app timeline_app.top) (new_app (codes "clocks")).top

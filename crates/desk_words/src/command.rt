@@ -1,12 +1,7 @@
 //! Command words, as clap finds them.
 
-ghost use Rattle.std.specs.Prelude.{◌≡◌, ◌≢◌, ℕ, List, [], codes, IfOk, IfSome, IsErrOf, Some, None, true, false};
-ghost use Rattle.std.specs.Prelude.{map, string_bytes};
-ghost use Rattle.clap.specs.Words.{app_of, rule_of, first_of, rows_of, found_of, subcommand_of, subcommand_rows_of};
-ghost use Rattle.clap.specs.Words.{takes, fault_of, kind_of, with_rule};
-ghost use Rattle.clap.specs.declared.builder.command.Command.TheViews.{out-Command};
-ghost use Rattle.desk_words.specs.Words.{option_rule, flag_rule, audit_app, batch_app, asking_app, find_app};
-ghost use Rattle.desk_words.specs.Words.{judging_app, searching_app, desk};
+ghost use Rattle.std.specs.Prelude.{◌≡◌, ◌≢◌, ℕ, List, codes, IfOk, IfSome, IsErrOf, Some, None};
+ghost use Rattle.clap.specs.Words.{first_of, rows_of, found_of};
 ghost use Rattle.desk_words.specs.Given.{IsNumber, IsSkew, IsTransit, IsWorkers, IsGiven, IsNoCommand};
 ghost use Rattle.desk_words.specs.Given.{IsHolder, IsPrefixText, IsMoment, IsQuery};
 ghost use Rattle.prefix_range.specs.Prefix.{Prefix as PrefixValue};
@@ -14,15 +9,14 @@ ghost use Rattle.plain_search.specs.declared.query.Query.{Query as QueryValue};
 
 use crate::error::UsageError;
 use crate::settings::{Settings, settings_given};
-use crate::who_words::{holder_query_given, who_command};
+use crate::who_words::holder_query_given;
 use crate::workers::Workers;
-use clap::error::ErrorKind;
-use clap::{Arg, ArgAction, ArgMatches, Command as ClapCommand, Error as ClapError};
+use clap::ArgMatches;
 use client_id::Duid;
 use lead_time::{Reading, Skew, Transit};
 use plain_search::{HolderQuery, Query};
 use prefix_range::{Prefix, read_text};
-use std::alloc::{AllocError, Global};
+use std::alloc::Global;
 use text_fields::number_of;
 
 /// A command of the desk.
@@ -48,132 +42,6 @@ pub enum Command {
     Find(Query),
     /// Print which client held a prefix at a moment, when, and a certificate over two journals that shows it.
     Who(HolderQuery, Settings),
-}
-
-/// An option with a value.
-fn value_option<'a>(alloc: Global, name: &'a str, required: bool) -> Arg<'a>
-    ensures rule { rule_of result ≡ option_rule name.entry.now required }
-    ensures local { result.global ≡ false }
-{
-    Arg::new(alloc, name)
-        .long(name)
-        .required(required)
-        .action(ArgAction::Set)
-}
-
-/// A command with one option more, which has a value.
-pub(crate) fn with_option<'a>(
-    alloc: Global,
-    command: ClapCommand<'a>,
-    name: &'a str,
-    required: bool,
-) -> Result<ClapCommand<'a>, AllocError>
-    ensures app { IfOk result (λ c. app_of c ≡ with_rule (app_of command.entry) (option_rule name.entry.now required)) }
-    ensures local { (out-Command command.entry).has_globals ≡ false
-        → IfOk result (λ c. (out-Command c).has_globals ≡ false) }
-{
-    command.arg(value_option(alloc, name, required))
-}
-
-/// An option without a value.
-fn flag_option<'a>(alloc: Global, name: &'a str) -> Arg<'a>
-    ensures rule { rule_of result ≡ flag_rule name.entry.now }
-    ensures local { result.global ≡ false }
-{
-    Arg::new(alloc, name).long(name).action(ArgAction::SetTrue)
-}
-
-/// A command with one option more, which has no value.
-pub(crate) fn with_flag<'a>(
-    alloc: Global,
-    command: ClapCommand<'a>,
-    name: &'a str,
-) -> Result<ClapCommand<'a>, AllocError>
-    ensures app { IfOk result (λ c. app_of c ≡ with_rule (app_of command.entry) (flag_rule name.entry.now)) }
-    ensures local { (out-Command command.entry).has_globals ≡ false
-        → IfOk result (λ c. (out-Command c).has_globals ≡ false) }
-{
-    command.arg(flag_option(alloc, name))
-}
-
-/// `audit --skew-ms N [--transit-ms N]`.
-fn audit_command<'a>(alloc: Global) -> Result<ClapCommand<'a>, AllocError>
-    ensures app { IfOk result (λ c. app_of c ≡ audit_app) }
-    ensures local { IfOk result (λ c. (out-Command c).has_globals ≡ false) }
-{
-    let audit = with_option(alloc, ClapCommand::new(alloc, "audit"), "skew-ms", true)?;
-    with_option(alloc, audit, "transit-ms", false)
-}
-
-/// `batch --skew-ms N --workers N [--transit-ms N]`.
-fn batch_command<'a>(alloc: Global) -> Result<ClapCommand<'a>, AllocError>
-    ensures app { IfOk result (λ c. app_of c ≡ batch_app) }
-    ensures local { IfOk result (λ c. (out-Command c).has_globals ≡ false) }
-{
-    let batch = with_option(alloc, ClapCommand::new(alloc, "batch"), "skew-ms", true)?;
-    let batch = with_option(alloc, batch, "workers", true)?;
-    with_option(alloc, batch, "transit-ms", false)
-}
-
-/// `find --skew-ms N --holder HEX --prefix P ..`: who is asked of, and what.
-fn asking_command<'a>(alloc: Global) -> Result<ClapCommand<'a>, AllocError>
-    ensures app { IfOk result (λ c. app_of c ≡ asking_app) }
-    ensures local { IfOk result (λ c. (out-Command c).has_globals ≡ false) }
-{
-    let find = with_option(alloc, ClapCommand::new(alloc, "find"), "skew-ms", true)?;
-    let find = with_option(alloc, find, "holder", true)?;
-    with_option(alloc, find, "prefix", true)
-}
-
-/// `find .. --from M --to M [--transit-ms N]`.
-fn find_command<'a>(alloc: Global) -> Result<ClapCommand<'a>, AllocError>
-    ensures app { IfOk result (λ c. app_of c ≡ find_app) }
-    ensures local { IfOk result (λ c. (out-Command c).has_globals ≡ false) }
-{
-    let find = with_option(alloc, asking_command(alloc)?, "from", true)?;
-    let find = with_option(alloc, find, "to", true)?;
-    with_option(alloc, find, "transit-ms", false)
-}
-
-/// The commands that judge certificates.
-fn judging_command<'a>(alloc: Global) -> Result<ClapCommand<'a>, AllocError>
-    ensures { IfOk result (λ c. app_of c ≡ judging_app) }
-{
-    let audit = audit_command(alloc)?;
-    let batch = batch_command(alloc)?;
-    ClapCommand::new(alloc, "desk_cli")
-        .subcommand_required(true)
-        .disable_help_subcommand(true)
-        .subcommand(audit)?
-        .subcommand(batch)
-}
-
-/// Those and the commands that search.
-fn searching_command<'a>(alloc: Global) -> Result<ClapCommand<'a>, AllocError>
-    ensures { IfOk result (λ c. app_of c ≡ searching_app) }
-{
-    let judging = judging_command(alloc)?;
-    let find = find_command(alloc)?;
-    let who = who_command(alloc)?;
-    judging.subcommand(find)?.subcommand(who)
-}
-
-fn desk_command<'a>(alloc: Global) -> Result<ClapCommand<'a>, AllocError>
-    ensures { IfOk result (λ c. app_of c ≡ desk) }
-{
-    searching_command(alloc)?
-        .subcommand(ClapCommand::new(alloc, "timeline"))?
-        .subcommand(ClapCommand::new(alloc, "clocks"))
-}
-
-fn usage_error(error: ClapError) -> UsageError
-    ensures { kind_of error ≡ ErrorKind.OutOfMemory → result ≡ UsageError.Memory }
-{
-    if error.kind() == ErrorKind::OutOfMemory {
-        UsageError::Memory
-    } else {
-        UsageError::Usage
-    }
 }
 
 /// The number that a text is, written as in a journal, of at most so much.
@@ -325,35 +193,19 @@ fn command_named(name: &str, options: &ArgMatches) -> Option<Command>
     }
 }
 
-/// The command in what clap found: `Usage` where a value is no value, `Memory` where a growth was refused.
-fn command_found(alloc: Global, matches: &ArgMatches) -> Result<Command, UsageError>
-    ensures given { IfOk result (IsGiven (subcommand_rows_of matches.now)) }
-    ensures refused { IsErrOf result UsageError.Usage → IsNoCommand (subcommand_rows_of matches.now) }
+/// The command of this name with these options: `Usage` where there is none, or a value is no value; `Memory` where a
+/// growth was refused.
+pub(crate) fn command_given(
+    alloc: Global,
+    name: &str,
+    options: &ArgMatches,
+) -> Result<Command, UsageError>
+    ensures given { IfOk result (IsGiven (Some (name.now, rows_of (found_of options.now)))) }
+    ensures refused { IsErrOf result UsageError.Usage → IsNoCommand (Some (name.now, rows_of (found_of options.now))) }
 {
-    let Some((name, options)) = matches.subcommand() else {
-        return Err(UsageError::Usage);
-    };
     if name == "who" {
         let query = holder_query_given(alloc, options)?;
         return Ok(Command::Who(query, settings_given(options)));
     }
     command_named(name, options).ok_or(UsageError::Usage)
-}
-
-/// The command that the words give, the first of which is the program's name: `Usage` where clap finds none
-/// in them or a value is no value, `Memory` where a growth was refused.
-pub fn command_of(alloc: Global, words: &[String]) -> Result<Command, UsageError>
-    ensures given { IfOk result (IsGiven (subcommand_of desk (map string_bytes words.now))) }
-    // clap finds nothing wrong: no word too many, no option twice
-    ensures accepted { IfOk result (λ _. fault_of desk (map string_bytes words.now) ≡ []) }
-    ensures refused { IsErrOf result UsageError.Usage → takes desk (map string_bytes words.now) ≡ true
-        → IsNoCommand (subcommand_of desk (map string_bytes words.now)) }
-{
-    let Ok(command) = desk_command(alloc) else {
-        return Err(UsageError::Memory);
-    };
-    match command.try_get_matches_from(words) {
-        Ok(matches) => command_found(alloc, &matches),
-        Err(error) => Err(usage_error(error)),
-    }
 }

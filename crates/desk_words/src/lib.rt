@@ -1,20 +1,27 @@
 //! The words of the desk's command line.
 //!
-//! `command_of` gives the [`Command`] that clap finds in the words, or says why there is none: `Usage` where they are
-//! those of no command. specs/Words is the command line that clap is told of, specs/Given what each of its words means.
+//! `order_of` gives the [`Command`] that clap finds in the words and where its texts come from ([`Source`]), or says why
+//! there is none: `Usage` where they are those of no command. specs/Words is the command line that clap is told of,
+//! specs/Given what each of its words means, specs/Sources what its paths do.
 //!
 //! ```text
-//! let command = command_of(alloc, &words)?; // Command::Timeline of `desk timeline`
+//! let order = order_of(alloc, &words)?; // Command::Timeline and Source::Input of `desk timeline`
 //! ```
 #![tactic(auto)]
 
+mod arguments;
 mod command;
 mod error;
+mod orders;
 mod settings;
+mod sources;
+mod subcommands;
 mod who_words;
 mod workers;
 
-pub use command::{Command, command_of};
+pub use command::Command;
 pub use error::UsageError;
+pub use orders::{Order, order_of};
 pub use settings::Settings;
+pub use sources::Source;
 pub use workers::Workers;

@@ -1,40 +1,19 @@
 //! The words of `who`.
 
-ghost use Rattle.std.specs.Prelude.{◌≡◌, ◌++◌, ℕ, ◌≤◌, ◌^◌, List, codes, IfOk, IfSome, IsErrOf, Some, None, false};
-ghost use Rattle.clap.specs.Words.{app_of, first_of, rows_of, found_of};
-ghost use Rattle.clap.specs.declared.builder.command.Command.TheViews.{out-Command};
+ghost use Rattle.std.specs.Prelude.{◌≡◌, ◌++◌, ℕ, ◌≤◌, ◌^◌, List, codes, IfOk, IfSome, IsErrOf, Some, None};
+ghost use Rattle.clap.specs.Words.{first_of, rows_of, found_of};
 ghost use Rattle.prefix_range.specs.Prefix.{Prefix as PrefixValue};
 ghost use Rattle.plain_search.specs.declared.query.HolderQuery.{HolderQuery as HolderQueryValue};
-ghost use Rattle.desk_words.specs.Words.{moment_app, who_app};
 ghost use Rattle.desk_words.specs.Given.{IsPrefixText, IsBlockText, IsMoment, IsWhen, IsHolderQuery};
 
-use crate::command::{number_in, prefix_in, skew_given, transit_given, with_flag, with_option};
+use crate::command::{number_in, prefix_in, skew_given, transit_given};
 use crate::error::UsageError;
-use clap::{ArgMatches, Command as ClapCommand};
+use clap::ArgMatches;
 use lead_time::Reading;
 use plain_search::HolderQuery;
 use prefix_range::{Prefix, read_text};
 use std::alloc::{AllocError, Global};
 use time_text::read_time;
-
-/// `who --skew-ms N --prefix P --at M ..`: which prefix is asked of, and at which moment.
-fn moment_command<'a>(alloc: Global) -> Result<ClapCommand<'a>, AllocError>
-    ensures app { IfOk result (λ c. app_of c ≡ moment_app) }
-    ensures local { IfOk result (λ c. (out-Command c).has_globals ≡ false) }
-{
-    let who = with_option(alloc, ClapCommand::new(alloc, "who"), "skew-ms", true)?;
-    let who = with_option(alloc, who, "prefix", true)?;
-    with_option(alloc, who, "at", true)
-}
-
-/// `who .. [--transit-ms N] [--settings-differ]`.
-pub(crate) fn who_command<'a>(alloc: Global) -> Result<ClapCommand<'a>, AllocError>
-    ensures app { IfOk result (λ c. app_of c ≡ who_app) }
-    ensures local { IfOk result (λ c. (out-Command c).has_globals ≡ false) }
-{
-    let who = with_option(alloc, moment_command(alloc)?, "transit-ms", false)?;
-    with_flag(alloc, who, "settings-differ")
-}
 
 /// The prefix of one address, which a text without a length spells.
 fn address_in(alloc: Global, text: &str) -> Result<Option<Prefix>, AllocError>

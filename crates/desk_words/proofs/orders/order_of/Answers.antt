@@ -2,8 +2,8 @@ use Rattle.std.proofs.Common.{◌≡◌, ◌∙◌, sym, ap, subst, true, [], Li
 use Rattle.std.specs.Prelude.{IfOk}
 use Rattle.clap.specs.Words.{App, Row, Text, takes, fault_of, is_simple, is_simple_and_free, subcommand_of}
 use Rattle.desk_words.specs.Words.{desk}
-use Rattle.desk_words.specs.Given.{IsGiven, IsNoCommand}
-use Rattle.desk_words.proofs.command.command_of.Goals as goal
+use Rattle.desk_words.specs.Orders.{IsOrdered, IsNoOrder}
+use Rattle.desk_words.proofs.orders.order_of.Goals as goal
 
 -- what holds whatever was found
 always : {T E : Type 0} (P : Type 0) (r : Result T E) → P → IfOk r (λ _. P)
@@ -14,11 +14,11 @@ pub returns-in-Ok-try_get_matches_from-clause-given : goal.returns-in-Ok-try_get
 returns-in-Ok-try_get_matches_from-clause-given c =
     let rows = (c.in-Ok-try_get_matches_from.ensures.matches (ap is_simple c.in-Ok.ensures)).1
     ∙ ap (λ (a : App). subcommand_of a (map string_bytes c.args.words.now)) c.in-Ok.ensures in
-    subst (λ (o : Option (Text × List Row)). IfOk c.command_found.result (IsGiven o)) rows c.command_found.ensures.given
+    subst (λ (o : Option (Text × List Row)). IfOk c.order_found.result (IsOrdered o)) rows c.order_found.ensures.given
 
 pub returns-in-Ok-try_get_matches_from-clause-accepted : goal.returns-in-Ok-try_get_matches_from-clause-accepted
 returns-in-Ok-try_get_matches_from-clause-accepted c =
-    always (fault_of desk (map string_bytes c.args.words.now) ≡ []) c.command_found.result
+    always (fault_of desk (map string_bytes c.args.words.now) ≡ []) c.order_found.result
     (subst (λ (a : App). fault_of a (map string_bytes c.args.words.now) ≡ []) c.in-Ok.ensures
     (c.in-Ok-try_get_matches_from.ensures.kinds (ap is_simple_and_free c.in-Ok.ensures)))
 
@@ -26,7 +26,7 @@ pub returns-in-Ok-try_get_matches_from-clause-refused : goal.returns-in-Ok-try_g
 returns-in-Ok-try_get_matches_from-clause-refused c usage taken =
     let rows = (c.in-Ok-try_get_matches_from.ensures.matches (ap is_simple c.in-Ok.ensures)).1
     ∙ ap (λ (a : App). subcommand_of a (map string_bytes c.args.words.now)) c.in-Ok.ensures in
-    subst IsNoCommand rows (c.command_found.ensures.refused usage)
+    subst IsNoOrder rows (c.order_found.ensures.refused usage)
 
 pub returns-in-Err-clause-refused : goal.returns-in-Err-clause-refused
 returns-in-Err-clause-refused c usage taken =

@@ -1,0 +1,14 @@
+use Rattle.std.proofs.Common.{◌∙◌, ◌++◌, ap, refl}
+use Rattle.archive_desk.proofs.answering.answer.Goals as goal
+
+pub returns : goal.returns
+returns g c = record {
+  catalogue = c.in_ok-catalogue.catalogue;
+  is_catalogue = c.in_ok-catalogue.ensures;
+  answer = c.in_ok-told.told;
+  is_answer = c.in_ok-told.ensures;
+  text = refl;
+  status = refl;
+  passed = c.in_ok-notes.notes.items;
+  notes = c.in_ok-extend_from_slice.ensures.items ∙ ap (λ n. c.in_ok-notes.notes.items ++ n) c.deref-2.ensures.value;
+}

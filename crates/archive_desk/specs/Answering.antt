@@ -1,0 +1,35 @@
+-- What is answered over files.
+use Rattle.std.specs.Prelude.{◌≡◌, ℕ, List, ◌++◌}
+use Rattle.std.specs.declared.path.buf.PathBuf.{PathBuf}
+use Rattle.journal_archive.specs.declared.archive.Archive.{Archive}
+use Rattle.archive_files.specs.declared.cataloguing.Catalogue.{Catalogue}
+use Rattle.archive_files.specs.Catalogues.{IsCatalogue}
+use Rattle.archive_desk.specs.declared.answering.Question.{Question}
+use Rattle.archive_desk.specs.declared.answering.Question.TheVariants.{Who, Find, Timeline, Audit, Batch}
+use Rattle.archive_desk.specs.declared.telling.Told.{Told}
+use Rattle.archive_desk.specs.Who.{IsWhoTold}
+use Rattle.archive_desk.specs.Stretches.{IsFindTold}
+use Rattle.archive_desk.specs.Newest.{IsTimelineTold}
+use Rattle.archive_desk.specs.Certificates.{IsAuditTold, IsBatchTold}
+
+-- by the volumes of an archive
+abbrev pub IsAnswerOver : {A : Type 0} → (had : ℕ → List ℕ → Type 0) → List (PathBuf A) → Archive → Question → Told
+    → Type 0
+IsAnswerOver had names archive (Who q settings) told = IsWhoTold had names archive q settings told
+IsAnswerOver had names archive (Find q) told = IsFindTold had names archive q told
+IsAnswerOver had names archive Timeline told = IsTimelineTold had names archive told
+IsAnswerOver had names archive (Audit text skew transit) told = IsAuditTold had names archive text.now skew transit told
+IsAnswerOver had names archive (Batch texts skew transit) told =
+    IsBatchTold had names archive texts.now skew transit told
+
+-- by the volumes that so many files are; standard error has something in front of that, of the other files
+pub record IsAnswer {A : Type 0} (had : ℕ → List ℕ → Type 0) (count : ℕ) (names : List (PathBuf A)) (q : Question)
+    (told : Told) : Type 0 where
+  pub catalogue : Catalogue
+  pub is_catalogue : IsCatalogue had count catalogue
+  pub answer : Told
+  pub is_answer : IsAnswerOver had names catalogue.archive q answer
+  pub text : told.text ≡ answer.text
+  pub status : told.status ≡ answer.status
+  pub passed : List ℕ
+  pub notes : told.notes.items ≡ passed ++ answer.notes.items

@@ -1,0 +1,64 @@
+-- What is told of certificates out of a file.
+use Rattle.std.specs.Prelude.{◌≡◌, ℕ, List, [], ◌∷◌, ◌++◌, ◌==◌, if◌then◌else◌}
+use Rattle.std.specs.declared.path.buf.PathBuf.{PathBuf}
+use Rattle.certificate.specs.Faults.{certificate_of}
+use Rattle.pair_ruling.specs.Ruling.{ruling_line, status_of as ruling_status}
+use Rattle.journal_archive.specs.declared.archive.Archive.{Archive}
+use Rattle.attribution_desk.specs.Batch.{AreTexts}
+use Rattle.attribution_desk.specs.Claims.{texts_of}
+use Rattle.attribution_desk.specs.declared.certificates.Claim.{Claim}
+use Rattle.archive_desk.specs.declared.judging.Judged.{Judged}
+use Rattle.archive_desk.specs.declared.judging.Judged.TheVariants.{Ruled, Faulty, Lacking}
+use Rattle.archive_desk.specs.declared.telling.Told.{Told}
+use Rattle.archive_desk.specs.Names.{journals_line}
+use Rattle.archive_desk.specs.Lacks.{BeginsWith, lack_front}
+use Rattle.archive_desk.specs.Telling.{Said, said_of, nothing}
+use Rattle.archive_desk.specs.Judging.{IsJudged, AcceptedClaimIsTrue}
+
+-- the line of the ruling, or what is lacking
+abbrev pub line_of : Judged → List ℕ
+line_of (Ruled pair ruling) = ruling_line ruling
+line_of (Faulty ruling) = ruling_line ruling
+line_of (Lacking side lack) = lack_front side lack ++ 10 ∷ []
+
+abbrev pub status_of : Judged → ℕ
+status_of (Ruled pair ruling) = ruling_status ruling
+status_of (Faulty ruling) = ruling_status ruling
+status_of (Lacking side lack) = 1
+
+-- over which two files it was judged; or what is lacking, by its name
+abbrev pub IsNotedOf : {A : Type 0} → List (PathBuf A) → Judged → List ℕ → Type 0
+IsNotedOf names (Ruled pair ruling) notes = notes ≡ journals_line names pair
+IsNotedOf names (Faulty ruling) notes = notes ≡ []
+IsNotedOf names (Lacking side lack) notes = BeginsWith (lack_front side lack) notes
+
+-- one certificate more
+pub record IsJudgedMore {A : Type 0} (names : List (PathBuf A)) (judged : Judged) (before after : Said) : Type 0 where
+  pub text : after.text ≡ before.text ++ line_of judged
+  pub status : after.status ≡ (if status_of judged == 0 then before.status else 1)
+  pub noted : List ℕ
+  pub is_noted : IsNotedOf names judged noted
+  pub notes : after.notes ≡ before.notes ++ noted
+
+-- each is judged, and what is accepted is true; they are told of one behind the other
+abbrev pub AreJudged : {A : Type 0} → (had : ℕ → List ℕ → Type 0) → List (PathBuf A) → Archive → (skew transit : ℕ)
+    → List Claim → (before after : Said) → Type 0
+AreJudged had names archive skew transit [] before after = after ≡ before
+AreJudged had names archive skew transit (c ∷ cs) before after =
+    (judged : Judged) × (mid : Said) × IsJudged had archive skew transit (certificate_of c.text.now) judged
+    × AcceptedClaimIsTrue had skew transit (certificate_of c.text.now) judged
+    × IsJudgedMore names judged before mid × AreJudged had names archive skew transit cs mid after
+
+-- a file's one certificate
+abbrev pub IsAuditTold : {A : Type 0} → (had : ℕ → List ℕ → Type 0) → List (PathBuf A) → Archive → List ℕ
+    → (skew transit : ℕ) → Told → Type 0
+IsAuditTold had names archive text skew transit told =
+    (claims : List Claim) × (texts_of claims ≡ text ∷ [])
+    × AreJudged had names archive skew transit claims nothing (said_of told)
+
+-- a file's certificates, one after another
+abbrev pub IsBatchTold : {A : Type 0} → (had : ℕ → List ℕ → Type 0) → List (PathBuf A) → Archive → List ℕ
+    → (skew transit : ℕ) → Told → Type 0
+IsBatchTold had names archive rest skew transit told =
+    (claims : List Claim) × AreTexts rest (texts_of claims)
+    × AreJudged had names archive skew transit claims nothing (said_of told)

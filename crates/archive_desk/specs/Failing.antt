@@ -1,0 +1,28 @@
+-- Why files answer nothing, by name and files.
+use Rattle.std.specs.Prelude.{◌≡◌, ℕ, List, [], ◌∷◌, ◌++◌, codes}
+use Rattle.std.specs.declared.path.buf.PathBuf.{PathBuf}
+use Rattle.journal_archive.specs.declared.error.ArchiveError.{ArchiveError}
+use Rattle.journal_archive.specs.declared.error.ArchiveError.TheVariants.{NoVolume, Differ, OutOfOrder, Memory}
+use Rattle.archive_desk.specs.declared.telling.Told.{Told}
+use Rattle.archive_desk.specs.Names.{name_at}
+
+-- a blank and the name of a file
+abbrev pub file_word : {A : Type 0} → List (PathBuf A) → ℕ → List ℕ
+file_word names file = 32 ∷ name_at names file
+
+abbrev pub refusal_words : {A : Type 0} → List (PathBuf A) → ArchiveError → List ℕ
+refusal_words names (NoVolume file) = codes "refused V1 NoVolume" ++ file_word names file
+refusal_words names (Differ first second) =
+    codes "refused V2 Differ" ++ (file_word names first ++ file_word names second)
+refusal_words names (OutOfOrder earlier later) =
+    codes "refused V3 OutOfOrder" ++ (file_word names earlier ++ file_word names later)
+refusal_words names Memory = codes "fault Memory"
+
+abbrev pub refusal_line : {A : Type 0} → List (PathBuf A) → ArchiveError → List ℕ
+refusal_line names error = refusal_words names error ++ 10 ∷ []
+
+-- standard output says so, and nothing else is said
+pub record IsRefusal {A : Type 0} (names : List (PathBuf A)) (error : ArchiveError) (told : Told) : Type 0 where
+  pub text : told.text.items ≡ refusal_line names error
+  pub status : told.status ≡ 1
+  pub quiet : told.notes.items ≡ []

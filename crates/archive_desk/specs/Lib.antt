@@ -1,0 +1,11 @@
+pub mod Names
+pub mod Lacks
+pub mod Asking
+pub mod Telling
+pub mod Who
+pub mod Stretches
+pub mod Newest
+pub mod Judging
+pub mod Certificates
+pub mod Answering
+pub mod Failing

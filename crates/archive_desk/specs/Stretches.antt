@@ -1,0 +1,44 @@
+-- What is told of the evidence of an interval.
+use Rattle.std.specs.Prelude.{◌≡◌, ℕ, ◌<◌, ◌≤◌, ◌^◌, List, [], ◌∷◌, nat_le, if◌then◌else◌}
+use Rattle.std.specs.declared.path.buf.PathBuf.{PathBuf}
+use Rattle.plain_search.specs.declared.query.Query.{Query}
+use Rattle.journal_archive.specs.declared.archive.Archive.{Archive}
+use Rattle.journal_archive.specs.declared.spans.Span.{Span}
+use Rattle.journal_archive.specs.Answers.{IsAnswer, AreSpans}
+use Rattle.attribution_desk.specs.declared.searching.Search.TheVariants.{Find}
+use Rattle.archive_desk.specs.declared.asking.Reply.{Reply}
+use Rattle.archive_desk.specs.declared.telling.Told.{Told}
+use Rattle.archive_desk.specs.Asking.{IsReplyAt}
+use Rattle.archive_desk.specs.Telling.{Said, said_of, nothing, IsSaidMore}
+
+-- the moment, where a reading can be so great
+abbrev pub reading_or : (moment other : ℕ) → ℕ
+reading_or moment other = if nat_le moment (2 ^ 48) then moment else other
+
+-- the same question of a stretch of its interval
+abbrev pub stretch_of : Query → Span → Query
+stretch_of q s = record {
+  holder = q.holder;
+  prefix = q.prefix;
+  from = reading_or s.from q.from;
+  to = reading_or s.to q.to;
+  skew = q.skew;
+  transit = q.transit;
+}
+
+-- each stretch is asked of, and the replies are told one behind the other
+abbrev pub AreStretchesTold : {A : Type 0} → (had : ℕ → List ℕ → Type 0) → List (PathBuf A) → Archive → Query
+    → List Span → (before after : Said) → Type 0
+AreStretchesTold had names archive q [] before after = after ≡ before
+AreStretchesTold had names archive q (s ∷ ss) before after =
+    (reply : Reply) × (mid : Said) × IsReplyAt had archive s.from (Find (stretch_of q s)) reply
+    × IsSaidMore names reply before mid × AreStretchesTold had names archive q ss mid after
+
+-- The stretches lie end to end from the interval's beginning to its end. Where it has no moment, it is asked of as it is.
+pub record IsFindTold {A : Type 0} (had : ℕ → List ℕ → Type 0) (names : List (PathBuf A)) (archive : Archive)
+    (q : Query) (told : Told) : Type 0 where
+  pub stretches : q.from < q.to → (spans : List Span)
+      × AreSpans (IsAnswer archive.primary archive.secondary q.skew q.transit) q.from q.to spans
+      × AreStretchesTold had names archive q spans nothing (said_of told)
+  pub empty : q.to ≤ q.from → (reply : Reply) × IsReplyAt had archive q.from (Find q) reply
+      × IsSaidMore names reply nothing (said_of told)

@@ -1,0 +1,61 @@
+-- What is told of replies.
+use Rattle.std.specs.Prelude.{◌≡◌, ℕ, List, [], ◌++◌, ◌==◌, if◌then◌else◌, codes}
+use Rattle.std.specs.declared.path.buf.PathBuf.{PathBuf}
+use Rattle.archive_desk.specs.declared.asking.Reply.{Reply}
+use Rattle.archive_desk.specs.declared.asking.Reply.TheVariants.{Answered, Lacking}
+use Rattle.archive_desk.specs.declared.telling.Told.{Told}
+use Rattle.archive_desk.specs.Names.{journals_line}
+use Rattle.archive_desk.specs.Lacks.{BeginsWith, lack_front}
+
+-- what the desk answers, or that there is nothing
+abbrev pub text_of : Reply → List ℕ
+text_of (Answered pair found until) = found.line.items
+text_of (Lacking side lack) = codes "none\n"
+
+abbrev pub status_of : Reply → ℕ
+status_of (Answered pair found until) = found.status
+status_of (Lacking side lack) = 1
+
+-- which two files it is of
+abbrev pub files_of : {A : Type 0} → List (PathBuf A) → Reply → List ℕ
+files_of names (Answered pair found until) = journals_line names pair
+files_of names (Lacking side lack) = []
+
+-- the text behind its files
+abbrev pub headed : {A : Type 0} → List (PathBuf A) → Reply → List ℕ
+headed names reply = files_of names reply ++ text_of reply
+
+-- what the desk notes first of all; and where nothing is shown, what is lacking, by its name
+abbrev pub IsNotedOf : Reply → List ℕ → Type 0
+IsNotedOf (Answered pair found until) notes = BeginsWith found.note.items notes
+IsNotedOf (Lacking side lack) notes = BeginsWith (lack_front side lack) notes
+
+-- of a single reply: its text, its status, and on standard error its files and what is noted
+pub record IsToldOfOne {A : Type 0} (names : List (PathBuf A)) (reply : Reply) (told : Told) : Type 0 where
+  pub text : told.text.items ≡ text_of reply
+  pub status : told.status ≡ status_of reply
+  pub noted : List ℕ
+  pub is_noted : IsNotedOf reply noted
+  pub notes : told.notes.items ≡ files_of names reply ++ noted
+
+-- ---- several replies, one behind the other
+
+-- what is told so far, as lists
+pub record Said : Type 0 where
+  pub text : List ℕ
+  pub status : ℕ
+  pub notes : List ℕ
+
+abbrev pub said_of : Told → Said
+said_of told = record { text = told.text.items; status = told.status; notes = told.notes.items }
+
+abbrev pub nothing : Said
+nothing = record { text = []; status = 0; notes = [] }
+
+-- one reply more: standard output names its files
+pub record IsSaidMore {A : Type 0} (names : List (PathBuf A)) (reply : Reply) (before after : Said) : Type 0 where
+  pub text : after.text ≡ before.text ++ headed names reply
+  pub status : after.status ≡ (if status_of reply == 0 then before.status else 1)
+  pub noted : List ℕ
+  pub is_noted : IsNotedOf reply noted
+  pub notes : after.notes ≡ before.notes ++ noted

@@ -1,0 +1,148 @@
+//! Certificates out of a file, judged over the journals of others.
+
+ghost use Rattle.std.specs.Prelude.{◌≡◌, ◌++◌, ◌∷◌, [], IfOk, OnOk};
+ghost use Rattle.archive_desk.specs.Certificates.{line_of, status_of, IsNotedOf, IsJudgedMore, AreJudged};
+ghost use Rattle.archive_desk.specs.Certificates.{IsAuditTold, IsBatchTold};
+ghost use Rattle.archive_desk.specs.Telling.{said_of, nothing};
+
+use crate::judging::{Judged, judge};
+use crate::lacks::{Bounds, lack_line, push_lack};
+use crate::names::push_journals;
+use crate::telling::Told;
+use archive_files::{FilesError, JournalFiles};
+use attribution_desk::{Claim, texts_in};
+use journal_archive::Archive;
+use lead_time::{Skew, Transit};
+use pair_ruling::{ruling_line, status_of};
+use std::alloc::{AllocError, Global};
+use std::path::PathBuf;
+use std::thread::Threads;
+
+impl Judged {
+    /// 0 where the certificate is accepted, else 1.
+    fn status(&self) -> u8
+        ensures { result ≡ status_of self.now }
+    {
+        match self {
+            Judged::Ruled(_, ruling) | Judged::Faulty(ruling) => status_of(ruling),
+            Judged::Lacking(_, _) => 1,
+        }
+    }
+
+    /// Appends the line of the ruling, or what is lacking.
+    fn push_line(&self, alloc: Global, out: &mut Vec<u8>) -> Result<(), AllocError>
+        ensures { OnOk result (out.new.items ≡ out.old.items ++ line_of self.now) }
+    {
+        match self {
+            Judged::Ruled(_, ruling) | Judged::Faulty(ruling) => {
+                out.extend_from_slice(&ruling_line(alloc, ruling)?)
+            }
+            Judged::Lacking(side, lack) => {
+                push_lack(out, *side, lack)?;
+                out.push(b'\n')?;
+                Ok(())
+            }
+        }
+    }
+
+    /// What is noted of it: the two files, or why a side lacks them.
+    fn noted(
+        &self,
+        alloc: Global,
+        names: &[PathBuf],
+        bounds: &Bounds,
+    ) -> Result<Vec<u8>, AllocError>
+        ensures { IfOk result (λ notes. IsNotedOf names.now self.now notes.items) }
+    {
+        match self {
+            Judged::Ruled(pair, _) => {
+                let mut notes = Vec::new(alloc);
+                push_journals(&mut notes, names, pair)?;
+                Ok(notes)
+            }
+            Judged::Faulty(_) => Ok(Vec::new(alloc)),
+            Judged::Lacking(side, lack) => lack_line(alloc, names, *side, lack, bounds),
+        }
+    }
+}
+
+impl Told {
+    /// Tells of one certificate more.
+    fn tell_judged(
+        &mut self,
+        alloc: Global,
+        names: &[PathBuf],
+        judged: &Judged,
+        bounds: &Bounds,
+    ) -> Result<(), FilesError>
+        ensures { OnOk result (IsJudgedMore names.now judged.now (said_of self.old) (said_of self.new)) }
+    {
+        judged.push_line(alloc, &mut self.text)?;
+        if judged.status() != 0 {
+            self.status = 1;
+        }
+        self.notes
+            .extend_from_slice(&judged.noted(alloc, names, bounds)?)?;
+        Ok(())
+    }
+}
+
+/// Judges each of the certificates, and tells of one behind the other.
+fn told_of<F: JournalFiles>(
+    rt: &(impl Threads + Sync),
+    alloc: Global,
+    files: &F,
+    names: &[PathBuf],
+    archive: &Archive,
+    claims: &[Claim],
+    skew: Skew,
+    transit: Transit,
+) -> Result<Told, FilesError>
+    ensures { IfOk result (λ told. AreJudged (F.had files.now) names.now archive.now skew transit claims.now nothing
+        (said_of told)) }
+{
+    let bounds = Bounds { skew, transit };
+    let mut told = Told::nothing(alloc);
+    for claim in claims {
+        let judged = judge(rt, alloc, files, archive, claim.text, skew, transit)?;
+        told.tell_judged(alloc, names, &judged, &bounds)?;
+    }
+    Ok(told)
+}
+
+/// The verdict on a file's one certificate. `Changed` or `Faulty` where a file isn't what the archive knows of it,
+/// `Memory` where a growth was refused.
+pub(crate) fn audit<F: JournalFiles>(
+    rt: &(impl Threads + Sync),
+    alloc: Global,
+    files: &F,
+    names: &[PathBuf],
+    archive: &Archive,
+    text: &[u8],
+    skew: Skew,
+    transit: Transit,
+) -> Result<Told, FilesError>
+    ensures { IfOk result (IsAuditTold (F.had files.now) names.now archive.now text.now skew transit) }
+{
+    let claims = [Claim { text, parsed: None }];
+    let told = told_of(rt, alloc, files, names, archive, &claims, skew, transit)?;
+    Ok(told)
+}
+
+/// The verdicts on a file's certificates, one after another.
+pub(crate) fn batch<F: JournalFiles>(
+    rt: &(impl Threads + Sync),
+    alloc: Global,
+    files: &F,
+    names: &[PathBuf],
+    archive: &Archive,
+    texts: &[u8],
+    skew: Skew,
+    transit: Transit,
+) -> Result<Told, FilesError>
+    ensures { IfOk result (IsBatchTold (F.had files.now) names.now archive.now texts.now skew transit) }
+{
+    let claims = texts_in(alloc, texts)?;
+    let told = told_of(rt, alloc, files, names, archive, &claims, skew, transit)?;
+    Ok(told)
+}

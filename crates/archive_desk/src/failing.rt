@@ -1,0 +1,96 @@
+//! Why files answer nothing, in words.
+
+ghost use Rattle.std.specs.Prelude.{◌≡◌, ◌++◌, OnOk, IfOk};
+ghost use Rattle.archive_desk.specs.Failing.{file_word, refusal_line, IsRefusal};
+
+use crate::names::name_of;
+use crate::telling::Told;
+use archive_files::FilesError;
+use journal_archive::ArchiveError;
+use std::alloc::{AllocError, Global};
+use std::path::PathBuf;
+
+/// Appends a blank and the name of a file.
+fn push_file(out: &mut Vec<u8>, names: &[PathBuf], file: usize) -> Result<(), AllocError>
+    ensures { OnOk result (out.new.items ≡ out.old.items ++ file_word names.now file) }
+{
+    out.push(b' ')?;
+    out.extend_from_slice(name_of(names, file).as_bytes())?;
+    Ok(())
+}
+
+/// Appends why files make no archive, by name and files.
+fn push_refusal(
+    out: &mut Vec<u8>,
+    names: &[PathBuf],
+    error: &ArchiveError,
+) -> Result<(), AllocError>
+    ensures { OnOk result (out.new.items ≡ out.old.items ++ refusal_line names.now error.now) }
+{
+    match error {
+        ArchiveError::NoVolume { file } => {
+            out.extend_from_slice(b"refused V1 NoVolume")?;
+            push_file(out, names, *file)?;
+        }
+        ArchiveError::Differ { first, second } => {
+            out.extend_from_slice(b"refused V2 Differ")?;
+            push_file(out, names, *first)?;
+            push_file(out, names, *second)?;
+        }
+        ArchiveError::OutOfOrder { earlier, later } => {
+            out.extend_from_slice(b"refused V3 OutOfOrder")?;
+            push_file(out, names, *earlier)?;
+            push_file(out, names, *later)?;
+        }
+        ArchiveError::Memory => out.extend_from_slice(b"fault Memory")?,
+    }
+    out.push(b'\n')?;
+    Ok(())
+}
+
+/// What is told where files can't be of one pair of servers: standard output says why, by name, and the status is 1.
+fn refused(alloc: Global, names: &[PathBuf], error: &ArchiveError) -> Result<Told, AllocError>
+    ensures { IfOk result (IsRefusal names.now error.now) }
+{
+    let mut text = Vec::new(alloc);
+    push_refusal(&mut text, names, error)?;
+    Ok(Told {
+        text,
+        status: 1,
+        notes: Vec::new(alloc),
+    })
+}
+
+/// What is told of a fault: standard error says which, and the status is 2.
+fn faulty(alloc: Global, names: &[PathBuf], error: &FilesError) -> Result<Told, AllocError> {
+    let mut notes = Vec::new(alloc);
+    match error {
+        FilesError::Changed { file } => {
+            notes.extend_from_slice(b"fault Changed")?;
+            push_file(&mut notes, names, *file)?;
+        }
+        FilesError::Faulty { file, fault } => {
+            notes.extend_from_slice(b"fault Journal")?;
+            push_file(&mut notes, names, *file)?;
+            let words = format!(in alloc; ": {fault}")?;
+            notes.extend_from_slice(words.as_bytes())?;
+        }
+        FilesError::Archive(_) | FilesError::Memory => notes.extend_from_slice(b"fault Memory")?,
+    }
+    notes.push(b'\n')?;
+    Ok(Told {
+        text: Vec::new(alloc),
+        status: 2,
+        notes,
+    })
+}
+
+/// What is told where files answer nothing: status 1 where their volumes can't be of one pair of servers, which standard
+/// output says by name; else 2, and standard error says why. `AllocError` where a growth was refused.
+pub fn failure(alloc: Global, names: &[PathBuf], error: &FilesError) -> Result<Told, AllocError> {
+    match error {
+        FilesError::Archive(ArchiveError::Memory) => faulty(alloc, names, error),
+        FilesError::Archive(refusal) => refused(alloc, names, refusal),
+        _ => faulty(alloc, names, error),
+    }
+}

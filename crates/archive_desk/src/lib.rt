@@ -1,0 +1,31 @@
+//! The desk's questions over the journals of files.
+//!
+//! `answer` says which of the files are volumes of the two servers, finds the pair of volumes that shows what is asked
+//! of, and answers what the desk answers over the journals that these two show (`attribution_desk`); where no pair
+//! does it says what is lacking. What is told names the files by `names`, one for each file. specs/Asking, Judging and
+//! Newest say what is answered, specs/Telling, Stretches and Certificates how it is told.
+//!
+//! ```text
+//! let told = answer(rt, alloc, &files, names, &Question::Who(query, settings))?;
+//! writer.write_all(&told.text)?; // as over standard input; standard error gets told.notes
+//! ```
+#![tactic(auto)]
+
+mod answering;
+mod asking;
+mod certificates;
+mod failing;
+mod holding;
+mod judging;
+mod lacks;
+mod names;
+mod newest;
+mod passing;
+mod stretches;
+mod telling;
+
+pub use answering::{Question, answer};
+pub use asking::{Reply, ask_at};
+pub use failing::failure;
+pub use judging::{Judged, judge};
+pub use telling::Told;

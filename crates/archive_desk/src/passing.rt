@@ -1,0 +1,41 @@
+//! Files that are passed over, for a person.
+
+use crate::names::name_of;
+use archive_files::{Found, PassedOver};
+use journal_copy::JournalFault;
+use std::alloc::{AllocError, Global};
+use std::path::PathBuf;
+
+/// Appends why a file is passed over.
+fn push_why(alloc: Global, out: &mut Vec<u8>, found: &Found) -> Result<(), AllocError> {
+    match found {
+        Found::Volume(_) => out.extend_from_slice(b"it's a journal"),
+        Found::NoJournal => out.extend_from_slice(b"it's no journal"),
+        Found::Unwritten => out.extend_from_slice(b"no line is written in it yet"),
+        Found::Faulty(fault) => push_fault(alloc, out, fault),
+        Found::Unreadable => out.extend_from_slice(b"it can't be read"),
+    }
+}
+
+fn push_fault(alloc: Global, out: &mut Vec<u8>, fault: &JournalFault) -> Result<(), AllocError> {
+    let words = format!(in alloc; "{fault}")?;
+    out.extend_from_slice(words.as_bytes())?;
+    Ok(())
+}
+
+/// A line for each file that is passed over, with its name and why.
+pub(crate) fn passed_over(
+    alloc: Global,
+    names: &[PathBuf],
+    passed: &[PassedOver],
+) -> Result<Vec<u8>, AllocError> {
+    let mut out = Vec::new(alloc);
+    for file in passed {
+        out.extend_from_slice(b"passed over ")?;
+        out.extend_from_slice(name_of(names, file.file).as_bytes())?;
+        out.extend_from_slice(b": ")?;
+        push_why(alloc, &mut out, &file.found)?;
+        out.push(b'\n')?;
+    }
+    Ok(out)
+}

@@ -1,0 +1,32 @@
+//! Why there is no answer.
+
+use attribution_desk::{DeskError, UsageError};
+use std::alloc::Global;
+use thiserror::Error;
+
+/// Why there is no answer.
+#[derive(Debug, Drop, Error)]
+pub(crate) enum Fault {
+    #[error("{0}")]
+    Usage(UsageError),
+    #[error("{0}")]
+    Desk(DeskError),
+    /// What this path names can't be read.
+    #[error("fault Path {0}")]
+    Path(String),
+}
+
+impl Fault {
+    /// A growth was refused.
+    pub(crate) fn memory() -> Fault {
+        Fault::Desk(DeskError::Memory)
+    }
+
+    /// What this path names can't be read.
+    pub(crate) fn at(alloc: Global, path: &str) -> Fault {
+        match format!(in alloc; "{path}") {
+            Ok(path) => Fault::Path(path),
+            Err(_) => Fault::memory(),
+        }
+    }
+}

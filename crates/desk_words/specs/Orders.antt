@@ -1,0 +1,14 @@
+-- What the words of a command line order: a command, and where its texts come from.
+use Rattle.std.specs.Prelude.{Option, Some, None, List}
+use Rattle.clap.specs.Words.{Row, Text}
+use Rattle.desk_words.specs.declared.orders.Order.{Order}
+use Rattle.desk_words.specs.Given.{IsGiven}
+use Rattle.desk_words.specs.Sources.{IsFrom}
+
+abbrev pub IsOrdered : Option (Text × List Row) → Order → Type 0
+IsOrdered None order = ⊥
+IsOrdered (Some found) order = IsGiven (Some found) order.command × IsFrom found order.source
+
+-- they order nothing
+abbrev pub IsNoOrder : Option (Text × List Row) → Type 0
+IsNoOrder found = (order : Order) → IsOrdered found order → ⊥

@@ -1,0 +1,116 @@
+//! The commands, as clap is told of them.
+
+ghost use Rattle.std.specs.Prelude.{◌≡◌, codes, IfOk, false};
+ghost use Rattle.clap.specs.Words.{app_of};
+ghost use Rattle.clap.specs.declared.builder.command.Command.TheViews.{out-Command};
+ghost use Rattle.desk_words.specs.Words.{audit_app, batch_app, asking_app, find_app, moment_app, who_app};
+ghost use Rattle.desk_words.specs.Words.{timeline_app, judging_app, searching_app, desk};
+
+use crate::arguments::{with_flag, with_journals, with_option};
+use clap::Command as ClapCommand;
+use std::alloc::{AllocError, Global};
+
+/// `audit --skew-ms N [--transit-ms N] ..`.
+fn audit_command<'a>(alloc: Global) -> Result<ClapCommand<'a>, AllocError>
+    ensures app { IfOk result (λ c. app_of c ≡ audit_app) }
+    ensures local { IfOk result (λ c. (out-Command c).has_globals ≡ false) }
+{
+    let audit = with_option(alloc, ClapCommand::new(alloc, "audit"), "skew-ms", true)?;
+    let audit = with_option(alloc, audit, "transit-ms", false)?;
+    let audit = with_journals(alloc, audit)?;
+    with_option(alloc, audit, "certificate", false)
+}
+
+/// `batch --skew-ms N --workers N [--transit-ms N] ..`.
+fn batch_command<'a>(alloc: Global) -> Result<ClapCommand<'a>, AllocError>
+    ensures app { IfOk result (λ c. app_of c ≡ batch_app) }
+    ensures local { IfOk result (λ c. (out-Command c).has_globals ≡ false) }
+{
+    let batch = with_option(alloc, ClapCommand::new(alloc, "batch"), "skew-ms", true)?;
+    let batch = with_option(alloc, batch, "workers", true)?;
+    let batch = with_option(alloc, batch, "transit-ms", false)?;
+    let batch = with_journals(alloc, batch)?;
+    with_option(alloc, batch, "certificate", false)
+}
+
+/// `find --skew-ms N --holder HEX --prefix P ..`: who is asked of, and what.
+fn asking_command<'a>(alloc: Global) -> Result<ClapCommand<'a>, AllocError>
+    ensures app { IfOk result (λ c. app_of c ≡ asking_app) }
+    ensures local { IfOk result (λ c. (out-Command c).has_globals ≡ false) }
+{
+    let find = with_option(alloc, ClapCommand::new(alloc, "find"), "skew-ms", true)?;
+    let find = with_option(alloc, find, "holder", true)?;
+    with_option(alloc, find, "prefix", true)
+}
+
+/// `find .. --from M --to M [--transit-ms N] [--journals PATH]..`.
+fn find_command<'a>(alloc: Global) -> Result<ClapCommand<'a>, AllocError>
+    ensures app { IfOk result (λ c. app_of c ≡ find_app) }
+    ensures local { IfOk result (λ c. (out-Command c).has_globals ≡ false) }
+{
+    let find = with_option(alloc, asking_command(alloc)?, "from", true)?;
+    let find = with_option(alloc, find, "to", true)?;
+    let find = with_option(alloc, find, "transit-ms", false)?;
+    with_journals(alloc, find)
+}
+
+/// `who --skew-ms N --prefix P --at M ..`: which prefix is asked of, and at which moment.
+fn moment_command<'a>(alloc: Global) -> Result<ClapCommand<'a>, AllocError>
+    ensures app { IfOk result (λ c. app_of c ≡ moment_app) }
+    ensures local { IfOk result (λ c. (out-Command c).has_globals ≡ false) }
+{
+    let who = with_option(alloc, ClapCommand::new(alloc, "who"), "skew-ms", true)?;
+    let who = with_option(alloc, who, "prefix", true)?;
+    with_option(alloc, who, "at", true)
+}
+
+/// `who .. [--transit-ms N] [--settings-differ] [--journals PATH]..`.
+fn who_command<'a>(alloc: Global) -> Result<ClapCommand<'a>, AllocError>
+    ensures app { IfOk result (λ c. app_of c ≡ who_app) }
+    ensures local { IfOk result (λ c. (out-Command c).has_globals ≡ false) }
+{
+    let who = with_option(alloc, moment_command(alloc)?, "transit-ms", false)?;
+    let who = with_flag(alloc, who, "settings-differ")?;
+    with_journals(alloc, who)
+}
+
+/// `timeline [--journals PATH]..`.
+fn timeline_command<'a>(alloc: Global) -> Result<ClapCommand<'a>, AllocError>
+    ensures app { IfOk result (λ c. app_of c ≡ timeline_app) }
+    ensures local { IfOk result (λ c. (out-Command c).has_globals ≡ false) }
+{
+    with_journals(alloc, ClapCommand::new(alloc, "timeline"))
+}
+
+/// The commands that judge certificates.
+fn judging_command<'a>(alloc: Global) -> Result<ClapCommand<'a>, AllocError>
+    ensures { IfOk result (λ c. app_of c ≡ judging_app) }
+{
+    let audit = audit_command(alloc)?;
+    let batch = batch_command(alloc)?;
+    ClapCommand::new(alloc, "desk_cli")
+        .subcommand_required(true)
+        .disable_help_subcommand(true)
+        .subcommand(audit)?
+        .subcommand(batch)
+}
+
+/// Those and the commands that search.
+fn searching_command<'a>(alloc: Global) -> Result<ClapCommand<'a>, AllocError>
+    ensures { IfOk result (λ c. app_of c ≡ searching_app) }
+{
+    let judging = judging_command(alloc)?;
+    let find = find_command(alloc)?;
+    let who = who_command(alloc)?;
+    judging.subcommand(find)?.subcommand(who)
+}
+
+/// All commands.
+pub(crate) fn desk_command<'a>(alloc: Global) -> Result<ClapCommand<'a>, AllocError>
+    ensures { IfOk result (λ c. app_of c ≡ desk) }
+{
+    let timeline = timeline_command(alloc)?;
+    searching_command(alloc)?
+        .subcommand(timeline)?
+        .subcommand(ClapCommand::new(alloc, "clocks"))
+}
