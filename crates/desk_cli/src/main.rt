@@ -43,10 +43,7 @@ fn answered_input(
     Ok(outcome.status)
 }
 
-fn answered(
-    rt: &HostRuntime,
-    handles: &(impl Threads + Wait + Net + Sync),
-) -> Result<u8, Fault> {
+fn answered(rt: &HostRuntime, handles: &(impl Threads + Wait + Net + Sync)) -> Result<u8, Fault> {
     let words = words_given(rt).map_err(Fault::Usage)?;
     let order = order_of(rt.alloc(), &words).map_err(Fault::Usage)?;
     match &order.source {

@@ -43,7 +43,9 @@ fn files_at<'a>(
 fn warn_of_silent(rt: &HostRuntime, files: &JournalPaths) {
     for socket in files.silent() {
         let path = socket.as_path().as_str();
-        let _ = eprintln!(rt; "warning Control {path}: no server answers; what is read there may not be on the disk yet");
+        let _ = eprintln!(rt;
+            "warning Control {path}: no server answers; what is read there may not be on the disk yet"
+        );
     }
 }
 

@@ -45,17 +45,17 @@ pub is_turn : {P Line : Type 0} (Listens : Line → Line → Type 0) (Sends : Li
     → IsTurn Listens Sends transit (ways way link) old next new
 is_turn Listens Sends transit way woke heard told link woke_link heard_link told_link next old ready begun new same_way
     same_link hears stands same rolls same_told same_told_link t same_transit tells = record {
-  heard = ways heard heard_link;
-  hears = subst (λ d. MayHear Listens d heard) same_way hears;
-  stands = subst (λ l. MayStand l heard_link) same_link stands;
-  ready = ready;
-  same = same;
-  begun = begun;
-  rolls = rolls;
-  tells = subst (λ n. Tells Sends n (ways heard heard_link) begun next new) same_transit
-      (subst (λ d. Tells Sends t (ways d heard_link) begun next new) same_told
-      (subst (λ l. Tells Sends t (ways told l) begun next new) same_told_link tells));
-}
+      heard = ways heard heard_link;
+      hears = subst (λ d. MayHear Listens d heard) same_way hears;
+      stands = subst (λ l. MayStand l heard_link) same_link stands;
+      ready = ready;
+      same = same;
+      begun = begun;
+      rolls = rolls;
+      tells = subst (λ n. Tells Sends n (ways heard heard_link) begun next new) same_transit
+          (subst (λ d. Tells Sends t (ways d heard_link) begun next new) same_told
+          (subst (λ l. Tells Sends t (ways told l) begun next new) same_told_link tells));
+    }
 
 module _ {P Line : Type 0} (Listens : Line → Line → Type 0) (Sends : Line → P → List ℕ → Line → Type 0)
     (transit : ℕ) (first : Ways Line) (begun : RunState P) where
