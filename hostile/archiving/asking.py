@@ -1,0 +1,44 @@
+"""The desk, asked of journals by hand and of directories."""
+import subprocess
+from pathlib import Path
+from typing import NamedTuple
+
+from auditor.words import prefix_word
+
+SECOND = Path(__file__).resolve().parent.parent.parent / "second" / "desk"
+# A question that takes longer is one that hangs, in seconds.
+PATIENCE = 60
+
+
+class Answer(NamedTuple):
+    out: bytes
+    err: bytes
+    status: int
+
+    def certificate(self):
+        """The certificate in an answer of `who`, None where it names nobody."""
+        start = self.out.find(b"pd-certificate")
+        return None if start < 0 else self.out[start:]
+
+
+class Desk:
+    """The program, with the settings of the pair."""
+
+    def __init__(self, program, settings):
+        self.program = program
+        self.margins = ["--skew-ms", str(settings.skew), "--transit-ms", str(settings.transit)]
+
+    def run(self, program, words, given=b""):
+        run = subprocess.run([program, *words], input=given, capture_output=True, check=False, timeout=PATIENCE)
+        return Answer(run.stdout, run.stderr, run.returncode)
+
+    def who(self, prefix, moment, texts=(), paths=()):
+        """Who held a prefix at a moment, by two journals' texts or by what paths name."""
+        words = ["who", *self.margins, "--prefix", prefix_word(prefix), "--at", str(moment)]
+        words += [word for path in paths for word in ("--journals", str(path))]
+        return self.run(self.program, words, b"".join(texts))
+
+    def batch(self, texts, certificates):
+        """What both auditors say of certificates over two journals."""
+        words, given = ["batch", *self.margins, "--workers", "1"], b"".join([*texts, *certificates])
+        return [self.run(program, words, given) for program in (self.program, str(SECOND))]
