@@ -15,6 +15,10 @@ class Answer(NamedTuple):
     err: bytes
     status: int
 
+    def holder(self):
+        """The first line of an answer that names somebody."""
+        return self.out.partition(b"\n")[0]
+
     def certificate(self):
         """The certificate in an answer of `who`, None where it names nobody."""
         start = self.out.find(b"pd-certificate")

@@ -13,6 +13,8 @@ WEIGHTS = {**KINDS, "restart": 0, "state": 0, "outage": 0, "roll": 0}
 STRETCH = (20, 60)
 # Within so many rounds of messages two servers have met again, in most cases.
 MOST_ROUNDS = 20
+# In so many stretches for each volume most servers have rolled.
+MOST_STRETCHES = 4
 # A stopped server stays away for so many steps of its partner's.
 AWAY = (1, 25)
 # What a server does that begins again, and its partner with it, until it serves.
@@ -113,10 +115,10 @@ class Years(Run):
         return [*self.kept["A"], *self.kept["B"], *live]
 
 
-def drawn_years(rng, volumes):
-    """Two servers with so many volumes together, of which the primary's last is still written."""
+def lived(rng, volumes):
+    """Two servers that have lived for so many volumes together; None where they don't meet again, and so don't roll."""
     years = Years(rng)
-    while len(years.volumes()) < volumes:
+    for _ in range(MOST_STRETCHES * volumes):
         for _ in range(rng.randint(*STRETCH)):
             years.step()
         server = years.servers[rng.choice("AB")]
@@ -128,6 +130,16 @@ def drawn_years(rng, volumes):
             years.outages += 1
         years.settle()
         years.roll(server)
+        if len(years.volumes()) == volumes:
+            return years
+    return None
+
+
+def drawn_years(rng, volumes):
+    """Two servers with so many volumes together, of which the primary's last is still written."""
+    years = None
+    while years is None:
+        years = lived(rng, volumes)
     for _ in range(STRETCH[1]):
         years.step()
     years.close(years.servers["B"])

@@ -1,8 +1,11 @@
 """What befalls directories of journals, and what the desk must say of it: a clear line each, and nothing guessed."""
+import itertools
 import os
+import socket
 import threading
 import time
 
+from auditor.journals import Base, Carry, Open, Pool, Transit, UnitLine
 from auditor.writing import event_words
 
 from .choosing import pair_for
@@ -12,6 +15,7 @@ MANY_FILES = 10_000
 MOST_LINES = 1 << 20
 # So long the desk may take over many files, and over a volume of so many lines, in seconds.
 LONGEST = 20
+HEAD = (Open, Pool, Transit, Base, Carry, UnitLine)
 
 
 def row(number, reading, words):
@@ -25,6 +29,13 @@ def contact(serial):
 def head_of(volume):
     """What a server's first volume begins with: its head line, and the words of its open, pool and transit lines."""
     return b"pd-journal 1 %s\n" % volume.side.encode(), [event_words(event).encode() for _, event in volume.entries[:3]]
+
+
+def answer_once(listener, number, lines):
+    """Answers one who asks a server's socket: of the volume of this number so many lines are on the disk."""
+    with listener.accept()[0] as asker:
+        asker.makefile("rb").readline()
+        asker.sendall(b'ok\n{"volume": {"number": %d, "synced": %d}}\n' % (number, lines))
 
 
 class Misfortunes:
@@ -96,10 +107,7 @@ class Misfortunes:
 
     def shrinking(self):
         """A chosen file that is cut and made whole again, again and again, while the desk is asked."""
-        path = self.beside("shrinking")
-        for volume in self.archive.volumes:
-            (path / f"{volume.side}-{volume.number:07}.journal").write_bytes(volume.text())
-        chosen = path / f"A-{self.pair['A'].number:07}.journal"
+        path, chosen = self.copied("shrinking")
         text, over = chosen.read_bytes(), threading.Event()
 
         def shrink():
@@ -113,17 +121,41 @@ class Misfortunes:
         thread.start()
         for _ in range(40):
             answer = self.ask([path])
-            if answer.out != self.right.out and (answer.status == 0 or not answer.err):
+            # (a shorter volume may show a shorter stretch of the same lease)
+            if answer.status != 0 and not answer.err or answer.status == 0 and answer.holder() != self.right.holder():
                 yield f"a file that shrinks: {answer}"
         over.set()
         thread.join()
 
-    def fault_within(self):
-        """A chosen file whose edges are right, and which has a fault between them."""
-        path = self.beside("faulty")
+    def copied(self, name):
+        """A directory with all volumes, and the path of the primary's that shows the moment."""
+        path = self.beside(name)
         for volume in self.archive.volumes:
             (path / f"{volume.side}-{volume.number:07}.journal").write_bytes(volume.text())
-        chosen = path / f"A-{self.pair['A'].number:07}.journal"
+        return path, path / f"A-{self.pair['A'].number:07}.journal"
+
+    def on_disk(self):
+        """A server over the directory that has all lines on the disk, or the head lines alone, or answers no longer."""
+        path, _ = self.copied("running")
+        chosen = self.pair["A"]
+        whole = len(chosen.entries)
+        head = len(list(itertools.takewhile(lambda entry: isinstance(entry.event, HEAD), chosen.entries)))
+        with socket.socket(socket.AF_UNIX) as listener:
+            listener.bind(str(path / "control"))
+            listener.listen()
+            for lines in (whole, head):
+                thread = threading.Thread(target=answer_once, args=(listener, chosen.number, lines))
+                thread.start()
+                if lines == whole:
+                    yield from self.stays_right("lines on the disk", [path], ["journals "])
+                else:
+                    yield from self.says("lines that aren't on the disk", self.ask([path]), ["lacking Later"], 1, b"none\n")
+                thread.join()
+        yield from self.stays_right("a server that answers no longer", [path], [f"warning Control {path}/control: ", "journals "])
+
+    def fault_within(self):
+        """A chosen file whose edges are right, and which has a fault between them."""
+        path, chosen = self.copied("faulty")
         rows = chosen.read_bytes().split(b"\n")
         rows[len(rows) // 2] = b"no line"
         chosen.write_bytes(b"\n".join(rows))
@@ -166,6 +198,6 @@ class Misfortunes:
             yield f"a volume of {MOST_LINES} lines took {lasted:.0f} s"
 
     def all(self):
-        for story in (self.no_such_path, self.strange_files, self.many_files, self.other_pair, self.shrinking, self.fault_within,
-                      self.long_beside_growing):
+        for story in (self.no_such_path, self.strange_files, self.many_files, self.other_pair, self.on_disk, self.shrinking,
+                      self.fault_within, self.long_beside_growing):
             yield from story()
