@@ -162,29 +162,56 @@ def pair(folder):
     return both
 
 
-def by_pair(node, folder, asker, clients):
-    """The same of the primary of a pair, and the processor seconds of the secondary."""
+def processor(served):
+    """Processor seconds of a server's one thread so far."""
+    return int(pathlib.Path(f"/proc/{served.child.pid}/schedstat").read_text().split()[0]) / 1e9
+
+
+def rests(folder):
+    """Waits until a volume grows no more: half of the units have gone to the secondary."""
+    volume, before = folder / "A-0000001.journal", -1
+    while volume.stat().st_size != before:
+        before = volume.stat().st_size
+        time.sleep(1.5)
+
+
+def by_servers(asker, servers):
+    """Seconds of so many exchanges with the first of these servers, and the processor seconds of each."""
+    before = [processor(served) for served in servers]
+    seconds = asked(asker, CLIENTS)
+    time.sleep(0.5)
+    return [seconds, *(processor(served) - earlier for served, earlier in zip(servers, before))]
+
+
+def by_pair(node, folder, asker):
     first, second = pair(folder)
     secondary, primary = Served(node, second), Served(node, first)
     while not re.search(b"is connected with its partner", (first / "notes").read_bytes()):
         time.sleep(0.01)
-    seconds = asked(asker, clients)
-    theirs, ours = secondary.stop(), primary.stop()
-    assert (first / "A-0000001.journal").read_bytes().count(b" grant ") == clients
-    return seconds, ours, theirs
+    rests(first)
+    found = by_servers(asker, [primary, secondary])
+    secondary.stop()
+    primary.stop()
+    return found
+
+
+def by_one(node, folder, asker):
+    served = Served(node, directory(folder))
+    found = by_servers(asker, [served])
+    served.stop()
+    return found
 
 
 def measure_pair(node, folder, asker):
-    """Prints exchanges with the primary of a pair beside those with a server that is alone."""
+    """Prints exchanges with the primary of a pair, once half of the units are the secondary's, beside those with a server that is alone."""
     found = {"alone": [], "pair": []}
     for _ in range(RUNS):
-        for name, way in {"alone": by_serve, "pair": by_pair}.items():
-            once = way(node, folder, asker, 1)
-            whole = way(node, folder, asker, CLIENTS)
-            found[name].append([whole[0], *(used - before for used, before in zip(whole[1:], once[1:]))])
+        for name, way in {"alone": by_one, "pair": by_pair}.items():
+            found[name].append(way(node, folder, asker))
     best = {name: [min(part) / CLIENTS * 1e6 for part in zip(*runs)] for name, runs in found.items()}
     print(f"pair: {1e6 / best['pair'][0]:,.0f} exchanges a second, {best['pair'][1]:.1f} processor microseconds each at the primary, "
           f"{best['pair'][2]:.1f} at the secondary")
+    print(f"alone: {1e6 / best['alone'][0]:,.0f} exchanges a second, {best['alone'][1]:.1f} processor microseconds each")
     print(f"pair : alone {best['pair'][0] / best['alone'][0]:.2f} (time), {best['pair'][1] / best['alone'][1]:.2f} (processor)", flush=True)
 
 
