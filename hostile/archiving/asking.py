@@ -19,6 +19,15 @@ class Answer(NamedTuple):
         """The first line of an answer that names somebody."""
         return self.out.partition(b"\n")[0]
 
+    def interval(self):
+        """From when to when it names somebody."""
+        return [int(word) for word in self.out.splitlines()[1].split()[1:]]
+
+    def stretches(self):
+        """The certificates of an answer of `find`, each behind the line of its journals."""
+        parts = self.out.split(b"journals ")[1:]
+        return [part[part.index(b"pd-certificate") : part.index(b"\nend\n") + 5] for part in parts if b"pd-certificate" in part]
+
     def certificate(self):
         """The certificate in an answer of `who`, None where it names nobody."""
         start = self.out.find(b"pd-certificate")
@@ -41,6 +50,23 @@ class Desk:
         words = ["who", *self.margins, "--prefix", prefix_word(prefix), "--at", str(moment)]
         words += [word for path in paths for word in ("--journals", str(path))]
         return self.run(self.program, words, b"".join(texts))
+
+    def over(self, command, words, paths):
+        """A command over what paths name."""
+        named = [word for path in paths for word in ("--journals", str(path))]
+        margins = [] if command == "timeline" else self.margins
+        return self.run(self.program, [command, *margins, *words, *named])
+
+    def find(self, holder, prefix, start, end, paths):
+        """The evidence that a client held a prefix from one moment to another."""
+        words = ["--holder", holder, "--prefix", prefix_word(prefix), "--from", str(start), "--to", str(end)]
+        return self.over("find", words, paths)
+
+    def judges(self, command, certificates, file, paths):
+        """What `audit` or `batch` says of certificates over what paths name."""
+        file.write_bytes(b"".join(certificates))
+        workers = ["--workers", "1"] if command == "batch" else []
+        return self.over(command, [*workers, "--certificate", str(file)], paths)
 
     def batch(self, texts, certificates):
         """What both auditors say of certificates over two journals."""
