@@ -1,0 +1,30 @@
+//! No limits.
+
+ghost use Rattle.std.specs.Prelude.{◌≡◌, []};
+
+use crate::leave::{Admission, Leave, Unheard};
+use dhcp6_pd::ClientMessage;
+use lead_time::Reading;
+use order_book::Book;
+use std::alloc::Global;
+
+/// Lets everything be ordered, and hears every message.
+#[derive(Clone, Copy, Debug)]
+pub struct Everything {
+    pub alloc: Global,
+}
+
+impl Admission for Everything {
+    ghost lets = { λ _ book now message leaves. leaves ≡ [] };
+
+    fn leaves(
+        &mut self,
+        _book: &Book,
+        _now: Reading,
+        _message: &ClientMessage,
+    ) -> Result<Vec<Leave>, Unheard> {
+        Ok(Vec::new(self.alloc))
+    }
+
+    fn note(&mut self, _book: &Book, _message: &ClientMessage) {}
+}
