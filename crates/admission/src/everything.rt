@@ -2,7 +2,7 @@
 
 ghost use Rattle.std.specs.Prelude.{◌≡◌, []};
 
-use crate::leave::{Admission, Leave, Unheard};
+use crate::permit::{Admission, Permit, Unheard};
 use dhcp6_pd::ClientMessage;
 use lead_time::Reading;
 use order_book::Book;
@@ -15,14 +15,14 @@ pub struct Everything {
 }
 
 impl Admission for Everything {
-    ghost lets = { λ _ book now message leaves. leaves ≡ [] };
+    ghost lets = { λ _ book now message permits. permits ≡ [] };
 
-    fn leaves(
+    fn permits(
         &mut self,
         _book: &Book,
         _now: Reading,
         _message: &ClientMessage,
-    ) -> Result<Vec<Leave>, Unheard> {
+    ) -> Result<Vec<Permit>, Unheard> {
         Ok(Vec::new(self.alloc))
     }
 

@@ -3,7 +3,7 @@
 ghost use Rattle.std.specs.Prelude.{ℕ, List, IfOk};
 ghost use Rattle.dhcp6_pd.specs.declared.message.ClientMessage.{ClientMessage as MessageValue};
 ghost use Rattle.journal_lines.specs.declared.line.Journal.{Journal};
-ghost use Rattle.admission.specs.declared.leave.Leave.{Leave as LeaveValue};
+ghost use Rattle.admission.specs.declared.permit.Permit.{Permit as PermitValue};
 
 use dhcp6_pd::ClientMessage;
 use lead_time::Reading;
@@ -12,7 +12,7 @@ use thiserror::Error;
 
 /// Whether an IA_PD may be ordered.
 #[derive(Clone, Copy, Debug, PartialEq, Eq)]
-pub enum Leave {
+pub enum Permit {
     /// It is ordered of the book, or offered.
     Ordered,
     /// Its client is told NoPrefixAvail, and nothing is ordered.
@@ -33,17 +33,17 @@ pub enum Unheard {
 /// What decides which IA_PDs of clients' messages may be ordered.
 pub trait Admission {
     /// What it lets be ordered of a message, at a book and a reading.
-    ghost lets: { Self → Journal → ℕ → MessageValue → List LeaveValue → Type 0 };
+    ghost lets: { Self → Journal → ℕ → MessageValue → List PermitValue → Type 0 };
 
     /// Says of each IA_PD of a message, in its order, whether it may be ordered; those behind the end of the list may.
     /// Or that the message isn't heard.
-    fn leaves(
+    fn permits(
         &mut self,
         book: &Book,
         now: Reading,
         message: &ClientMessage,
-    ) -> Result<Vec<Leave>, Unheard>
-        ensures { IfOk result (λ leaves. lets self.old book.now now message.now leaves.items) };
+    ) -> Result<Vec<Permit>, Unheard>
+        ensures { IfOk result (λ permits. lets self.old book.now now message.now permits.items) };
 
     /// Notes what became of the message that it was asked about last: the book has the lines that its orders added.
     fn note(&mut self, book: &Book, message: &ClientMessage);
