@@ -10,7 +10,7 @@ use Rattle.text_fields.specs.Parsing.{◌>>!◌}
 use Rattle.dhcp6_pd.specs.declared.error.PdFault.{PdFault}
 use Rattle.dhcp6_pd.specs.declared.error.PdFault.TheVariants.{Short, TooDeep, Ignored}
 use Rattle.dhcp6_pd.specs.declared.numbers.TheConstants.{CLIENT_ID, SERVER_ID, RELAY_MESSAGE, INTERFACE_ID}
-use Rattle.dhcp6_pd.specs.declared.numbers.TheConstants.{RELAY_FORWARD}
+use Rattle.dhcp6_pd.specs.declared.numbers.TheConstants.{REMOTE_ID, RELAY_FORWARD}
 use Rattle.dhcp6_pd.specs.declared.message.ClientKind.{ClientKind}
 use Rattle.dhcp6_pd.specs.declared.relay_options.RelayOptions.{RelayOptions}
 use Rattle.dhcp6_pd.specs.declared.untested.UntestedMessage.{UntestedMessage}
@@ -75,7 +75,7 @@ up_to (Next o row) left octets l up inside fits is e =
           spelled = at.spelled ∙ ap (λ (p : DhcpOption). option_octets p.code p.octets ++ at.rest) same;
           first = refl;
           last = l;
-          adds = record { client = refl; server = refl; relayed = refl; interface = refl };
+          adds = record { client = refl; server = refl; relayed = refl; interface = refl; remote = refl };
         }
     by false test at more found again e =
         let later = again more e in
@@ -158,18 +158,21 @@ carries octets l row inside fits whole kind e =
       client = sees_once false u.last.client (data_of CLIENT_ID u.before) u.adds.client;
       server = sees_once false u.last.server (data_of SERVER_ID u.before) u.adds.server;
       interface = stands_once u.last.interface (data_of INTERFACE_ID u.before) u.adds.interface;
+      remote = stands_once u.last.remote (data_of REMOTE_ID u.before) u.adds.remote;
     }
 
 found_again : (octets inside : List ℕ) (h : Carries octets inside)
     → Found no_relay_options (drop 34 octets) inside h.behind
 found_again octets inside h =
     let interface = stands_of_few (data_of INTERFACE_ID h.before) h.interface in
+    let remote = stands_of_few (data_of REMOTE_ID h.before) h.remote in
     let last : RelayOptions = record {
       client = stood (data_of CLIENT_ID h.before);
       server =
           stood (data_of SERVER_ID h.before);
       relayed = false;
       interface = interface.0;
+      remote = remote.0;
     } in
     let nothing : Sees false [] false = refl in
     let adds : AddsToRelay no_relay_options h.before last = record {
@@ -177,6 +180,7 @@ found_again octets inside h =
       server = sees_of (data_of SERVER_ID h.before) h.server;
       relayed = subst (λ (xs : List (List ℕ)). Sees false xs false) (sym h.first) nothing;
       interface = interface.1;
+      remote = remote.1;
     } in
     subst (λ (xs : List ℕ). Found no_relay_options xs inside h.behind) (sym h.spelled)
     (up_again h.before no_relay_options last inside h.behind h.each h.is adds refl h.first)

@@ -31,7 +31,7 @@ pub record AddsToClient (s : ClientOptions) (options : List DhcpOption) (t : Cli
 other_code : (code : ℕ) (s : ClientOptions) (octets : List ℕ) → IsOther code
     → client_code (code_of code) s octets ≡ Ok s
 unfolding code_of
-other_code code s octets h = rw (h.client, h.server, h.relayed, h.interface, h.ia) (by (code == IA_PREFIX))
+other_code code s octets h = rw (h.client, h.server, h.relayed, h.interface, h.remote, h.ia) (by (code == IA_PREFIX))
   where
     by : (t : Bool) → client_code (if t then IaPrefix else Other) s octets ≡ Ok s
     by true = refl
@@ -92,6 +92,14 @@ client_step s more t octets options code fits h =
           sees_takes s.interface k.0 t.interface octets (data_of INTERFACE_ID options) k.1 k.2.interface;
       ias =
           k.2.ias;
+    }))
+    (λ e. (let k = subst Adds (sym (ok_is _ _ e)) h in
+    record {
+      client = k.client;
+      server = k.server;
+      relayed = k.relayed;
+      interface = k.interface;
+      ias = k.ias;
     }))
     (λ e. (let k = put Adds (with_ia s.ias octets) (λ x. record s { ias = x }) more e h in
     record {
@@ -173,6 +181,17 @@ client_next s t octets options code few =
       found = rw k.0 refl;
       later = record { client = h.client; server = h.server; relayed = h.relayed; interface = k.1; ias = h.ias };
     }))
+    (λ h. record {
+      more = s;
+      found = refl;
+      later = record {
+        client = h.client;
+        server = h.server;
+        relayed = h.relayed;
+        interface = h.interface;
+        ias = h.ias;
+      };
+    })
     (λ h. (let k = ias_again s.ias t.ias octets (data_of IA_PD options) few h.ias in record {
       more = record s { ias = k.middle };
       found = rw k.found refl;

@@ -21,7 +21,7 @@ use Rattle.dhcp6_pd.specs.declared.untested.UntestedMessage.{UntestedMessage}
 use Rattle.dhcp6_pd.specs.Options.{DhcpOption}
 use Rattle.dhcp6_pd.specs.Rows.{Row, Done, Broken, Next, row_behind, row_of, code_of, folded}
 use Rattle.dhcp6_pd.specs.Faults.{prefix_in, with_hint, ia_in, duid_or, once, seen_once, with_ia, client_code}
-use Rattle.dhcp6_pd.specs.Faults.{client_option, no_client_options, kind_of, client_in, interface_once, relay_code}
+use Rattle.dhcp6_pd.specs.Faults.{client_option, no_client_options, kind_of, client_in, relay_id_once, relay_code}
 use Rattle.dhcp6_pd.specs.Faults.{relay_option, no_relay_options, to_message, behind, relay_in, or_ignored, by_type}
 use Rattle.dhcp6_pd.specs.Faults.{message_in}
 
@@ -147,9 +147,9 @@ unfolding seen_once
 seen_faults true = tt
 seen_faults false = tt
 
-interface_faults : (before : Option (List ℕ)) (octets : List ℕ) → Faults OfOptions (interface_once before octets)
-interface_faults None octets = tt
-interface_faults (Some interface) octets = tt
+id_faults : (before : Option (List ℕ)) (octets : List ℕ) → Faults OfOptions (relay_id_once before octets)
+id_faults None octets = tt
+id_faults (Some id) octets = tt
 
 ias_faults : (s : ClientOptions) (octets : List ℕ) → Faults OfOptions (with_ia s.ias octets)
 unfolding with_ia
@@ -165,6 +165,7 @@ client_faults s o = by (code_of o.code)
     by codes.ServerId = bind_faults OfOptions (once s.server o.octets) _ (once_faults s.server o.octets) (λ _. tt)
     by codes.RelayMessage = bind_faults OfOptions (seen_once s.relayed) _ (seen_faults s.relayed) (λ _. tt)
     by codes.InterfaceId = bind_faults OfOptions (seen_once s.interface) _ (seen_faults s.interface) (λ _. tt)
+    by codes.RemoteId = tt
     by codes.IaPd = bind_faults OfOptions (with_ia s.ias o.octets) _ (ias_faults s o.octets) (λ _. tt)
     by codes.IaPrefix = tt
     by codes.Other = tt
@@ -177,8 +178,10 @@ relay_faults l o = by (code_of o.code)
     by codes.ClientId = bind_faults OfOptions (seen_once l.client) _ (seen_faults l.client) (λ _. tt)
     by codes.ServerId = bind_faults OfOptions (seen_once l.server) _ (seen_faults l.server) (λ _. tt)
     by codes.RelayMessage = bind_faults OfOptions (seen_once l.relayed) _ (seen_faults l.relayed) (λ _. tt)
-    by codes.InterfaceId = bind_faults OfOptions (interface_once l.interface o.octets) _
-        (interface_faults l.interface o.octets) (λ _. tt)
+    by codes.InterfaceId = bind_faults OfOptions (relay_id_once l.interface o.octets) _
+        (id_faults l.interface o.octets) (λ _. tt)
+    by codes.RemoteId = bind_faults OfOptions (relay_id_once l.remote o.octets) _
+        (id_faults l.remote o.octets) (λ _. tt)
     by codes.IaPd = tt
     by codes.IaPrefix = tt
     by codes.Other = tt

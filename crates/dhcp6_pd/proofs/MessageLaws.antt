@@ -7,7 +7,7 @@ use Rattle.std.specs.List.{AllByRecursion}
 use Rattle.text_fields.specs.Octets.{AreOctets}
 use Rattle.dhcp6_pd.specs.declared.numbers.TheConstants.{CLIENT_ID, SERVER_ID, RELAY_MESSAGE, INTERFACE_ID, IA_PD}
 use Rattle.dhcp6_pd.specs.declared.numbers.TheConstants.{SOLICIT, REQUEST, RENEW, REBIND, RELEASE, RELAY_FORWARD}
-use Rattle.dhcp6_pd.specs.declared.numbers.TheConstants.{MAX_IAS}
+use Rattle.dhcp6_pd.specs.declared.numbers.TheConstants.{REMOTE_ID, MAX_IAS}
 use Rattle.dhcp6_pd.specs.declared.error.PdFault.{PdFault}
 use Rattle.dhcp6_pd.specs.declared.error.PdFault.TheVariants.{TooDeep}
 use Rattle.dhcp6_pd.specs.declared.message.ClientKind.{ClientKind}
@@ -201,6 +201,7 @@ relay_takes parse octets h fits type e =
         spelled = options;
         held = holds.only;
         interface = stands_listed last.0.interface (data_of INTERFACE_ID holds.options) holds.adds.interface;
+        remote = stands_listed last.0.remote (data_of REMOTE_ID holds.options) holds.adds.remote;
         client = sees_once false last.0.client (data_of CLIENT_ID holds.options) holds.adds.client;
         server = sees_once false last.0.server (data_of SERVER_ID holds.options) holds.adds.server;
       },
@@ -211,7 +212,7 @@ relay_takes parse octets h fits type e =
     short_some None x e = absurd cc
     short_some (Some y) x e = ap (λ (z : List ℕ × Row). Some z) (ok_is y x e)
 
-pub stands_of : (interface : Option (List ℕ)) → Stands None (listed interface) interface
+pub stands_of : (id : Option (List ℕ)) → Stands None (listed id) id
 stands_of None = refl
 stands_of (Some octets) = (refl, refl, refl)
 
@@ -226,6 +227,7 @@ relay_again parse octets r inside u h e =
           stood (data_of SERVER_ID h.options);
       relayed = true;
       interface = r.interface;
+      remote = r.remote;
     } in
     let held : Sees false (inside ∷ []) true = (refl, refl, refl) in
     let adds : AddsToRelay no_relay_options h.options last = record {
@@ -233,6 +235,7 @@ relay_again parse octets r inside u h e =
       server = sees_of (data_of SERVER_ID h.options) h.server;
       relayed = subst (λ (xs : List (List ℕ)). Sees false xs true) (sym h.held) held;
       interface = subst (λ (xs : List (List ℕ)). Stands None xs r.interface) (sym h.interface) (stands_of r.interface);
+      remote = subst (λ (xs : List (List ℕ)). Stands None xs r.remote) (sym h.remote) (stands_of r.remote);
     } in
     let at = held_again h.options no_relay_options last inside adds h.held in
     let found : to_message no_relay_options (row_of (drop 34 octets)) ≡ Ok (at.up, Some (inside, at.left)) =
@@ -242,17 +245,17 @@ relay_again parse octets r inside u h e =
       hops = x;
       link = take 16 (drop 2 octets);
       peer = take 16 (drop 18 octets);
-      interface =
-          r.interface;
+      interface = r.interface;
+      remote = r.remote;
     }) (sym h.hops)
     ∙ (ap (λ (x : List ℕ). record {
       hops = r.hops;
       link = x;
       peer = take 16 (drop 18 octets);
-      interface =
-          r.interface;
+      interface = r.interface;
+      remote = r.remote;
     }) (sym h.link)
-    ∙ ap (λ (x : List ℕ). record { hops = r.hops; link = r.link; peer = x; interface = r.interface }) (sym h.peer)) in
+    ∙ ap (λ (x : List ℕ). record r { peer = x }) (sym h.peer)) in
     rw (le-ltb (length octets) 34 h.whole, found, e, at.rest) (ap (λ (x : Relay). Ok (by_relay x u)) same)
 
 -- ---- the message and its relays

@@ -77,6 +77,7 @@ client_code codes.ClientId s octets = once s.client octets >>! λ client. Ok (re
 client_code codes.ServerId s octets = once s.server octets >>! λ server. Ok (record s { server = server })
 client_code codes.RelayMessage s octets = seen_once s.relayed >>! λ relayed. Ok (record s { relayed = relayed })
 client_code codes.InterfaceId s octets = seen_once s.interface >>! λ interface. Ok (record s { interface = interface })
+client_code codes.RemoteId s octets = Ok s
 client_code codes.IaPd s octets = with_ia s.ias octets >>! λ ias. Ok (record s { ias = ias })
 client_code codes.IaPrefix s octets = Ok s
 client_code codes.Other s octets = Ok s
@@ -122,16 +123,18 @@ client_in kind octets =
 
 -- ---- the options of a relay's message
 
-abbrev pub interface_once : Option (List ℕ) → List ℕ → Result (Option (List ℕ)) PdFault
-interface_once None octets = Ok (Some octets)
-interface_once (Some interface) octets = Err DuplicateId
+-- an identifier that the relay gives, which may stand once
+abbrev pub relay_id_once : Option (List ℕ) → List ℕ → Result (Option (List ℕ)) PdFault
+relay_id_once None octets = Ok (Some octets)
+relay_id_once (Some id) octets = Err DuplicateId
 
 abbrev pub relay_code : OptionCode → RelayOptions → List ℕ → Result RelayOptions PdFault
 relay_code codes.ClientId l octets = seen_once l.client >>! λ client. Ok (record l { client = client })
 relay_code codes.ServerId l octets = seen_once l.server >>! λ server. Ok (record l { server = server })
 relay_code codes.RelayMessage l octets = seen_once l.relayed >>! λ relayed. Ok (record l { relayed = relayed })
 relay_code codes.InterfaceId l octets =
-    interface_once l.interface octets >>! λ interface. Ok (record l { interface = interface })
+    relay_id_once l.interface octets >>! λ interface. Ok (record l { interface = interface })
+relay_code codes.RemoteId l octets = relay_id_once l.remote octets >>! λ remote. Ok (record l { remote = remote })
 relay_code codes.IaPd l octets = Ok l
 relay_code codes.IaPrefix l octets = Ok l
 relay_code codes.Other l octets = Ok l
@@ -140,7 +143,7 @@ unfoldable pub relay_option : RelayOptions → DhcpOption → Result RelayOption
 relay_option l o = relay_code (code_of o.code) l o.octets
 
 abbrev pub no_relay_options : RelayOptions
-no_relay_options = record { client = false; server = false; relayed = false; interface = None }
+no_relay_options = record { client = false; server = false; relayed = false; interface = None; remote = None }
 
 -- the options up to the relay message, and its data with the row behind it; or all options where none is left
 unfoldable pub to_message : RelayOptions → Row → Result (RelayOptions × Option (List ℕ × Row)) PdFault
@@ -161,6 +164,7 @@ relay_of octets kept = record {
   link = take 16 (drop 2 octets);
   peer = take 16 (drop 18 octets);
   interface = kept.interface;
+  remote = kept.remote;
 }
 
 abbrev pub by_relay : Relay → UntestedMessage → UntestedMessage

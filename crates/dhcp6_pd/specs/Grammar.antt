@@ -10,7 +10,7 @@ use Rattle.dhcp6_pd.specs.declared.message.ClientMessage.{ClientMessage}
 use Rattle.dhcp6_pd.specs.declared.untested.UntestedMessage.{UntestedMessage}
 use Rattle.dhcp6_pd.specs.declared.numbers.TheConstants.{CLIENT_ID, SERVER_ID, RELAY_MESSAGE, INTERFACE_ID, IA_PD}
 use Rattle.dhcp6_pd.specs.declared.numbers.TheConstants.{IA_PREFIX, SOLICIT, REQUEST, RENEW, REBIND, RELEASE}
-use Rattle.dhcp6_pd.specs.declared.numbers.TheConstants.{RELAY_FORWARD, MAX_IAS, MAX_RELAYS}
+use Rattle.dhcp6_pd.specs.declared.numbers.TheConstants.{REMOTE_ID, RELAY_FORWARD, MAX_IAS, MAX_RELAYS}
 use Rattle.dhcp6_pd.specs.declared.message.IaPd.{IaPd}
 use Rattle.dhcp6_pd.specs.declared.message.Relay.{Relay}
 use Rattle.dhcp6_pd.specs.Options.{DhcpOption, AreOptions, data_of}
@@ -96,6 +96,7 @@ pub record SpellsRelay (octets : List ℕ) (r : Relay) (inside : List ℕ) : Typ
   pub spelled : AreOptions (drop 34 octets) options
   pub held : data_of RELAY_MESSAGE options ≡ inside ∷ []
   pub interface : data_of INTERFACE_ID options ≡ listed r.interface
+  pub remote : data_of REMOTE_ID options ≡ listed r.remote
   pub client : length (data_of CLIENT_ID options) ≤ 1
   pub server : length (data_of SERVER_ID options) ≤ 1
 

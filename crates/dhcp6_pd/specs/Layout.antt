@@ -60,7 +60,7 @@ head_octets m =
 abbrev pub server_octets : ServerMessage → List ℕ
 server_octets m = head_octets m ++ flat_map ia_octets m.ias
 
--- section 21.18: the interface identifier goes back as it came
+-- section 21.18: the interface identifier goes back as it came; the remote one need not (RFC 4649), and does not
 abbrev pub interface_octets : Option (List ℕ) → List ℕ
 interface_octets None = []
 interface_octets (Some interface) = option_octets INTERFACE_ID interface

@@ -11,7 +11,7 @@ use Rattle.dhcp6_pd.specs.declared.message.ClientKind.{ClientKind}
 use Rattle.dhcp6_pd.specs.declared.message.ClientKind.TheVariants.{Solicit, Request, Renew, Rebind, Release}
 use Rattle.dhcp6_pd.specs.declared.untested.UntestedMessage.{UntestedMessage}
 use Rattle.dhcp6_pd.specs.declared.numbers.TheConstants.{CLIENT_ID, SERVER_ID, RELAY_MESSAGE, INTERFACE_ID}
-use Rattle.dhcp6_pd.specs.declared.numbers.TheConstants.{RELAY_FORWARD}
+use Rattle.dhcp6_pd.specs.declared.numbers.TheConstants.{REMOTE_ID, RELAY_FORWARD}
 use Rattle.dhcp6_pd.specs.Layout.{option_octets}
 use Rattle.dhcp6_pd.specs.Options.{DhcpOption, IsOption, octets_of, data_of}
 use Rattle.dhcp6_pd.specs.Grammar.{type_of, SpellsUntested}
@@ -54,6 +54,7 @@ pub record Carries (octets inside : List ℕ) : Type 0 where
   pub client : length (data_of CLIENT_ID before) ≤ 1
   pub server : length (data_of SERVER_ID before) ≤ 1
   pub interface : length (data_of INTERFACE_ID before) ≤ 1
+  pub remote : length (data_of REMOTE_ID before) ≤ 1
 
 -- the message that so many relays carry
 abbrev pub Carried : ℕ → List ℕ → List ℕ → Type 0

@@ -6,10 +6,10 @@ use Rattle.text_fields.specs.Parsing.{◌>>!◌}
 use Rattle.dhcp6_pd.specs.declared.error.PdFault.{PdFault}
 use Rattle.dhcp6_pd.specs.declared.error.PdFault.TheVariants.{Short, OptionLength}
 use Rattle.dhcp6_pd.specs.declared.numbers.TheConstants.{CLIENT_ID, SERVER_ID, RELAY_MESSAGE, INTERFACE_ID, IA_PD}
-use Rattle.dhcp6_pd.specs.declared.numbers.TheConstants.{IA_PREFIX}
+use Rattle.dhcp6_pd.specs.declared.numbers.TheConstants.{IA_PREFIX, REMOTE_ID}
 use Rattle.dhcp6_pd.specs.declared.option_code.OptionCode.{OptionCode}
 use Rattle.dhcp6_pd.specs.declared.option_code.OptionCode.TheVariants.{ClientId, ServerId, RelayMessage, InterfaceId}
-use Rattle.dhcp6_pd.specs.declared.option_code.OptionCode.TheVariants.{IaPd, IaPrefix, Other}
+use Rattle.dhcp6_pd.specs.declared.option_code.OptionCode.TheVariants.{RemoteId, IaPd, IaPrefix, Other}
 use Rattle.dhcp6_pd.specs.Options.{DhcpOption}
 
 -- options up to the end, or up to a fault
@@ -34,13 +34,14 @@ row_behind (suc n) (x ∷ octets) = row_behind n octets
 abbrev pub row_of : List ℕ → Row
 row_of octets = row_behind 0 octets
 
--- which options are read (section 21)
+-- which options are read (section 21, and RFC 4649)
 unfoldable pub code_of : ℕ → OptionCode
 code_of code =
     if code == CLIENT_ID then ClientId
     else if code == SERVER_ID then ServerId
     else if code == RELAY_MESSAGE then RelayMessage
     else if code == INTERFACE_ID then InterfaceId
+    else if code == REMOTE_ID then RemoteId
     else if code == IA_PD then IaPd
     else if code == IA_PREFIX then IaPrefix
     else Other

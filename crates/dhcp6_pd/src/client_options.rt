@@ -107,7 +107,7 @@ impl Keeps for ClientOptions {
             OptionCode::RelayMessage => see_once(&mut self.relayed)?,
             OptionCode::InterfaceId => see_once(&mut self.interface)?,
             OptionCode::IaPd => add_ia(alloc, &mut self.ias, option.octets)?,
-            OptionCode::IaPrefix | OptionCode::Other => {}
+            OptionCode::RemoteId | OptionCode::IaPrefix | OptionCode::Other => {}
         }
         Ok(())
     }

@@ -15,7 +15,8 @@ pub enum PdFault {
     /// An option runs past its container, or is too short or too long for what it holds.
     #[error("an option's length does not fit")]
     OptionLength,
-    /// A second client identifier, server identifier, relay message or interface identifier in one message or relay.
+    /// A second client identifier, server identifier, relay message or interface identifier in one message or relay,
+    /// or a second remote identifier in one relay.
     #[error("an option that may stand once stands twice")]
     DuplicateId,
     /// The message has no client identifier.

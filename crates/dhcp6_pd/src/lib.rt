@@ -36,5 +36,5 @@ pub use error::{PdError, PdFault};
 pub use message::{
     ClientKind, ClientMessage, IaPd, IaReply, IaReplyAnswer, Relay, ServerKind, ServerMessage,
 };
-pub use message_lists::{IaPdList, IaReplyList, InterfaceId, RelayList};
+pub use message_lists::{IaPdList, IaReplyList, InterfaceId, RelayId, RelayList, RemoteId};
 pub use writing::encode;

@@ -1,6 +1,6 @@
 //! What messages say (RFC 8415): those of clients that are read, and those of the server that are written.
 
-use crate::message_lists::{IaPdList, IaReplyList, InterfaceId, RelayList};
+use crate::message_lists::{IaPdList, IaReplyList, InterfaceId, RelayList, RemoteId};
 use client_id::{Duid, Iaid};
 use prefix_range::Prefix;
 
@@ -26,7 +26,7 @@ pub struct ClientMessage {
     pub ias: IaPdList,
 }
 
-/// A relay agent that forwarded a message, and what it wants back (RFC 8415, section 9).
+/// A relay agent that forwarded a message (RFC 8415, section 9). All but the remote identifier goes back to it.
 #[derive(Debug, Drop)]
 pub struct Relay {
     /// The hop count.
@@ -36,6 +36,7 @@ pub struct Relay {
     /// The peer address.
     pub peer: [u8; 16],
     pub interface: Option<InterfaceId>,
+    pub remote: Option<RemoteId>,
 }
 
 /// An identity association for prefix delegation that a client asks about (RFC 8415, section 21.21).

@@ -16,14 +16,19 @@ pub type IaPdList = Listed<IaPd>;
 /// The IA_PDs of an answer, in its order.
 pub type IaReplyList = Listed<IaReply>;
 
-/// The octets by which a relay agent knows the interface to a client (RFC 8415, section 21.18). Contracts see
-/// the list of them.
+/// The identifier by which a relay agent knows the interface to a client (RFC 8415, section 21.18).
+pub type InterfaceId = RelayId;
+
+/// The identifier by which a relay agent knows who is at the far end of a line (RFC 4649, section 3).
+pub type RemoteId = RelayId;
+
+/// An identifier that a relay agent gives: any octets, into which nobody looks. Contracts see the list of them.
 #[derive(Debug, Drop)]
-pub struct InterfaceId {
+pub struct RelayId {
     octets: Vec<u8>,
 }
 
-impl Model for InterfaceId {
+impl Model for RelayId {
     ghost use Rattle.std.specs.Prelude.{List, ℕ};
 
     ghost Value = { List ℕ };
@@ -31,13 +36,13 @@ impl Model for InterfaceId {
     ghost view = { λ i. i.octets.items };
 }
 
-impl InterfaceId {
+impl RelayId {
     /// The identifier of these octets, in memory of its own.
-    pub fn from_bytes(alloc: Global, octets: &[u8]) -> Result<InterfaceId, AllocError>
+    pub fn from_bytes(alloc: Global, octets: &[u8]) -> Result<RelayId, AllocError>
         ensures { IfOk result (λ i. i ≡ octets.now) }
     {
         let octets = octets.to_vec(alloc)?;
-        Ok(InterfaceId { octets })
+        Ok(RelayId { octets })
     }
 
     pub fn as_bytes(&self) -> &[u8]

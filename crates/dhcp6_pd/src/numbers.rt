@@ -15,6 +15,9 @@ pub const IA_PD: u16 = 25;
 
 pub const IA_PREFIX: u16 = 26;
 
+/// The option code of a remote identifier (RFC 4649, section 3).
+pub const REMOTE_ID: u16 = 37;
+
 /// Status codes (section 21.13).
 pub const SUCCESS: u16 = 0;
 

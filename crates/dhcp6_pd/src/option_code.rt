@@ -3,15 +3,18 @@
 ghost use Rattle.std.specs.Prelude.{◌≡◌};
 ghost use Rattle.dhcp6_pd.specs.Rows.{code_of};
 
-use crate::numbers::{CLIENT_ID, IA_PD, IA_PREFIX, INTERFACE_ID, RELAY_MESSAGE, SERVER_ID};
+use crate::numbers::{
+    CLIENT_ID, IA_PD, IA_PREFIX, INTERFACE_ID, RELAY_MESSAGE, REMOTE_ID, SERVER_ID,
+};
 
-/// The options that are read (RFC 8415, section 21); all others are skipped.
+/// The options that are read (RFC 8415, section 21, and RFC 4649); all others are skipped.
 #[derive(Clone, Copy, Debug, PartialEq, Eq)]
 pub enum OptionCode {
     ClientId,
     ServerId,
     RelayMessage,
     InterfaceId,
+    RemoteId,
     IaPd,
     IaPrefix,
     Other,
@@ -31,6 +34,8 @@ impl OptionCode {
             OptionCode::RelayMessage
         } else if code == INTERFACE_ID {
             OptionCode::InterfaceId
+        } else if code == REMOTE_ID {
+            OptionCode::RemoteId
         } else if code == IA_PD {
             OptionCode::IaPd
         } else if code == IA_PREFIX {

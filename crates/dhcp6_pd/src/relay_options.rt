@@ -4,13 +4,13 @@ ghost use Rattle.std.specs.Prelude.{◌≡◌, ◌≤◌, Option, Some, None, le
 ghost use Rattle.dhcp6_pd.specs.Rows.{row_of};
 ghost use Rattle.dhcp6_pd.specs.Parsing.{found_in};
 ghost use Rattle.dhcp6_pd.specs.Answers.{Gives};
-ghost use Rattle.dhcp6_pd.specs.Faults.{interface_once, relay_option, no_relay_options, to_message, relay_of};
+ghost use Rattle.dhcp6_pd.specs.Faults.{relay_id_once, relay_option, no_relay_options, to_message, relay_of};
 
 use crate::client_options::see_once;
 use crate::error::{PdError, PdFault};
 use crate::keeping::Keeps;
 use crate::message::Relay;
-use crate::message_lists::InterfaceId;
+use crate::message_lists::{InterfaceId, RelayId, RemoteId};
 use crate::numbers::RELAY_MESSAGE;
 use crate::option_code::OptionCode;
 use crate::options::{Options, RawOption};
@@ -26,20 +26,17 @@ pub struct RelayOptions {
     /// Whether the relay message stands there.
     pub relayed: bool,
     pub interface: Option<InterfaceId>,
+    pub remote: Option<RemoteId>,
 }
 
-/// Keeps the interface identifier, which may stand once.
-fn keep_interface(
-    alloc: Global,
-    slot: &mut Option<InterfaceId>,
-    octets: &[u8],
-) -> Result<(), PdError>
-    ensures { Gives (λ _. slot.new) result (interface_once slot.old octets.now) }
+/// Keeps an identifier that the relay gives, which may stand once.
+fn keep_id(alloc: Global, slot: &mut Option<RelayId>, octets: &[u8]) -> Result<(), PdError>
+    ensures { Gives (λ _. slot.new) result (relay_id_once slot.old octets.now) }
 {
     if slot.is_some() {
         return Err(PdError::Fault(PdFault::DuplicateId));
     }
-    *slot = Some(InterfaceId::from_bytes(alloc, octets)?);
+    *slot = Some(RelayId::from_bytes(alloc, octets)?);
     Ok(())
 }
 
@@ -62,6 +59,7 @@ impl RelayOptions {
             server: false,
             relayed: false,
             interface: None,
+            remote: None,
         }
     }
 
@@ -95,6 +93,7 @@ impl RelayOptions {
             link: address(&octets[2..18]),
             peer: address(&octets[18..34]),
             interface: self.interface,
+            remote: self.remote,
         }
     }
 }
@@ -108,7 +107,8 @@ impl Keeps for RelayOptions {
             OptionCode::ClientId => see_once(&mut self.client)?,
             OptionCode::ServerId => see_once(&mut self.server)?,
             OptionCode::RelayMessage => see_once(&mut self.relayed)?,
-            OptionCode::InterfaceId => keep_interface(alloc, &mut self.interface, option.octets)?,
+            OptionCode::InterfaceId => keep_id(alloc, &mut self.interface, option.octets)?,
+            OptionCode::RemoteId => keep_id(alloc, &mut self.remote, option.octets)?,
             OptionCode::IaPd | OptionCode::IaPrefix | OptionCode::Other => {}
         }
         Ok(())

@@ -6,7 +6,7 @@ use crate::arguments::Arguments;
 use client_id::Duid;
 use dhcp6_pd::{
     ClientKind, ClientMessage, IaReply, IaReplyAnswer, IaReplyList, PdError, PdFault, Relay,
-    ServerKind, ServerMessage, decode, encode,
+    RelayId, ServerKind, ServerMessage, decode, encode,
 };
 use line_words::{add_duid, add_number, add_word};
 use prefix_range::{Prefix, push_prefix};
@@ -66,7 +66,14 @@ fn kind_name(kind: ClientKind) -> &'static [u8] {
     }
 }
 
-/// `relay(HOPS,LINK,PEER,INTERFACE)`: the interface identifier's digits behind an `x`, or `-`.
+/// An identifier that a relay gives: its digits behind an `x`.
+fn push_relay_id(out: &mut Vec<u8>, id: &RelayId) -> Result<(), AllocError> {
+    out.push(b'x')?;
+    push_octets(out, id.as_bytes())
+}
+
+/// `relay(HOPS,LINK,PEER,INTERFACE)`, with `-` for no interface identifier, and `,REMOTE` before the end where there
+/// is a remote identifier.
 fn add_relay(out: &mut Vec<u8>, relay: &Relay) -> Result<(), AllocError> {
     add_word(out, b"relay(")?;
     push_number(out, u64::from(relay.hops))?;
@@ -74,14 +81,17 @@ fn add_relay(out: &mut Vec<u8>, relay: &Relay) -> Result<(), AllocError> {
     push_octets(out, &relay.link)?;
     out.push(b',')?;
     push_octets(out, &relay.peer)?;
+    out.push(b',')?;
     match &relay.interface {
-        None => out.extend_from_slice(b",-)"),
-        Some(interface) => {
-            out.extend_from_slice(b",x")?;
-            push_octets(out, interface.as_bytes())?;
-            out.extend_from_slice(b")")
-        }
+        None => out.push(b'-')?,
+        Some(interface) => push_relay_id(out, interface)?,
     }
+    if let Some(remote) = &relay.remote {
+        out.push(b',')?;
+        push_relay_id(out, remote)?;
+    }
+    out.push(b')')?;
+    Ok(())
 }
 
 fn push_hint(out: &mut Vec<u8>, hint: &Option<Prefix>) -> Result<(), AllocError> {

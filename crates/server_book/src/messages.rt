@@ -6,8 +6,8 @@ ghost use Rattle.server_book.specs.Messages.{kind_of, is_release, answer_of};
 
 use client_id::{Duid, Iaid};
 use dhcp6_pd::{
-    ClientKind, ClientMessage, IaPd, IaReply, IaReplyAnswer, InterfaceId, Relay, RelayList,
-    ServerKind, ServerMessage,
+    ClientKind, ClientMessage, IaPd, IaReply, IaReplyAnswer, Relay, RelayId, RelayList, ServerKind,
+    ServerMessage,
 };
 use lists::Listed;
 use order_book::{Asked, BookError, Order};
@@ -90,15 +90,12 @@ fn replies_of(alloc: Global, ias: &[IaPd], answers: &[IaAnswer]) -> Result<Vec<I
     Ok(replies)
 }
 
-fn copy_of_interface(
-    alloc: Global,
-    interface: &Option<InterfaceId>,
-) -> Result<Option<InterfaceId>, AllocError>
-    ensures { IfOk result (λ i. i ≡ interface.now) }
+fn copy_of_id(alloc: Global, id: &Option<RelayId>) -> Result<Option<RelayId>, AllocError>
+    ensures { IfOk result (λ i. i ≡ id.now) }
 {
-    match interface {
+    match id {
         Some(id) => {
-            let id = InterfaceId::from_bytes(alloc, id.as_bytes())?;
+            let id = RelayId::from_bytes(alloc, id.as_bytes())?;
             Ok(Some(id))
         }
         None => Ok(None),
@@ -108,12 +105,14 @@ fn copy_of_interface(
 fn copy_of_relay(alloc: Global, relay: &Relay) -> Result<Relay, AllocError>
     ensures { IfOk result (λ r. r ≡ relay.now) }
 {
-    let interface = copy_of_interface(alloc, &relay.interface)?;
+    let interface = copy_of_id(alloc, &relay.interface)?;
+    let remote = copy_of_id(alloc, &relay.remote)?;
     Ok(Relay {
         hops: relay.hops,
         link: relay.link,
         peer: relay.peer,
         interface,
+        remote,
     })
 }
 
