@@ -1,6 +1,7 @@
 //! Who may order what.
 
-ghost use Rattle.std.specs.Prelude.{ℕ, List, IfOk};
+ghost use Rattle.std.specs.Prelude.{◌≡◌, ℕ, List, IfOk};
+ghost use Rattle.admission.specs.declared.permit.Unheard.TheVariants.{Memory};
 ghost use Rattle.dhcp6_pd.specs.declared.message.ClientMessage.{ClientMessage as MessageValue};
 ghost use Rattle.journal_lines.specs.declared.line.Journal.{Journal};
 ghost use Rattle.admission.specs.declared.permit.Permit.{Permit as PermitValue};
@@ -8,6 +9,7 @@ ghost use Rattle.admission.specs.declared.permit.Permit.{Permit as PermitValue};
 use dhcp6_pd::ClientMessage;
 use lead_time::Reading;
 use order_book::Book;
+use std::alloc::AllocError;
 use thiserror::Error;
 
 /// Whether an IA_PD may be ordered.
@@ -47,4 +49,12 @@ pub trait Admission {
 
     /// Notes what became of the message that it was asked about last: the book has the lines that its orders added.
     fn note(&mut self, book: &Book, message: &ClientMessage);
+}
+
+impl From<AllocError> for Unheard {
+    ghost from_gives = { λ _ e. e ≡ Memory };
+
+    fn from(_error: AllocError) -> Unheard {
+        Unheard::Memory
+    }
 }

@@ -1,1 +1,4 @@
+pub mod Limiting
+pub mod Origins
 pub mod Quotas
+pub mod Rates

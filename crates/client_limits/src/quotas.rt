@@ -3,7 +3,7 @@
 ghost use Rattle.std.specs.Prelude.{◌≡◌, ◌+◌, IfOk, length, option_map};
 ghost use Rattle.order_book.specs.Replayed.{state_of};
 ghost use Rattle.unit_holders.specs.Holders.{units_of, holder_of};
-ghost use Rattle.client_limits.specs.Quotas.{has_unit, has_under, is_used, count_of, count_used, has_one, is_reached, may_ask, is_other, is_elsewhere, asks_for_more, is_port_full, is_full, is_denied, permit_by, may_take, permits_from};
+ghost use Rattle.client_limits.specs.Quotas.{has_unit, has_under, is_used, count_of, count_used, has_one, is_reached, may_ask, is_other, is_elsewhere, asks_for_more, is_port_full, is_full, is_denied, permit_by, may_take, permits_from, permits_of};
 
 use crate::limits::{Limits, PortRule};
 use admission::Permit;
@@ -208,7 +208,7 @@ fn may_take(known: &Known<'_>, asking: &Asking<'_>, place: usize, more: usize, i
 }
 
 /// Says of each of some IA_PDs, in their order, whether it may be ordered.
-pub(crate) fn permits(
+fn permits(
     alloc: Global,
     known: &Known<'_>,
     asking: &Asking<'_>,
@@ -228,4 +228,38 @@ pub(crate) fn permits(
         permits.extend_from_slice(&[permit])?;
     }
     Ok(permits)
+}
+
+/// Says of each IA_PD of a message, in its order, whether it may be ordered: the message came by the port of this name,
+/// or by no relay.
+pub(crate) fn permits_by(
+    alloc: Global,
+    known: &Known<'_>,
+    port: Option<&[u8]>,
+    message: &ClientMessage,
+) -> Result<Vec<Permit>, AllocError>
+    ensures { IfOk result (λ all. all.items ≡ permits_of known.now.limits.now (state_of known.now.book.now)
+        known.now.clients.now known.now.ports.now (option_map (λ o. o.now) port.entry) message.now) }
+{
+    let asking = Asking {
+        client: &message.client,
+        port,
+        kind: message.kind,
+    };
+    permits(alloc, known, &asking, message.ias.as_slice())
+}
+
+/// Counts the IA_PDs of a message that come from another port than their unit was given by.
+pub(crate) fn strays_in(known: &Known<'_>, port: Option<&[u8]>, message: &ClientMessage) -> u64 {
+    let asking = Asking {
+        client: &message.client,
+        port,
+        kind: message.kind,
+    };
+    message
+        .ias
+        .as_slice()
+        .iter()
+        .filter(|ia| is_stray(known, &asking, ia.iaid))
+        .count() as u64
 }

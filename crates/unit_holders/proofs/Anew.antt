@@ -14,7 +14,7 @@ use Rattle.std.proofs.lemmas.Slice.Eq.{bytes_eq-Decides}
 use Rattle.prefix_range.specs.Prefix.{Prefix}
 use Rattle.unit_holders.specs.Holders.{at_octets, listed, units_in}
 
-abbrev by_items : Vec ℕ Global → Vec ℕ Global → Ordering
+abbrev pub by_items : Vec ℕ Global → Vec ℕ Global → Ordering
 by_items x y = slice_cmp nat_cmp x.items y.items
 
 same_items : (octets : List ℕ) (k : Vec ℕ Global) → is_at (at_octets octets) k ≡ true → octets ≡ k.items

@@ -1,0 +1,299 @@
+//! What a server lets its clients order.
+
+ghost use Rattle.std.specs.Prelude.{◌≡◌, IfOk, option_map};
+ghost use Rattle.client_limits.specs.declared.limiter.Origin.{Origin as OriginValue};
+ghost use Rattle.client_limits.specs.Origins.{port_of, name_by};
+ghost use Rattle.client_limits.specs.Limiting.{MayLet};
+
+use crate::limits::Limits;
+use crate::origin::{name_of, port_named, port_of};
+use crate::quotas::{Known, permits_by, strays_in};
+use crate::rates::Rates;
+use access_records::{AccessRecord, Address, RelayPort};
+use admission::{Admission, Permit, Unheard};
+use binding_rules::{Body, Status, UnitStatus};
+use client_id::Duid;
+use dhcp6_pd::ClientMessage;
+use journal_lines::{Event, Line};
+use lead_time::Reading;
+use order_book::Book;
+use prefix_range::Prefix;
+use std::alloc::{AllocError, Global};
+use std::mem;
+use unit_holders::Holders;
+
+/// The relay port of the message that was asked about last, and the octets that name it.
+#[derive(Drop)]
+struct Origin {
+    port: RelayPort,
+    name: Vec<u8>,
+}
+
+/// How far a book's journal was looked through.
+#[derive(Clone, Copy)]
+struct Seen {
+    volume: u32,
+    lines: usize,
+}
+
+/// What a server lets its clients order, by its limits; and the access records of what it granted them.
+///
+/// It knows a book by the lines that it has looked through: whom each unit was given to, and by which relay port. What
+/// it counts of them is asked of the book.
+#[derive(Drop)]
+pub struct Limiter {
+    alloc: Global,
+    limits: Limits,
+    rates: Rates,
+    /// Whom units were given to.
+    clients: Holders,
+    /// By which relay ports units were given.
+    ports: Holders,
+    seen: Seen,
+    origin: Option<Origin>,
+    source: Option<Address>,
+    records: Vec<AccessRecord>,
+    strays: u64,
+}
+
+/// The client and the unit that an event gives it, if it does.
+fn given_by(event: &Event) -> Option<(Duid, Prefix)> {
+    match event {
+        Event::Grant(lease) => Some((lease.client, lease.prefix)),
+        Event::Unit(kept) => match &kept.status {
+            UnitStatus::Active(binding) => Some((binding.client, kept.prefix)),
+            _ => None,
+        },
+        Event::Take(message) => match &message.body {
+            Body::Update(update) if update.status == Status::Active => {
+                update.client.map(|client| (client, update.prefix))
+            }
+            _ => None,
+        },
+        _ => None,
+    }
+}
+
+impl Limiter {
+    /// Nothing was granted yet.
+    pub fn new(alloc: Global, limits: Limits) -> Limiter
+        ensures { result.limits ≡ limits }
+    {
+        Limiter {
+            alloc,
+            limits,
+            rates: Rates::new(alloc),
+            clients: Holders::new(alloc),
+            ports: Holders::new(alloc),
+            seen: Seen {
+                volume: 0,
+                lines: 0,
+            },
+            origin: None,
+            source: None,
+            records: Vec::new(alloc),
+            strays: 0,
+        }
+    }
+
+    /// Says which address the next message comes from, if that is known.
+    pub fn comes_from(&mut self, source: Option<Address>) {
+        self.source = source;
+    }
+
+    /// Takes the access records of what was granted since the last time: their numbers are those of lines of the open
+    /// volume.
+    pub fn take_records(&mut self) -> Vec<AccessRecord> {
+        mem::replace(&mut self.records, Vec::new(self.alloc))
+    }
+
+    /// Returns how many IA_PDs came from another relay port than their unit was given by.
+    pub fn strays(&self) -> u64 {
+        self.strays
+    }
+
+    /// Notes that a unit was given to a client.
+    fn give(&mut self, client: &Duid, unit: Prefix) -> Result<(), AllocError>
+        ensures limits { self.new.limits ≡ self.old.limits }
+    {
+        if self.clients.holder(unit.first()) == Some(client.as_bytes()) {
+            return Ok(());
+        }
+        self.ports.forget(&unit)?;
+        self.clients.give(unit, client.as_bytes())
+    }
+
+    /// Notes that a unit was given by the port of the message that was asked about last.
+    fn give_by_port(&mut self, unit: Prefix) -> Result<(), AllocError> {
+        match &self.origin {
+            Some(origin) => self.ports.give(unit, &origin.name),
+            None => self.ports.forget(&unit),
+        }
+    }
+
+    /// Keeps a record.
+    fn keep(
+        &mut self,
+        number: u32,
+        port: Option<RelayPort>,
+        source: Option<Address>,
+    ) -> Result<(), AllocError>
+        ensures limits { self.new.limits ≡ self.old.limits }
+    {
+        self.records.push(AccessRecord {
+            number,
+            port,
+            source,
+        })?;
+        Ok(())
+    }
+
+    /// Notes a line that no message's orders added. Of a unit that a volume began with, and whose port is known, a record
+    /// is kept.
+    fn enter(&mut self, line: &Line) -> Result<(), AllocError>
+        ensures limits { self.new.limits ≡ self.old.limits }
+    {
+        let Some((client, unit)) = given_by(&line.event) else {
+            return Ok(());
+        };
+        self.give(&client, unit)?;
+        if !matches!(line.event, Event::Unit(_)) {
+            return Ok(());
+        }
+        let port = match self.ports.holder(unit.first()) {
+            Some(name) => port_named(self.alloc, name),
+            None => None,
+        };
+        match port {
+            Some(port) => self.keep(line.number, Some(port), None),
+            None => Ok(()),
+        }
+    }
+
+    /// Looks through the lines of a book that it hasn't seen yet, which no message's orders added.
+    pub fn look_through(&mut self, book: &Book) -> Result<(), AllocError>
+        ensures limits { self.new.limits ≡ self.old.limits }
+    {
+        let volume = book.head().volume();
+        if self.seen.volume != volume {
+            self.seen = Seen { volume, lines: 0 };
+        }
+        let lines = book.journal();
+        for index in self.seen.lines..lines.len() {
+            self.enter(&lines[index])?;
+        }
+        self.seen.lines = lines.len();
+        Ok(())
+    }
+
+    /// Notes a line that the orders of the message added which was asked about last: of a grant a record is kept.
+    fn enter_grant(&mut self, line: &Line) -> Result<(), AllocError> {
+        let Event::Grant(lease) = &line.event else {
+            return Ok(());
+        };
+        self.give(&lease.client, lease.prefix)?;
+        self.give_by_port(lease.prefix)?;
+        let port = match &self.origin {
+            Some(origin) => Some(origin.port.clone()?),
+            None => None,
+        };
+        self.keep(line.number, port, self.source)
+    }
+
+    /// Notes the lines that the orders of a message added.
+    fn enter_grants(&mut self, book: &Book) -> Result<(), AllocError> {
+        let lines = book.journal();
+        for index in self.seen.lines..lines.len() {
+            self.enter_grant(&lines[index])?;
+        }
+        self.seen.lines = lines.len();
+        Ok(())
+    }
+
+    /// Notes by which port the unit of a record's line was given.
+    fn enter_record(&mut self, book: &Book, record: AccessRecord) -> Result<(), AllocError> {
+        let Some(index) = record.number.checked_sub(1) else {
+            return Ok(());
+        };
+        let (Some(line), Some(port)) = (book.journal().get(index as usize), record.port) else {
+            return Ok(());
+        };
+        match given_by(&line.event) {
+            Some((_, unit)) => self.ports.give(unit, &name_of(self.alloc, port)?),
+            None => Ok(()),
+        }
+    }
+
+    /// Looks through the book of a start, and notes what the access records of its volume say.
+    pub fn restore(&mut self, book: &Book, records: Vec<AccessRecord>) -> Result<(), AllocError> {
+        self.look_through(book)?;
+        for record in records {
+            self.enter_record(book, record)?;
+        }
+        Ok(())
+    }
+
+    /// Returns whether a message of a client, behind the port of its origin, is heard now.
+    fn hears(&mut self, now: Reading, client: &Duid) -> Result<bool, AllocError>
+        ensures limits { self.new.limits ≡ self.old.limits }
+        ensures origin { self.new.origin ≡ self.old.origin }
+    {
+        if self.limits.client_rate == 0 {
+            return Ok(true);
+        }
+        let mut name = Vec::new(self.alloc);
+        name.push(client.as_bytes().len() as u8)?;
+        name.extend_from_slice(client.as_bytes())?;
+        if let Some(origin) = &self.origin {
+            name.extend_from_slice(&origin.name)?;
+        }
+        self.rates.hears(self.limits.client_rate, now, &name)
+    }
+
+    /// The origin of a message.
+    fn origin_of(&self, message: &ClientMessage) -> Result<Option<Origin>, AllocError>
+        ensures { IfOk result (λ o. option_map (λ (x : OriginValue). x.name.items) o ≡ name_by (port_of message.now.relays)) }
+    {
+        let Some(port) = port_of(self.alloc, message)? else {
+            return Ok(None);
+        };
+        let name = name_of(self.alloc, port.clone()?)?;
+        Ok(Some(Origin { port, name }))
+    }
+}
+
+impl Admission for Limiter {
+    ghost lets = { MayLet };
+
+    fn permits(
+        &mut self,
+        book: &Book,
+        now: Reading,
+        message: &ClientMessage,
+    ) -> Result<Vec<Permit>, Unheard> {
+        self.look_through(book)?;
+        self.origin = self.origin_of(message)?;
+        if !self.hears(now, &message.client)? {
+            return Err(Unheard::TooMany);
+        }
+        let port = match &self.origin {
+            Some(origin) => Some(origin.name.as_slice()),
+            None => None,
+        };
+        let known = Known {
+            limits: &self.limits,
+            book,
+            clients: &self.clients,
+            ports: &self.ports,
+        };
+        let strays = strays_in(&known, port, message);
+        let permits = permits_by(self.alloc, &known, port, message)?;
+        self.strays = self.strays.saturating_add(strays);
+        Ok(permits)
+    }
+
+    fn note(&mut self, book: &Book, _message: &ClientMessage) {
+        // for want of memory a unit goes uncounted, and its grant has no record
+        let _ = self.enter_grants(book);
+    }
+}
