@@ -25,7 +25,17 @@ pub fn add_answered(
     let Ok(message) = decode(alloc, &octets, &own) else {
         return Ok(add_word(out, b"none")?);
     };
-    match answer_to(alloc, &Alone, book, &own, Partner::Up, now, &message, ()) {
+    match answer_to(
+        alloc,
+        &Alone,
+        book,
+        &own,
+        Partner::Up,
+        &[],
+        now,
+        &message,
+        (),
+    ) {
         Ok(answer) => Ok(add_octets(out, &answer)?),
         Err(_) => Err(Fault::Words),
     }
@@ -79,7 +89,7 @@ pub fn add_told(
     let Ok(message) = decode(alloc, &octets, &own) else {
         return Ok(add_word(out, b"none")?);
     };
-    match answer_to(alloc, &Alone, book, &own, partner, now, &message, ()) {
+    match answer_to(alloc, &Alone, book, &own, partner, &[], now, &message, ()) {
         Ok(answer) => Ok(add_numbered(out, &answer)?),
         Err(why) => Ok(add_word(out, reason(why)?)?),
     }

@@ -1,6 +1,9 @@
 -- A SOLICIT writes no line, takeovers apart.
-use Rattle.std.specs.Prelude.{◌≡◌, ℕ, List, [], ◌∷◌, ◌++◌, take, Option, Some, None, Result, Ok, Err, if◌then◌else◌}
+use Rattle.std.specs.Prelude.{◌≡◌, ℕ, List, [], ◌∷◌, ◌++◌, take, drop, Option, Some, None, Result, Ok, Err}
+use Rattle.std.specs.Prelude.{if◌then◌else◌}
 use Rattle.std.proofs.Common.{ap, subst, ◌∙◌, append-nil, inl, inr}
+use Rattle.admission.specs.declared.permit.Permit.{Permit}
+use Rattle.admission.specs.declared.permit.Permit.TheVariants.{Ordered, Denied}
 use Rattle.dhcp6_pd.specs.declared.message.ClientKind.TheVariants.{Solicit}
 use Rattle.dhcp6_pd.specs.declared.message.ClientMessage.{ClientMessage}
 use Rattle.dhcp6_pd.specs.declared.message.IaPd.{IaPd}
@@ -15,8 +18,8 @@ use Rattle.client_service.specs.declared.partner.Partner.TheVariants.{Up, Down}
 use Rattle.client_service.specs.declared.silence.Silence.{Silence}
 use Rattle.client_service.specs.declared.silence.Silence.TheVariants.{NothingAsked, Refused, TooLong, Memory}
 use Rattle.client_service.specs.Lines.{is_takeover, number_of, or_earlier, last_number}
-use Rattle.client_service.specs.Telling.{IsOfferedAs, EndsAtOnce, Ends, IsSeizeServed}
-use Rattle.client_service.specs.Answering.{order_for, AreTold, IsSilent}
+use Rattle.client_service.specs.Telling.{IsOfferedAs, EndsAtOnce, Ends, EndsBy, IsSeizeServed}
+use Rattle.client_service.specs.Answering.{order_for, permit_at, AreTold, IsSilent}
 use Rattle.client_service.specs.Ending.{AreAllTold, IsCutShort}
 use Rattle.client_service.proofs.Orders.{last_number-append}
 
@@ -59,63 +62,78 @@ module _ (MayHave : List Receipt → Journal → Type 0) (now : ℕ) where
     of_solicit partner had ia added result h =
         subst (λ kind. Ends MayHave partner kind now had (order_for m ia) added result) solicit h
 
-    advertises : (partner : Partner) (had : List Receipt) (ias : List IaPd) (answers : List IaAnswer)
-        (added : List Receipt)
-        → AreTold MayHave partner m now had ias answers added → last_number added ≡ None
-    advertises partner had [] [] added h = ap (λ rs. last_number rs) h
-    advertises partner had [] (a ∷ answers) added h = absurd h
-    advertises partner had (ia ∷ ias) [] added h = absurd h
-    advertises partner had (ia ∷ ias) (a ∷ answers) added h =
-        let own = numbers_nothing partner had (order_for m ia) h.0 (Ok a) (of_solicit partner had ia h.0 (Ok a) h.3) in
-        let rest = advertises partner (had ++ h.0) ias answers h.1 h.4 in
+    advertises_by : (permit : Permit) (partner : Partner) (had : List Receipt) (ia : IaPd) (added : List Receipt)
+        (result : Result IaAnswer ServeError)
+        → EndsBy MayHave permit partner m.kind now had (order_for m ia) added result → last_number added ≡ None
+    advertises_by Ordered partner had ia added result h =
+        numbers_nothing partner had (order_for m ia) added result (of_solicit partner had ia added result h)
+    advertises_by Denied partner had ia added result h = ap (λ rs. last_number rs) h.0
+
+    advertises : (permits : List Permit) (partner : Partner) (had : List Receipt) (ias : List IaPd)
+        (answers : List IaAnswer) (added : List Receipt)
+        → AreTold MayHave partner m permits now had ias answers added → last_number added ≡ None
+    advertises permits partner had [] [] added h = ap (λ rs. last_number rs) h
+    advertises permits partner had [] (a ∷ answers) added h = absurd h
+    advertises permits partner had (ia ∷ ias) [] added h = absurd h
+    advertises permits partner had (ia ∷ ias) (a ∷ answers) added h =
+        let own = advertises_by (permit_at permits 0) partner had ia h.0 (Ok a) h.3 in
+        let rest = advertises (drop 1 permits) partner (had ++ h.0) ias answers h.1 h.4 in
         ap (λ rs. last_number rs) h.2 ∙ (last_number-append h.0 h.1
         ∙ (ap (λ o. or_earlier o (last_number h.0)) rest ∙ own))
 
     -- of a partner that is up nothing is taken over
-    adds_nothing : (had : List Receipt) (ias : List IaPd) (answers : List IaAnswer) (added : List Receipt)
-        → AreTold MayHave Up m now had ias answers added → added ≡ []
-    adds_nothing had [] [] added h = h
-    adds_nothing had [] (a ∷ answers) added h = absurd h
-    adds_nothing had (ia ∷ ias) [] added h = absurd h
-    adds_nothing had (ia ∷ ias) (a ∷ answers) added h =
-        let own = at_once_nothing had (order_for m ia) h.0 (Ok a) (of_solicit Up had ia h.0 (Ok a) h.3) in
-        h.2 ∙ (ap (λ rs. rs ++ h.1) own ∙ adds_nothing (had ++ h.0) ias answers h.1 h.4)
+    adds_none_by : (permit : Permit) (had : List Receipt) (ia : IaPd) (added : List Receipt)
+        (result : Result IaAnswer ServeError)
+        → EndsBy MayHave permit Up m.kind now had (order_for m ia) added result → added ≡ []
+    adds_none_by Ordered had ia added result h =
+        at_once_nothing had (order_for m ia) added result (of_solicit Up had ia added result h)
+    adds_none_by Denied had ia added result h = h.0
 
-    refused_nothing : (had has : List Receipt) (e : ServeError) → IsSilent MayHave Up [] m now had has (Refused e)
-        → has ≡ had
-    refused_nothing had has e h =
+    adds_nothing : (permits : List Permit) (had : List Receipt) (ias : List IaPd) (answers : List IaAnswer)
+        (added : List Receipt) → AreTold MayHave Up m permits now had ias answers added → added ≡ []
+    adds_nothing permits had [] [] added h = h
+    adds_nothing permits had [] (a ∷ answers) added h = absurd h
+    adds_nothing permits had (ia ∷ ias) [] added h = absurd h
+    adds_nothing permits had (ia ∷ ias) (a ∷ answers) added h =
+        let own = adds_none_by (permit_at permits 0) had ia h.0 (Ok a) h.3 in
+        h.2 ∙ (ap (λ rs. rs ++ h.1) own ∙ adds_nothing (drop 1 permits) (had ++ h.0) ias answers h.1 h.4)
+
+    refused_nothing : (permits : List Permit) (had has : List Receipt) (e : ServeError)
+        → IsSilent MayHave Up [] m permits now had has (Refused e) → has ≡ had
+    refused_nothing permits had has e h =
         let t = h.2 in
-        let before = adds_nothing had (take t.0 m.ias) t.2 t.3 t.7 in
-        let last = at_once_nothing (had ++ t.3) (order_for m t.1) t.4 (Err e)
-        (of_solicit Up (had ++ t.3) t.1 t.4 (Err e) t.8) in
+        let before = adds_nothing permits had (take t.0 m.ias) t.2 t.3 t.7 in
+        let last = adds_none_by (permit_at permits t.0) (had ++ t.3) t.1 t.4 (Err e) t.8 in
         let none = t.6 ∙ (ap (λ rs. rs ++ t.4) before ∙ last) in
         h.1 ∙ (ap (λ rs. had ++ rs) none ∙ append-nil had)
 
-    cut_nothing : (had has : List Receipt) → IsSilent MayHave Up [] m now had has Memory → has ≡ had
-    cut_nothing had has h =
-        h.1 ∙ (ap (λ rs. had ++ rs) (adds_nothing had (take h.2.0 m.ias) h.2.1 h.0 h.2.2) ∙ append-nil had)
+    cut_nothing : (permits : List Permit) (had has : List Receipt) → IsSilent MayHave Up [] m permits now had has Memory
+        → has ≡ had
+    cut_nothing permits had has h =
+        h.1 ∙ (ap (λ rs. had ++ rs) (adds_nothing permits had (take h.2.0 m.ias) h.2.1 h.0 h.2.2) ∙ append-nil had)
 
 -- what is told of a SOLICIT is told of no line
-pub tells_of_none : (MayHave : List Receipt → Journal → Type 0) (partner : Partner) (m : ClientMessage) (now : ℕ)
-    (had has : List Receipt) (answers : List IaAnswer) (line : Option ℕ)
-    → AreAllTold MayHave partner m now had has answers line → m.kind ≡ Solicit → line ≡ None
-tells_of_none MayHave partner m now had has answers line h solicit =
-    h.1.3 ∙ advertises MayHave now m solicit partner had m.ias answers h.1.0 h.1.2
+pub tells_of_none : (MayHave : List Receipt → Journal → Type 0) (partner : Partner) (m : ClientMessage)
+    (permits : List Permit) (now : ℕ) (had has : List Receipt) (answers : List IaAnswer) (line : Option ℕ)
+    → AreAllTold MayHave partner m permits now had has answers line → m.kind ≡ Solicit → line ≡ None
+tells_of_none MayHave partner m permits now had has answers line h solicit =
+    h.1.3 ∙ advertises MayHave now m solicit permits partner had m.ias answers h.1.0 h.1.2
 
 -- and while the partner is up nothing is written
-pub told_writes_none : (MayHave : List Receipt → Journal → Type 0) (partner : Partner) (m : ClientMessage) (now : ℕ)
-    (had has : List Receipt) (answers : List IaAnswer) (line : Option ℕ)
-    → AreAllTold MayHave partner m now had has answers line → m.kind ≡ Solicit → partner ≡ Up → has ≡ had
-told_writes_none MayHave Up m now had has answers line h solicit up =
-    h.1.1 ∙ (ap (λ rs. had ++ rs) (adds_nothing MayHave now m solicit had m.ias answers h.1.0 h.1.2) ∙ append-nil had)
-told_writes_none MayHave Down m now had has answers line h solicit up = absurd cc
+pub told_writes_none : (MayHave : List Receipt → Journal → Type 0) (partner : Partner) (m : ClientMessage)
+    (permits : List Permit) (now : ℕ) (had has : List Receipt) (answers : List IaAnswer) (line : Option ℕ)
+    → AreAllTold MayHave partner m permits now had has answers line → m.kind ≡ Solicit → partner ≡ Up → has ≡ had
+told_writes_none MayHave Up m permits now had has answers line h solicit up =
+    h.1.1 ∙ (ap (λ rs. had ++ rs) (adds_nothing MayHave now m solicit permits had m.ias answers h.1.0 h.1.2)
+    ∙ append-nil had)
+told_writes_none MayHave Down m permits now had has answers line h solicit up = absurd cc
 
-pub cut_writes_none : (MayHave : List Receipt → Journal → Type 0) (partner : Partner) (m : ClientMessage) (now : ℕ)
-    (had has : List Receipt) (why : Silence)
-    → IsCutShort MayHave partner m now had has why → m.kind ≡ Solicit → partner ≡ Up → has ≡ had
-cut_writes_none MayHave Up m now had has (Refused e) h solicit up =
-    refused_nothing MayHave now m solicit had has e h
-cut_writes_none MayHave Up m now had has Memory h solicit up = cut_nothing MayHave now m solicit had has h
-cut_writes_none MayHave Up m now had has NothingAsked h solicit up = absurd h
-cut_writes_none MayHave Up m now had has TooLong h solicit up = absurd h
-cut_writes_none MayHave Down m now had has why h solicit up = absurd cc
+pub cut_writes_none : (MayHave : List Receipt → Journal → Type 0) (partner : Partner) (m : ClientMessage)
+    (permits : List Permit) (now : ℕ) (had has : List Receipt) (why : Silence)
+    → IsCutShort MayHave partner m permits now had has why → m.kind ≡ Solicit → partner ≡ Up → has ≡ had
+cut_writes_none MayHave Up m permits now had has (Refused e) h solicit up =
+    refused_nothing MayHave now m solicit permits had has e h
+cut_writes_none MayHave Up m permits now had has Memory h solicit up = cut_nothing MayHave now m solicit permits had has h
+cut_writes_none MayHave Up m permits now had has NothingAsked h solicit up = absurd h
+cut_writes_none MayHave Up m permits now had has TooLong h solicit up = absurd h
+cut_writes_none MayHave Down m permits now had has why h solicit up = absurd cc

@@ -2,6 +2,7 @@
 use Rattle.std.specs.Prelude.{◌≡◌, ℕ, true, false, List, [], ◌∷◌, ◌++◌, Option, Some, None, Result, Ok, Err}
 use Rattle.std.specs.Prelude.{if◌then◌else◌}
 use Rattle.std.proofs.Common.{refl, ap, sym, subst, ◌∙◌, append_assoc, append-nil, inl, inr}
+use Rattle.admission.specs.declared.permit.Permit.TheVariants.{Ordered}
 use Rattle.dhcp6_pd.specs.declared.message.ClientKind.{ClientKind}
 use Rattle.dhcp6_pd.specs.declared.message.ClientKind.TheVariants.{Solicit, Request as RequestKind, Renew as RenewKind}
 use Rattle.dhcp6_pd.specs.declared.message.ClientKind.TheVariants.{Rebind, Release as ReleaseKind}
@@ -126,7 +127,7 @@ module _ (MayHave : List Receipt → Journal → Type 0) (kind : ClientKind) (no
   numbered r rest (Err e) h number = tt
 
   pub once_more : (behind : List Receipt) (result : Result Told ServeError) → Seizes MayHave now mid behind (Ok true)
-      → EndsIn MayHave kind now order behind has result → EndsAs MayHave Down kind now order had has result
+      → EndsIn MayHave kind now order behind has result → EndsAs MayHave Ordered Down kind now order had has result
   once_more behind result seized again =
       let r = seized.0 in
       let taken : IsSeizeServed MayHave now had (Ok r) =
@@ -147,7 +148,7 @@ module _ (MayHave : List Receipt → Journal → Type 0) (kind : ClientKind) (no
         numbered r again.0 result taken again.3,
       )
 
-  pub stays : Seizes MayHave now mid has (Ok false) → EndsAs MayHave Down kind now order had has (Ok told)
+  pub stays : Seizes MayHave now mid has (Ok false) → EndsAs MayHave Ordered Down kind now order had has (Ok told)
   stays kept = (
     [],
     none_added had has (kept.0 ∙ unchanged),
@@ -159,7 +160,7 @@ module _ (MayHave : List Receipt → Journal → Type 0) (kind : ClientKind) (no
   )
 
   pub ends_strange : (e : ServeError) → Seizes MayHave now mid has (Err e)
-      → EndsAs MayHave Down kind now order had has (Err e)
+      → EndsAs MayHave Ordered Down kind now order had has (Err e)
   ends_strange e strange = (
     [],
     none_added had has (strange.0 ∙ unchanged),

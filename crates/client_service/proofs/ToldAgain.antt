@@ -1,7 +1,8 @@
 -- What is told without a line.
-use Rattle.std.specs.Prelude.{◌≡◌, ℕ, ◌+◌, List, [], ◌∷◌, ◌++◌, take, slice_get, Option, Some, None, IfSome}
-use Rattle.std.specs.Prelude.{Ok, Err}
+use Rattle.std.specs.Prelude.{◌≡◌, ℕ, ◌+◌, List, [], ◌∷◌, ◌++◌, length, take, drop, slice_get, Option, Some, None}
+use Rattle.std.specs.Prelude.{IfSome, Ok, Err}
 use Rattle.std.proofs.Common.{refl, ap, sym, subst, ◌∙◌, add-one}
+use Rattle.admission.specs.declared.permit.Permit.{Permit}
 use Rattle.dhcp6_pd.specs.declared.message.ClientMessage.{ClientMessage}
 use Rattle.dhcp6_pd.specs.declared.message.IaPd.{IaPd}
 use Rattle.journal_lines.specs.declared.line.Journal.{Journal}
@@ -21,10 +22,10 @@ use Rattle.standing_lease.specs.declared.terms.RenewTerms.{RenewTerms}
 use Rattle.standing_lease.specs.Standing.{IsStanding}
 use Rattle.client_service.specs.declared.told.Told.{Told}
 use Rattle.client_service.specs.Serving.{IsRecalled}
-use Rattle.client_service.specs.Answering.{order_for}
-use Rattle.client_service.specs.Again.{later, latest_with, IsAgain, AreAgain}
+use Rattle.client_service.specs.Answering.{order_for, permit_at}
+use Rattle.client_service.specs.Again.{later, latest_with, IsAgain, IsAgainBy, AreAgain}
 use Rattle.client_service.specs.Ending.{IsDenial, IsAgainAt, AreFirstAgain}
-use Rattle.client_service.proofs.Messages.{take_next}
+use Rattle.client_service.proofs.Messages.{take_next, take_count, permit_next}
 
 module _ (MayHave : List Receipt → Journal → Type 0) (t : RenewTerms) (now : ℕ) (had : List Receipt) (order : Order)
   where
@@ -67,34 +68,48 @@ latest_more number (x ∷ ns) n = latest_more (later number x) ns n
 
 module _ (MayHave : List Receipt → Journal → Type 0) (t : RenewTerms) (m : ClientMessage) (now : ℕ)
     (had : List Receipt) where
-  again_more : (ias : List IaPd) (answers : List IaAnswer) (numbers : List (Option ℕ)) (ia : IaPd) (answer : IaAnswer)
-      (number : Option ℕ) → AreAgain MayHave t m now had ias answers numbers
-      → IsAgain MayHave t now had (order_for m ia) answer number
-      → AreAgain MayHave t m now had (ias ++ ia ∷ []) (answers ++ answer ∷ []) (numbers ++ number ∷ [])
-  again_more [] [] [] ia answer number h one = (one, tt)
-  again_more [] [] (n ∷ ns) ia answer number h one = absurd h
-  again_more [] (a ∷ answers) ns ia answer number h one = absurd h
-  again_more (x ∷ ias) [] ns ia answer number h one = absurd h
-  again_more (x ∷ ias) (a ∷ answers) [] ia answer number h one = absurd h
-  again_more (x ∷ ias) (a ∷ answers) (n ∷ ns) ia answer number h one =
-      (h.0, again_more ias answers ns ia answer number h.1 one)
+  again_more : (permits : List Permit) (ias : List IaPd) (answers : List IaAnswer) (numbers : List (Option ℕ)) (ia : IaPd)
+      (answer : IaAnswer) (number : Option ℕ) → AreAgain MayHave t m permits now had ias answers numbers
+      → IsAgainBy MayHave (permit_at permits (length ias)) t now had (order_for m ia) answer number
+      → AreAgain MayHave t m permits now had (ias ++ ia ∷ []) (answers ++ answer ∷ []) (numbers ++ number ∷ [])
+  again_more permits [] [] [] ia answer number h one = (one, tt)
+  again_more permits [] [] (n ∷ ns) ia answer number h one = absurd h
+  again_more permits [] (a ∷ answers) ns ia answer number h one = absurd h
+  again_more permits (x ∷ ias) [] ns ia answer number h one = absurd h
+  again_more permits (x ∷ ias) (a ∷ answers) [] ia answer number h one = absurd h
+  again_more permits (x ∷ ias) (a ∷ answers) (n ∷ ns) ia answer number h one = (
+    h.0,
+    again_more (drop 1 permits) ias answers ns ia answer number h.1
+        (subst (λ l. IsAgainBy MayHave l t now had (order_for m ia) answer number)
+        (permit_next permits (length ias)) one),
+  )
 
-  pub again_there : (place : ℕ) (ia : IaPd) → slice_get m.ias place ≡ Some ia → (found : Option Told)
-      → IfSome found (λ x. IsAgain MayHave t now had (order_for m ia) x.answer x.line)
-      → IfSome found (λ x. IsAgainAt MayHave t m now place had x.answer x.line)
-  again_there place ia at None h = tt
-  again_there place ia at (Some x) h = (ia, at, h)
+  module _ (permits : List Permit) where
+    pub again_there : (place : ℕ) (permit : Permit) (order : Order) → permit ≡ permit_at permits place
+        → (ia : IaPd) × (slice_get m.ias place ≡ Some ia) × (order ≡ order_for m ia) → (found : Option Told)
+        → IfSome found (λ x. IsAgainBy MayHave permit t now had order x.answer x.line)
+        → IfSome found (λ x. IsAgainAt MayHave t m permits now place had x.answer x.line)
+    again_there place permit order by at None h = tt
+    again_there place permit order by at (Some x) h = (
+      at.0,
+      at.1,
+      subst (λ (y : Permit × Order). IsAgainBy MayHave y.0 t now had y.1 x.answer x.line)
+          (λ i. (by i, at.2 i)) h,
+    )
 
-  pub first_again : (count : ℕ) (answers : List IaAnswer) (line : Option ℕ) (answer : IaAnswer) (number : Option ℕ)
-      (pushed : List IaAnswer) (last : Option ℕ) → AreFirstAgain MayHave t m now count had answers line
-      → IsAgainAt MayHave t m now count had answer number → pushed ≡ answers ++ answer ∷ []
-      → last ≡ later line number → AreFirstAgain MayHave t m now (count + 1) had pushed last
-  first_again count answers line answer number pushed last first at more greatest =
-      let ias : take (count + 1) m.ias ≡ take count m.ias ++ at.0 ∷ [] =
-      rw add-one (take_next m.ias count at.0 at.1) in
-      let all = again_more (take count m.ias) answers first.0 at.0 answer number first.1 at.2 in (
-        first.0 ++ number ∷ [],
-        subst (λ (x : List IaPd × List IaAnswer). AreAgain MayHave t m now had x.0 x.1 (first.0 ++ number ∷ []))
-            (λ i. (sym ias i, sym more i)) all,
-        greatest ∙ (ap (λ n. later n number) first.2 ∙ sym (latest_more None first.0 number)),
-      )
+    pub first_again : (count : ℕ) (answers : List IaAnswer) (line : Option ℕ) (answer : IaAnswer) (number : Option ℕ)
+        (pushed : List IaAnswer) (last : Option ℕ) → AreFirstAgain MayHave t m permits now count had answers line
+        → IsAgainAt MayHave t m permits now count had answer number → pushed ≡ answers ++ answer ∷ []
+        → last ≡ later line number → AreFirstAgain MayHave t m permits now (count + 1) had pushed last
+    first_again count answers line answer number pushed last first at more greatest =
+        let ias : take (count + 1) m.ias ≡ take count m.ias ++ at.0 ∷ [] =
+        rw add-one (take_next m.ias count at.0 at.1) in
+        let one = subst (λ n. IsAgainBy MayHave (permit_at permits n) t now had (order_for m at.0) answer number)
+        (sym (take_count m.ias count at.0 at.1)) at.2 in
+        let all = again_more permits (take count m.ias) answers first.0 at.0 answer number first.1 one in (
+          first.0 ++ number ∷ [],
+          subst (λ (x : List IaPd × List IaAnswer). AreAgain MayHave t m permits now had x.0 x.1
+              (first.0 ++ number ∷ []))
+              (λ i. (sym ias i, sym more i)) all,
+          greatest ∙ (ap (λ n. later n number) first.2 ∙ sym (latest_more None first.0 number)),
+        )

@@ -1,5 +1,7 @@
 -- What a client is told of its whole message without a line: what it has already, for the seconds that remain of it.
-use Rattle.std.specs.Prelude.{◌≡◌, ◌≢◌, ℕ, ⊤, max, List, [], ◌∷◌, Option, Some, None}
+use Rattle.std.specs.Prelude.{◌≡◌, ◌≢◌, ℕ, ⊤, max, List, [], ◌∷◌, drop, Option, Some, None}
+use Rattle.admission.specs.declared.permit.Permit.{Permit}
+use Rattle.admission.specs.declared.permit.Permit.TheVariants.{Ordered, Denied}
 use Rattle.dhcp6_pd.specs.declared.message.ClientKind.TheVariants.{Solicit}
 use Rattle.dhcp6_pd.specs.declared.message.ClientMessage.{ClientMessage}
 use Rattle.dhcp6_pd.specs.declared.message.IaPd.{IaPd}
@@ -15,7 +17,7 @@ use Rattle.standing_lease.specs.declared.terms.RenewTerms.{RenewTerms}
 use Rattle.standing_lease.specs.Standing.{IsStanding}
 use Rattle.client_service.specs.Serving.{AtBook}
 use Rattle.client_service.specs.Telling.{ByRefusal}
-use Rattle.client_service.specs.Answering.{order_for}
+use Rattle.client_service.specs.Answering.{order_for, permit_at}
 
 -- ---- numbers of lines
 
@@ -44,21 +46,28 @@ IsAgain MayHave t now had order NoPrefix None = ByRefusal MayHave now had order 
 IsAgain MayHave t now had order NoBinding None = ByRefusal MayHave now had order [] NoSuchBinding
 IsAgain MayHave t now had order _ _ = ⊥
 
--- each IA_PD in its order
-abbrev pub AreAgain : (List Receipt → Journal → Type 0) → RenewTerms → ClientMessage → ℕ → List Receipt → List IaPd
-    → List IaAnswer → List (Option ℕ) → Type 0
-AreAgain MayHave t m now had [] [] [] = ⊤
-AreAgain MayHave t m now had (ia ∷ ias) (answer ∷ answers) (number ∷ numbers) =
-    IsAgain MayHave t now had (order_for m ia) answer number × AreAgain MayHave t m now had ias answers numbers
-AreAgain MayHave t m now had _ _ _ = ⊥
+-- and of one that may not be ordered: NoPrefix, whatever its client has
+abbrev pub IsAgainBy : (List Receipt → Journal → Type 0) → Permit → RenewTerms → ℕ → List Receipt → Order → IaAnswer
+    → Option ℕ → Type 0
+IsAgainBy MayHave Ordered t now had order answer number = IsAgain MayHave t now had order answer number
+IsAgainBy MayHave Denied t now had order answer number = (answer ≡ NoPrefix) × (number ≡ None)
 
--- The octets are those of the server's answer to the message, which isn't a SOLICIT: it tells each IA_PD what its client
--- has already, or its refusal. No line is written, and the number is that of the last line that it tells of.
+-- each IA_PD in its order, by its permit
+abbrev pub AreAgain : (List Receipt → Journal → Type 0) → RenewTerms → ClientMessage → List Permit → ℕ → List Receipt
+    → List IaPd → List IaAnswer → List (Option ℕ) → Type 0
+AreAgain MayHave t m permits now had [] [] [] = ⊤
+AreAgain MayHave t m permits now had (ia ∷ ias) (answer ∷ answers) (number ∷ numbers) =
+    IsAgainBy MayHave (permit_at permits 0) t now had (order_for m ia) answer number
+    × AreAgain MayHave t m (drop 1 permits) now had ias answers numbers
+AreAgain MayHave t m permits now had _ _ _ = ⊥
+
+-- The octets are those of the server's answer to the message, which isn't a SOLICIT: it tells each IA_PD what its
+-- client has already, or its refusal. No line is written, and the number is that of the last line that it tells of.
 pub record IsToldAgain (MayHave : List Receipt → Journal → Type 0) (t : RenewTerms) (own : List ℕ) (m : ClientMessage)
-    (now : ℕ) (had : List Receipt) (octets : List ℕ) (line : Option ℕ) : Type 0 where
+    (permits : List Permit) (now : ℕ) (had : List Receipt) (octets : List ℕ) (line : Option ℕ) : Type 0 where
   pub answers : List IaAnswer
   pub numbers : List (Option ℕ)
   pub asks : m.kind ≢ Solicit
-  pub told : AreAgain MayHave t m now had m.ias answers numbers
+  pub told : AreAgain MayHave t m permits now had m.ias answers numbers
   pub spelled : octets ≡ message_octets (answer_of m own answers)
   pub last : line ≡ latest numbers

@@ -1,5 +1,8 @@
 -- What a client is told of its whole message, or why it is told nothing.
-use Rattle.std.specs.Prelude.{◌≡◌, ℕ, ◌<◌, List, [], ◌∷◌, ◌++◌, length, take, slice_get, Option, Some, Ok, Err}
+use Rattle.std.specs.Prelude.{◌≡◌, ℕ, ◌<◌, List, [], ◌∷◌, ◌++◌, length, take, drop, slice_get, Option, Some, None}
+use Rattle.std.specs.Prelude.{Ok, Err}
+use Rattle.admission.specs.declared.permit.Permit.{Permit}
+use Rattle.admission.specs.declared.permit.Permit.TheVariants.{Ordered}
 use Rattle.dhcp6_pd.specs.declared.message.ClientMessage.{ClientMessage}
 use Rattle.dhcp6_pd.specs.declared.message.IaPd.{IaPd}
 use Rattle.dhcp6_pd.specs.declared.numbers.TheConstants.{MAX_OCTETS}
@@ -13,55 +16,63 @@ use Rattle.client_service.specs.declared.partner.Partner.{Partner}
 use Rattle.client_service.specs.declared.silence.Silence.{Silence}
 use Rattle.client_service.specs.declared.silence.Silence.TheVariants.{NothingAsked, Refused, TooLong, Memory}
 use Rattle.client_service.specs.Lines.{last_number}
-use Rattle.client_service.specs.Telling.{Ends}
+use Rattle.client_service.specs.Telling.{EndsBy}
 
 -- the order of an IA_PD of the message
 abbrev pub order_for : ClientMessage → IaPd → Order
 order_for m ia = order_by m.kind (asked_in m.client ia)
 
--- each IA_PD in its order is told this, by the receipts that its own order added
-abbrev pub AreTold : (List Receipt → Journal → Type 0) → Partner → ClientMessage → ℕ → List Receipt → List IaPd
-    → List IaAnswer → List Receipt → Type 0
-AreTold MayHave partner m now had [] [] added = added ≡ []
-AreTold MayHave partner m now had (ia ∷ ias) (answer ∷ answers) added =
+-- whether the IA_PD at a place may be ordered: behind the end of the list all may
+abbrev pub permit_of : Option Permit → Permit
+permit_of None = Ordered
+permit_of (Some permit) = permit
+
+abbrev pub permit_at : List Permit → ℕ → Permit
+permit_at permits place = permit_of (slice_get permits place)
+
+-- each IA_PD in its order is told this, by its permit and the receipts that its own order added
+abbrev pub AreTold : (List Receipt → Journal → Type 0) → Partner → ClientMessage → List Permit → ℕ → List Receipt
+    → List IaPd → List IaAnswer → List Receipt → Type 0
+AreTold MayHave partner m permits now had [] [] added = added ≡ []
+AreTold MayHave partner m permits now had (ia ∷ ias) (answer ∷ answers) added =
     (own : List Receipt) × (rest : List Receipt) × (added ≡ own ++ rest)
-    × Ends MayHave partner m.kind now had (order_for m ia) own (Ok answer)
-    × AreTold MayHave partner m now (had ++ own) ias answers rest
-AreTold MayHave partner m now had _ _ added = ⊥
+    × EndsBy MayHave (permit_at permits 0) partner m.kind now had (order_for m ia) own (Ok answer)
+    × AreTold MayHave partner m (drop 1 permits) now (had ++ own) ias answers rest
+AreTold MayHave partner m permits now had _ _ added = ⊥
 
 -- The octets are those of the server's answer to the message: it tells each IA_PD what the receipts say that were
 -- added. The number is that of the last line that it tells of.
 pub record IsTold (MayHave : List Receipt → Journal → Type 0) (partner : Partner) (own : List ℕ) (m : ClientMessage)
-    (now : ℕ) (had has : List Receipt) (octets : List ℕ) (line : Option ℕ) : Type 0 where
+    (permits : List Permit) (now : ℕ) (had has : List Receipt) (octets : List ℕ) (line : Option ℕ) : Type 0 where
   pub answers : List IaAnswer
   pub added : List Receipt
   pub all : has ≡ had ++ added
-  pub told : AreTold MayHave partner m now had m.ias answers added
+  pub told : AreTold MayHave partner m permits now had m.ias answers added
   pub spelled : octets ≡ message_octets (answer_of m own answers)
   pub last : line ≡ last_number added
 
 -- ---- no answer
 
 -- why there is none, where so many receipts were added: those of the IA_PDs that were served before stand
-abbrev pub IsSilence : (List Receipt → Journal → Type 0) → Partner → List ℕ → ClientMessage → ℕ → List Receipt
-    → List Receipt → Silence → Type 0
-IsSilence MayHave partner own m now had added NothingAsked = (m.ias ≡ []) × (added ≡ [])
-IsSilence MayHave partner own m now had added (Refused e) =
+abbrev pub IsSilence : (List Receipt → Journal → Type 0) → Partner → List ℕ → ClientMessage → List Permit → ℕ
+    → List Receipt → List Receipt → Silence → Type 0
+IsSilence MayHave partner own m permits now had added NothingAsked = (m.ias ≡ []) × (added ≡ [])
+IsSilence MayHave partner own m permits now had added (Refused e) =
     (place : ℕ) × (ia : IaPd) × (answers : List IaAnswer) × (earlier : List Receipt) × (last : List Receipt)
     × (slice_get m.ias place ≡ Some ia) × (added ≡ earlier ++ last)
-    × AreTold MayHave partner m now had (take place m.ias) answers earlier
-    × Ends MayHave partner m.kind now (had ++ earlier) (order_for m ia) last (Err e)
-IsSilence MayHave partner own m now had added TooLong =
-    (answers : List IaAnswer) × AreTold MayHave partner m now had m.ias answers added
+    × AreTold MayHave partner m permits now had (take place m.ias) answers earlier
+    × EndsBy MayHave (permit_at permits place) partner m.kind now (had ++ earlier) (order_for m ia) last (Err e)
+IsSilence MayHave partner own m permits now had added TooLong =
+    (answers : List IaAnswer) × AreTold MayHave partner m permits now had m.ias answers added
     × (MAX_OCTETS < length (message_octets (answer_of m own answers)))
-IsSilence MayHave partner own m now had added Memory =
-    (count : ℕ) × (answers : List IaAnswer) × AreTold MayHave partner m now had (take count m.ias) answers added
+IsSilence MayHave partner own m permits now had added Memory =
+    (count : ℕ) × (answers : List IaAnswer) × AreTold MayHave partner m permits now had (take count m.ias) answers added
 
 -- receipts were added, and no other changed
-abbrev pub IsSilent : (List Receipt → Journal → Type 0) → Partner → List ℕ → ClientMessage → ℕ → List Receipt
-    → List Receipt → Silence → Type 0
-IsSilent MayHave partner own m now had has why =
-    (added : List Receipt) × (has ≡ had ++ added) × IsSilence MayHave partner own m now had added why
+abbrev pub IsSilent : (List Receipt → Journal → Type 0) → Partner → List ℕ → ClientMessage → List Permit → ℕ
+    → List Receipt → List Receipt → Silence → Type 0
+IsSilent MayHave partner own m permits now had has why =
+    (added : List Receipt) × (has ≡ had ++ added) × IsSilence MayHave partner own m permits now had added why
 
 -- an answer: what is sent, to whom, and the number of the last line that it tells of
 pub record AnswerTo (P : Type 0) : Type 0 where

@@ -1,6 +1,7 @@
 -- For bodies only: what functions answer of an IA_PD, with the number of the line that it is told by.
 use Rattle.std.specs.Prelude.{◌≡◌, ℕ, ⊤, Bool, true, false, List, [], ◌∷◌, ◌++◌, Option, Some, None, Result, Ok, Err}
 use Rattle.std.specs.Prelude.{◌<◌, length, take, slice_get}
+use Rattle.admission.specs.declared.permit.Permit.{Permit}
 use Rattle.dhcp6_pd.specs.declared.message.ClientKind.{ClientKind}
 use Rattle.dhcp6_pd.specs.declared.message.ClientKind.TheVariants.{Solicit, Request as RequestKind}
 use Rattle.journal_lines.specs.declared.line.Journal.{Journal}
@@ -21,13 +22,13 @@ use Rattle.dhcp6_pd.specs.Layout.{message_octets}
 use Rattle.server_book.specs.Messages.{answer_of}
 use Rattle.client_service.specs.declared.silence.Silence.{Silence}
 use Rattle.client_service.specs.declared.silence.Silence.TheVariants.{Refused, TooLong, Memory}
-use Rattle.client_service.specs.Answering.{order_for, AreTold, IsSilent}
+use Rattle.client_service.specs.Answering.{order_for, permit_at, AreTold, IsSilent}
 use Rattle.standing_lease.specs.declared.terms.RenewTerms.{RenewTerms}
-use Rattle.client_service.specs.Again.{IsAgain, AreAgain, latest}
+use Rattle.client_service.specs.Again.{IsAgainBy, AreAgain, latest}
 use Rattle.client_service.specs.declared.partner.Partner.{Partner}
 use Rattle.client_service.specs.declared.told.Told.{Told}
 use Rattle.client_service.specs.Lines.{last_number}
-use Rattle.client_service.specs.Telling.{IsClients, EndsAtOnce, Ends, IsSeizeServed, NoneTakenOver, IsStrangeTo}
+use Rattle.client_service.specs.Telling.{IsClients, EndsAtOnce, EndsBy, IsSeizeServed, NoneTakenOver, IsStrangeTo}
 
 -- told of no line
 abbrev pub apart : IaAnswer → Told
@@ -82,41 +83,42 @@ Seizes MayHave now had has (Ok false) = (has ≡ had) × NoneTakenOver MayHave n
 Seizes MayHave now had has (Err e) = (has ≡ had) × IsStrangeTo MayHave now had e
 
 -- what an IA_PD ends in, where these receipts became those
-abbrev pub EndsAs : (List Receipt → Journal → Type 0) → Partner → ClientKind → ℕ → Order → List Receipt → List Receipt
-    → Result Told ServeError → Type 0
-EndsAs MayHave partner kind now order had has result =
-    (added : List Receipt) × (has ≡ had ++ added) × Ends MayHave partner kind now had order added (answer_in result)
-    × IsNumbered added result
+abbrev pub EndsAs : (List Receipt → Journal → Type 0) → Permit → Partner → ClientKind → ℕ → Order → List Receipt
+    → List Receipt → Result Told ServeError → Type 0
+EndsAs MayHave permit partner kind now order had has result =
+    (added : List Receipt) × (has ≡ had ++ added)
+    × EndsBy MayHave permit partner kind now had order added (answer_in result) × IsNumbered added result
 
 -- ---- all of a message
 
 -- what the IA_PD at a place ends in
-abbrev pub EndsAt : (List Receipt → Journal → Type 0) → Partner → ClientMessage → ℕ → ℕ → List Receipt → List Receipt
-    → Result Told ServeError → Type 0
-EndsAt MayHave partner m now place had has result =
+abbrev pub EndsAt : (List Receipt → Journal → Type 0) → Partner → ClientMessage → List Permit → ℕ → ℕ → List Receipt
+    → List Receipt → Result Told ServeError → Type 0
+EndsAt MayHave partner m permits now place had has result =
     (ia : IaPd) × (slice_get m.ias place ≡ Some ia)
-    × EndsAs MayHave partner m.kind now (order_for m ia) had has result
+    × EndsAs MayHave (permit_at permits place) partner m.kind now (order_for m ia) had has result
 
 -- the first so many IA_PDs are told this, and the number is that of the last line that they are told by
-abbrev pub AreFirstTold : (List Receipt → Journal → Type 0) → Partner → ClientMessage → ℕ → ℕ → List Receipt
-    → List Receipt → List IaAnswer → Option ℕ → Type 0
-AreFirstTold MayHave partner m now count had has answers line =
+abbrev pub AreFirstTold : (List Receipt → Journal → Type 0) → Partner → ClientMessage → List Permit → ℕ → ℕ
+    → List Receipt → List Receipt → List IaAnswer → Option ℕ → Type 0
+AreFirstTold MayHave partner m permits now count had has answers line =
     (added : List Receipt) × (has ≡ had ++ added)
-    × AreTold MayHave partner m now had (take count m.ias) answers added × (line ≡ last_number added)
+    × AreTold MayHave partner m permits now had (take count m.ias) answers added × (line ≡ last_number added)
 
 -- all of them
-abbrev pub AreAllTold : (List Receipt → Journal → Type 0) → Partner → ClientMessage → ℕ → List Receipt → List Receipt
-    → List IaAnswer → Option ℕ → Type 0
-AreAllTold MayHave partner m now had has answers line =
+abbrev pub AreAllTold : (List Receipt → Journal → Type 0) → Partner → ClientMessage → List Permit → ℕ → List Receipt
+    → List Receipt → List IaAnswer → Option ℕ → Type 0
+AreAllTold MayHave partner m permits now had has answers line =
     (length answers ≡ length m.ias) × ((added : List Receipt) × (has ≡ had ++ added)
-    × AreTold MayHave partner m now had m.ias answers added × (line ≡ last_number added))
+    × AreTold MayHave partner m permits now had m.ias answers added × (line ≡ last_number added))
 
 -- a refusal, or memory, came between
-abbrev pub IsCutShort : (List Receipt → Journal → Type 0) → Partner → ClientMessage → ℕ → List Receipt → List Receipt
-    → Silence → Type 0
-IsCutShort MayHave partner m now had has (Refused e) = IsSilent MayHave partner [] m now had has (Refused e)
-IsCutShort MayHave partner m now had has Memory = IsSilent MayHave partner [] m now had has Memory
-IsCutShort MayHave partner m now had has why = ⊥
+abbrev pub IsCutShort : (List Receipt → Journal → Type 0) → Partner → ClientMessage → List Permit → ℕ → List Receipt
+    → List Receipt → Silence → Type 0
+IsCutShort MayHave partner m permits now had has (Refused e) =
+    IsSilent MayHave partner [] m permits now had has (Refused e)
+IsCutShort MayHave partner m permits now had has Memory = IsSilent MayHave partner [] m permits now had has Memory
+IsCutShort MayHave partner m permits now had has why = ⊥
 
 -- why nothing is written
 abbrev pub IsUnwritten : List ℕ → ClientMessage → List IaAnswer → Silence → Type 0
@@ -133,21 +135,22 @@ IsDenial (Book NoPrefixLeft) answer = answer ≡ NoPrefix
 IsDenial _ answer = ⊥
 
 -- the IA_PD at a place is told this again
-abbrev pub IsAgainAt : (List Receipt → Journal → Type 0) → RenewTerms → ClientMessage → ℕ → ℕ → List Receipt
-    → IaAnswer → Option ℕ → Type 0
-IsAgainAt MayHave t m now place had answer number =
-    (ia : IaPd) × (slice_get m.ias place ≡ Some ia) × IsAgain MayHave t now had (order_for m ia) answer number
+abbrev pub IsAgainAt : (List Receipt → Journal → Type 0) → RenewTerms → ClientMessage → List Permit → ℕ → ℕ
+    → List Receipt → IaAnswer → Option ℕ → Type 0
+IsAgainAt MayHave t m permits now place had answer number =
+    (ia : IaPd) × (slice_get m.ias place ≡ Some ia)
+    × IsAgainBy MayHave (permit_at permits place) t now had (order_for m ia) answer number
 
 -- the first so many IA_PDs are told this again, and the number is that of the last line that they are told by
-abbrev pub AreFirstAgain : (List Receipt → Journal → Type 0) → RenewTerms → ClientMessage → ℕ → ℕ → List Receipt
-    → List IaAnswer → Option ℕ → Type 0
-AreFirstAgain MayHave t m now count had answers line =
-    (numbers : List (Option ℕ)) × AreAgain MayHave t m now had (take count m.ias) answers numbers
+abbrev pub AreFirstAgain : (List Receipt → Journal → Type 0) → RenewTerms → ClientMessage → List Permit → ℕ → ℕ
+    → List Receipt → List IaAnswer → Option ℕ → Type 0
+AreFirstAgain MayHave t m permits now count had answers line =
+    (numbers : List (Option ℕ)) × AreAgain MayHave t m permits now had (take count m.ias) answers numbers
     × (line ≡ latest numbers)
 
 -- all of them
-abbrev pub AreAllAgain : (List Receipt → Journal → Type 0) → RenewTerms → ClientMessage → ℕ → List Receipt
-    → List IaAnswer → Option ℕ → Type 0
-AreAllAgain MayHave t m now had answers line =
+abbrev pub AreAllAgain : (List Receipt → Journal → Type 0) → RenewTerms → ClientMessage → List Permit → ℕ
+    → List Receipt → List IaAnswer → Option ℕ → Type 0
+AreAllAgain MayHave t m permits now had answers line =
     (length answers ≡ length m.ias) × ((numbers : List (Option ℕ))
-    × AreAgain MayHave t m now had m.ias answers numbers × (line ≡ latest numbers))
+    × AreAgain MayHave t m permits now had m.ias answers numbers × (line ≡ latest numbers))

@@ -2,6 +2,8 @@
 -- refusal, or of a SOLICIT by an offer; and which receipts were added (RFC 8415, sections 18.3.1 to 18.3.7).
 use Rattle.std.specs.Prelude.{◌≡◌, ◌≢◌, ◌⊎◌, ℕ, ⊤, List, [], ◌∷◌, ◌++◌, Some, None, Result, Ok, Err}
 use Rattle.prefix_range.specs.Prefix.{Prefix}
+use Rattle.admission.specs.declared.permit.Permit.{Permit}
+use Rattle.admission.specs.declared.permit.Permit.TheVariants.{Ordered, Denied}
 use Rattle.dhcp6_pd.specs.declared.message.ClientKind.{ClientKind}
 use Rattle.dhcp6_pd.specs.declared.message.ClientKind.TheVariants.{Solicit}
 use Rattle.journal_lines.specs.declared.line.Journal.{Journal}
@@ -127,3 +129,11 @@ Ends MayHave Up kind now had order added result = EndsAtOnce MayHave kind now ha
 Ends MayHave Down kind now had order added result =
     ((result ≢ Ok NoPrefix) × EndsAtOnce MayHave kind now had order added result)
     ⊎ EndsOnceMore MayHave kind now had order added result
+
+-- ---- by its permit
+
+-- An IA_PD that may be ordered ends as its order does. One that may not is told NoPrefix, and nothing is ordered.
+abbrev pub EndsBy : (List Receipt → Journal → Type 0) → Permit → Partner → ClientKind → ℕ → List Receipt → Order
+    → List Receipt → Result IaAnswer ServeError → Type 0
+EndsBy MayHave Ordered partner kind now had order added result = Ends MayHave partner kind now had order added result
+EndsBy MayHave Denied partner kind now had order added result = (added ≡ []) × (result ≡ Ok NoPrefix)

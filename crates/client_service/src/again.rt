@@ -1,13 +1,15 @@
 //! What the IA_PDs of a message are told without a line.
 
 ghost use Rattle.std.specs.Prelude.{◌≡◌, ◌<◌, length, IfSome};
-ghost use Rattle.client_service.specs.Again.{IsAgain, later};
+ghost use Rattle.client_service.specs.Again.{IsAgain, IsAgainBy, later};
 ghost use Rattle.client_service.specs.Ending.{AreAllAgain, IsAgainAt, IsDenial};
 
 use crate::hearing::AllTold;
 use crate::partner::Partner;
+use crate::permits::permit_at;
 use crate::service::Service;
 use crate::told::Told;
+use admission::Permit;
 use dhcp6_pd::ClientMessage;
 use lead_time::Reading;
 use locked_book::ServeError;
@@ -58,6 +60,25 @@ fn told_again<S: Service>(
     }
 }
 
+/// Returns what an order's client is told without a line, where it may be given; else that there is no prefix.
+fn again_by_permit<S: Service>(
+    service: &S,
+    pass: &S::Pass,
+    partner: Partner,
+    terms: &RenewTerms,
+    permit: Permit,
+    now: Reading,
+    order: &Order,
+) -> Option<Told>
+    ensures { IfSome result (λ t. IsAgainBy S.may_have permit terms.now now (S.receipts pass.now) order.now
+        t.answer t.line) }
+{
+    match permit {
+        Permit::Ordered => told_again(service, pass, partner, terms, now, order),
+        Permit::Denied => Some(Told::apart(IaAnswer::NoPrefix)),
+    }
+}
+
 /// The greater of two numbers of lines, if there is one.
 fn later(one: Option<u32>, other: Option<u32>) -> Option<u32>
     ensures { result ≡ later one other }
@@ -74,16 +95,18 @@ fn again_at<S: Service>(
     pass: &S::Pass,
     partner: Partner,
     terms: &RenewTerms,
+    permits: &[Permit],
     now: Reading,
     message: &ClientMessage,
     place: usize,
 ) -> Option<Told>
     requires { place < length message.now.ias }
-    ensures { IfSome result (λ t. IsAgainAt S.may_have terms.now message.now now place (S.receipts pass.now)
-        t.answer t.line) }
+    ensures { IfSome result (λ t. IsAgainAt S.may_have terms.now message.now permits.now now place
+        (S.receipts pass.now) t.answer t.line) }
 {
+    let permit = permit_at(permits, place);
     match order_of(message, place) {
-        Some(order) => told_again(service, pass, partner, terms, now, &order),
+        Some(order) => again_by_permit(service, pass, partner, terms, permit, now, &order),
         None => unreachable!(),
     }
 }
@@ -96,16 +119,18 @@ pub(crate) fn all_again<S: Service>(
     pass: &S::Pass,
     partner: Partner,
     terms: &RenewTerms,
+    permits: &[Permit],
     now: Reading,
     message: &ClientMessage,
 ) -> Option<AllTold>
-    ensures { IfSome result (λ all. AreAllAgain S.may_have terms.now message.now now (S.receipts pass.now)
-        all.answers.items all.line) }
+    ensures { IfSome result (λ all. AreAllAgain S.may_have terms.now message.now permits.now now
+        (S.receipts pass.now) all.answers.items all.line) }
 {
     let mut answers = Vec::new(alloc);
     let mut line = None;
     for place in 0..message.ias.as_slice().len() {
-        let Some(told) = again_at(service, pass, partner, terms, now, message, place) else {
+        let Some(told) = again_at(service, pass, partner, terms, permits, now, message, place)
+        else {
             return None;
         };
         line = later(line, told.line);

@@ -14,6 +14,7 @@ use crate::hearing::all_told;
 use crate::partner::Partner;
 use crate::service::Service;
 use crate::silence::Silence;
+use admission::Permit;
 use client_id::Duid;
 use dhcp6_pd::{ClientKind, ClientMessage, PdError, encode};
 use lead_time::Reading;
@@ -89,6 +90,9 @@ fn written(
 /// gives the answer, to the peer that the message came from. The octets are the message that tells each IA_PD what its
 /// receipt says, or of a SOLICIT what would be granted.
 ///
+/// By `permits` an IA_PD may be denied, each by its place: it is told NoPrefixAvail, and nothing is ordered for it.
+/// Those behind the end of the list may be ordered.
+///
 /// There is no answer (`Silence`) where the message has no IA_PD, an order ends in what no client is told, the answer
 /// is too long, or a growth is refused. The lines of IA_PDs that were served before stand.
 pub fn answer_to<S: Service, P: Drop>(
@@ -97,14 +101,15 @@ pub fn answer_to<S: Service, P: Drop>(
     pass: &mut S::Pass,
     own: &Duid,
     partner: Partner,
+    permits: &[Permit],
     now: Reading,
     message: &ClientMessage,
     peer: P,
 ) -> Result<Answer<P>, Silence>
-    ensures told { IfOk result (λ a. IsTold S.may_have partner own.now message.now now (S.receipts pass.old)
-        (S.receipts pass.new) a.octets a.line) }
-    ensures silent { IfErr result (IsSilent S.may_have partner own.now message.now now (S.receipts pass.old)
-        (S.receipts pass.new)) }
+    ensures told { IfOk result (λ a. IsTold S.may_have partner own.now message.now permits.now now
+        (S.receipts pass.old) (S.receipts pass.new) a.octets a.line) }
+    ensures silent { IfErr result (IsSilent S.may_have partner own.now message.now permits.now now
+        (S.receipts pass.old) (S.receipts pass.new)) }
     // A SOLICIT is answered by no line: none is written while the partner is up, and none is told of.
     ensures offers { message.now.kind ≡ Solicit → partner ≡ Up → S.receipts pass.new ≡ S.receipts pass.old }
     ensures advertised { message.now.kind ≡ Solicit → IfOk result (λ a. a.line ≡ None) }
@@ -113,7 +118,7 @@ pub fn answer_to<S: Service, P: Drop>(
     if message.ias.as_slice().is_empty() {
         return Err(Silence::NothingAsked);
     }
-    let all = all_told(alloc, service, pass, partner, now, message)?;
+    let all = all_told(alloc, service, pass, partner, permits, now, message)?;
     let octets = written(alloc, own, message, &all.answers)?;
     Ok(Answer {
         octets,
@@ -122,10 +127,10 @@ pub fn answer_to<S: Service, P: Drop>(
     })
 }
 
-/// Answers a client's message without a line, where each of its IA_PDs asks for what its client has by a line that may be
-/// told again by the terms, or is refused: the octets tell the first for the seconds that remain. Otherwise it gives the
-/// peer back, and the message is one for [`answer_to`]: a SOLICIT, a message of which an IA_PD needs a line, and any
-/// where a growth is refused.
+/// Answers a client's message without a line, where each of its IA_PDs asks for what its client has by a line that may
+/// be told again by the terms, or is refused, or denied by `permits`: the octets tell the first for the seconds that
+/// remain. Otherwise it gives the peer back, and the message is one for [`answer_to`]: a SOLICIT, a message of which an
+/// IA_PD needs a line, and any where a growth is refused.
 pub fn answer_again<S: Service, P: Drop>(
     alloc: Global,
     service: &S,
@@ -133,19 +138,20 @@ pub fn answer_again<S: Service, P: Drop>(
     own: &Duid,
     partner: Partner,
     terms: &RenewTerms,
+    permits: &[Permit],
     now: Reading,
     message: &ClientMessage,
     peer: P,
 ) -> Result<Answer<P>, P>
-    ensures told { IfOk result (λ a. IsToldAgain S.may_have terms.now own.now message.now now (S.receipts pass.now)
-        a.octets a.line) }
+    ensures told { IfOk result (λ a. IsToldAgain S.may_have terms.now own.now message.now permits.now now
+        (S.receipts pass.now) a.octets a.line) }
     ensures back { IfOk result (λ a. a.peer ≡ peer) }
     ensures unanswered { IfErr result (λ p. p ≡ peer) }
 {
     if message.kind == ClientKind::Solicit || message.ias.as_slice().is_empty() {
         return Err(peer);
     }
-    let Some(all) = all_again(alloc, service, pass, partner, terms, now, message) else {
+    let Some(all) = all_again(alloc, service, pass, partner, terms, permits, now, message) else {
         return Err(peer);
     };
     let Ok(octets) = written(alloc, own, message, &all.answers) else {

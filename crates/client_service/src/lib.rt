@@ -7,12 +7,13 @@
 //! What is told stands in the journal. By the clause `told` of that call an [`Answer`]'s octets are the message which
 //! tells each IA_PD, in its order, what the receipt of its own line says: the prefix and the lifetime that it granted,
 //! or that it was released; or its first refusal; or of a SOLICIT what would be granted (specs/Telling for one IA_PD,
-//! specs/Answering for the message). By `silent` there is no answer but for a reason ([`Silence`]) that is so.
+//! specs/Answering for the message). An IA_PD that may not be ordered (`admission::Permit`) is told that there is no
+//! prefix. By `silent` there is no answer but for a reason ([`Silence`]) that is so.
 //!
 //! ```text
 //! let message = decode(alloc, datagram, &own)?;
 //! let service = Shared { rt, book: &shared };
-//! let told = answer_to(alloc, &service, &mut pass, &own, Partner::Up, clock.now()?, &message, peer);
+//! let told = answer_to(alloc, &service, &mut pass, &own, Partner::Up, &permits, clock.now()?, &message, peer);
 //! if let Ok(answer) = told { socket.send(answer.peer(), answer.octets())?; }
 //! ```
 #![tactic(auto)]
@@ -23,6 +24,7 @@ mod answer;
 mod hearing;
 mod ordering;
 mod partner;
+mod permits;
 mod service;
 mod shared;
 mod silence;

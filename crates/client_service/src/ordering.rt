@@ -2,6 +2,7 @@
 
 ghost use Rattle.std.specs.Prelude.{◌≡◌};
 ghost use Rattle.order_book.specs.Answer.{IsRequest};
+ghost use Rattle.admission.specs.declared.permit.Permit.TheVariants.{Ordered};
 ghost use Rattle.dhcp6_pd.specs.declared.message.ClientKind.TheVariants.{Solicit, Request};
 ghost use Rattle.client_service.specs.Telling.{IsClients};
 ghost use Rattle.client_service.specs.Ending.{told_of, told_by, IsOrderOf, EndsIn, EndsAs, Seizes};
@@ -138,7 +139,7 @@ pub(crate) fn at_last<S: Service>(
     order: &Order,
 ) -> Result<Told, ServeError>
     requires { IsOrderOf kind order.now }
-    ensures { EndsAs S.may_have partner kind now order.now (S.receipts pass.old) (S.receipts pass.new) result }
+    ensures { EndsAs S.may_have Ordered partner kind now order.now (S.receipts pass.old) (S.receipts pass.new) result }
 {
     let told = match ordered(service, pass, kind, now, order) {
         Ok(told) => told,

@@ -1,5 +1,5 @@
 -- What comes of a message, and of the datagram that spells it.
-use Rattle.std.specs.Prelude.{◌≡◌, ℕ, List, Result, Ok, Err}
+use Rattle.std.specs.Prelude.{◌≡◌, ℕ, List, [], Result, Ok, Err}
 use Rattle.std.proofs.Common.{subst, sym, inr}
 use Rattle.dhcp6_pd.specs.declared.message.ClientMessage.{ClientMessage}
 use Rattle.dhcp6_pd.specs.Grammar.{Spells}
@@ -20,7 +20,7 @@ module _ {Mail Peer : Type 0} (Sends : Mail → Peer → List ℕ → Mail → T
     (partner : Partner) (own : List ℕ) (peer : Peer) (now : ℕ) (m : ClientMessage) (old new : Mail)
     (had has : List Receipt) where
   sent_so : (a : AnswerTo Peer) (result : Result Heard NodeError)
-      → IsTold AnyJournal partner own m now had has a.octets a.line → IsSent Sends Fails a old new result
+      → IsTold AnyJournal partner own m [] now had has a.octets a.line → IsSent Sends Fails a old new result
       → IsReplied Sends Fails partner own a.peer now m old new had has result
   sent_so a (Ok Answered) told sent = (a.octets, a.line, told, sent)
   sent_so a (Ok (Unanswered why)) told sent = absurd sent
@@ -32,12 +32,12 @@ module _ {Mail Peer : Type 0} (Sends : Mail → Peer → List ℕ → Mail → T
   sent_so a (Err (Serve e)) told sent = absurd sent
 
   pub replied : (a : AnswerTo Peer) (result : Result Heard NodeError)
-      → IsTold AnyJournal partner own m now had has a.octets a.line → a.peer ≡ peer
+      → IsTold AnyJournal partner own m [] now had has a.octets a.line → a.peer ≡ peer
       → IsSent Sends Fails a old new result → IsReplied Sends Fails partner own peer now m old new had has result
   replied a result told back sent =
       subst (λ p. IsReplied Sends Fails partner own p now m old new had has result) back (sent_so a result told sent)
 
-  none_so : (why : Silence) → IsSilent AnyJournal partner own m now had has why → new ≡ old
+  none_so : (why : Silence) → IsSilent AnyJournal partner own m [] now had has why → new ≡ old
       → IsReplied Sends Fails partner own peer now m old new had has (unanswered why)
   none_so NothingAsked silent same = (same, tt, silent)
   none_so TooLong silent same = (same, tt, silent)
@@ -47,7 +47,7 @@ module _ {Mail Peer : Type 0} (Sends : Mail → Peer → List ℕ → Mail → T
   none_so (Refused NoRoom) silent same = (same, (λ is. is), silent)
 
   pub none_replied : (why : Silence) (result : Result Heard NodeError) → result ≡ unanswered why
-      → IsSilent AnyJournal partner own m now had has why → new ≡ old
+      → IsSilent AnyJournal partner own m [] now had has why → new ≡ old
       → IsReplied Sends Fails partner own peer now m old new had has result
   none_replied why result is silent same =
       subst (λ r. IsReplied Sends Fails partner own peer now m old new had has r) (sym is) (none_so why silent same)

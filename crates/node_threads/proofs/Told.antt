@@ -86,7 +86,7 @@ module _ (MayHave : List Receipt → Journal → Type 0) (now : ℕ) where
 
   module _ (partner : Partner) (m : ClientMessage) where
     all_go : (had : List Receipt) (ias : List IaPd) (answers : List IaAnswer) (added : List Receipt)
-        → AreTold MayHave partner m now had ias answers added → Goes had (had ++ added)
+        → AreTold MayHave partner m [] now had ias answers added → Goes had (had ++ added)
     all_go had [] [] added h = none_more had added h
     all_go had [] (a ∷ answers) added h = absurd h
     all_go had (ia ∷ ias) [] added h = absurd h
@@ -99,13 +99,13 @@ module _ (MayHave : List Receipt → Journal → Type 0) (now : ℕ) where
 
     -- what is told of a message
     pub told_goes : (own : List ℕ) (had has : List Receipt) (octets : List ℕ) (line : Option ℕ)
-        → IsTold MayHave partner own m now had has octets line → Goes had has
+        → IsTold MayHave partner own m [] now had has octets line → Goes had has
     told_goes own had has octets line h =
         subst (λ rs. Goes had rs) (sym h.all) (all_go had m.ias h.answers h.added h.told)
 
     -- why it is told nothing
     pub silent_goes : (own : List ℕ) (had has : List Receipt) (why : Silence)
-        → IsSilent MayHave partner own m now had has why → Goes had has
+        → IsSilent MayHave partner own m [] now had has why → Goes had has
     silent_goes own had has NothingAsked h =
         subst (λ rs. Goes had rs) (sym h.1) (none_more had h.0 h.2.1)
     silent_goes own had has (Refused e) h =

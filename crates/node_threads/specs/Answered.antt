@@ -1,5 +1,5 @@
 -- For bodies only: what comes of a message, before it is known which datagram spells it.
-use Rattle.std.specs.Prelude.{◌≡◌, ℕ, List, Option, Result, Ok, Err}
+use Rattle.std.specs.Prelude.{◌≡◌, ℕ, List, [], Option, Result, Ok, Err}
 use Rattle.dhcp6_pd.specs.declared.message.ClientMessage.{ClientMessage}
 use Rattle.locked_book.specs.declared.receipt.Receipt.{Receipt}
 use Rattle.locked_book.specs.declared.error.ServeError.{ServeError}
@@ -39,12 +39,12 @@ module _ {Mail Peer : Type 0} (Sends : Mail → Peer → List ℕ → Mail → T
   abbrev pub IsReplied : Partner → List ℕ → Peer → ℕ → ClientMessage → Mail → Mail → List Receipt → List Receipt
       → Result Heard NodeError → Type 0
   IsReplied partner own peer now m old new had has (Ok Answered) =
-      (octets : List ℕ) × (line : Option ℕ) × IsTold AnyJournal partner own m now had has octets line
+      (octets : List ℕ) × (line : Option ℕ) × IsTold AnyJournal partner own m [] now had has octets line
       × Sends old peer octets new
   IsReplied partner own peer now m old new had has (Ok (Unanswered why)) =
-      (new ≡ old) × MayGoOn why × IsSilent AnyJournal partner own m now had has why
+      (new ≡ old) × MayGoOn why × IsSilent AnyJournal partner own m [] now had has why
   IsReplied partner own peer now m old new had has (Err Net) =
-      (octets : List ℕ) × (line : Option ℕ) × IsTold AnyJournal partner own m now had has octets line × Fails old new
+      (octets : List ℕ) × (line : Option ℕ) × IsTold AnyJournal partner own m [] now had has octets line × Fails old new
   IsReplied partner own peer now m old new had has (Err (Serve e)) =
-      (new ≡ old) × IsStranger e × IsSilent AnyJournal partner own m now had has (Refused e)
+      (new ≡ old) × IsStranger e × IsSilent AnyJournal partner own m [] now had has (Refused e)
   IsReplied partner own peer now m old new had has result = ⊥

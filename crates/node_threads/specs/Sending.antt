@@ -27,14 +27,14 @@ pub record Tells (partner : Partner) (own datagram : List ℕ) (had has : List R
   pub now : ℕ
   pub line : Option ℕ
   pub spelled : Spells own datagram message
-  pub told : IsTold AnyJournal partner own message now had has octets line
+  pub told : IsTold AnyJournal partner own message [] now had has octets line
 
 -- the datagram is a message to the server, and this is why it has no answer
 pub record Lacks (partner : Partner) (own datagram : List ℕ) (had has : List Receipt) (why : Silence) : Type 0 where
   pub message : ClientMessage
   pub now : ℕ
   pub spelled : Spells own datagram message
-  pub silent : IsSilent AnyJournal partner own message now had has why
+  pub silent : IsSilent AnyJournal partner own message [] now had has why
 
 -- a pass that the book doesn't know ends the worker
 abbrev pub MayGoOn : Silence → Type 0

@@ -91,6 +91,7 @@ impl<'a, N: BookName, R: Wait, C: Clock> Worker<'a, N, R, C> {
             pass,
             self.own,
             self.partner,
+            &[],
             now,
             message,
             peer,

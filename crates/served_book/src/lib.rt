@@ -7,7 +7,7 @@
 //!
 //! ```text
 //! let mut book = ServedBook::new(alloc, book, Vec::new(alloc))?;
-//! let told = answer_to(alloc, &Served, &mut book, &own, Partner::Up, now, &message, peer);
+//! let told = answer_to(alloc, &Served, &mut book, &own, Partner::Up, &permits, now, &message, peer);
 //! talk.turn(&Served, &mut book, &settings, now, &came)?;
 //! for receipt in &book.receipts()[written..] { volume.append(&receipt.line)?; }
 //! ```

@@ -64,6 +64,7 @@ impl Server {
             book,
             own,
             Partner::Up,
+            &[],
             now,
             &message,
             (),

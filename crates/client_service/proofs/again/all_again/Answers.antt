@@ -9,7 +9,8 @@ loop-place-preserved g c =
       search rules,
       search rules,
       first_again g.S.Service.may_have c.args.terms.now c.args.message.now c.args.now
-          (g.S.Service.receipts c.args.pass.now) c.loop-place.place c.loop-place.answers.items c.loop-place.line
+          (g.S.Service.receipts c.args.pass.now) c.args.permits.now c.loop-place.place c.loop-place.answers.items
+          c.loop-place.line
           c.in-Some.told.answer c.in-Some.told.line c.push.new.self.items c.later-line.result c.loop-place.invariant.3
           c.in-Some.ensures items c.later-line.ensures,
     )

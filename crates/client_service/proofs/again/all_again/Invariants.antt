@@ -5,5 +5,5 @@ use Rattle.client_service.proofs.again.all_again.Given as goal
 abbrev pub invariant-loop-place : goal.invariant-loop-place
 invariant-loop-place g l =
     (length l.answers.items ≡ l.place) × (l.place ≤ l.place-end) × (l.place-end ≡ length l.message.ias)
-    × AreFirstAgain g.S.Service.may_have l.terms l.message l.now l.place (g.S.Service.receipts l.pass)
+    × AreFirstAgain g.S.Service.may_have l.terms l.message l.permits l.now l.place (g.S.Service.receipts l.pass)
     l.answers.items l.line

@@ -11,9 +11,10 @@ returns-then-is_err-clause-silent g c =
     let mid = g.S.Service.receipts c.loop-place.pass in
     let has = g.S.Service.receipts c.at_last_for.new.pass in
     let t = c.in-Ok.told in
-    first_cut MayHave c.args.partner c.args.message.now c.args.now had has has (c.loop-place.place + 1)
+    first_cut MayHave c.args.partner c.args.message.now c.args.now c.args.permits.now had has has
+    (c.loop-place.place + 1)
     (c.loop-place.answers.items ++ t.answer ∷ []) (or_earlier t.line c.loop-place.line)
-    (first_more MayHave c.args.partner c.args.message.now c.args.now had mid has c.loop-place.place
+    (first_more MayHave c.args.partner c.args.message.now c.args.now c.args.permits.now had mid has c.loop-place.place
     c.loop-place.answers.items
     c.loop-place.line c.loop-place.invariant.3 t c.in-Ok.ensures)
 
@@ -26,7 +27,8 @@ loop-place-preserved g c =
       search rules,
       search rules,
       search rules,
-      first_pushed g.S.Service.may_have c.args.partner c.args.message.now c.args.now had mid has c.loop-place.place
-          c.loop-place.answers.items c.loop-place.line c.loop-place.invariant.3 c.in-Ok.told c.push.new.self.items
+      first_pushed g.S.Service.may_have c.args.partner c.args.message.now c.args.now c.args.permits.now had mid has
+          c.loop-place.place c.loop-place.answers.items c.loop-place.line c.loop-place.invariant.3 c.in-Ok.told
+          c.push.new.self.items
           c.or_earlier-line.result c.in-Ok.ensures items c.or_earlier-line.ensures,
     )

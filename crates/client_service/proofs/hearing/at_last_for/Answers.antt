@@ -1,5 +1,6 @@
 use Rattle.std.proofs.Common.{sym, subst, ◌∙◌}
 use Rattle.std.specs.Prelude.{slice_get}
+use Rattle.client_service.specs.Answering.{permit_at}
 use Rattle.client_service.specs.Ending.{EndsAs}
 use Rattle.client_service.proofs.Messages.{order_there}
 use Rattle.client_service.proofs.hearing.at_last_for.Goals as goal
@@ -8,10 +9,12 @@ pub returns : goal.returns
 returns g c =
     let m = c.args.message.now in
     let had = g.S.Service.receipts c.args.pass.now in
-    let has = g.S.Service.receipts c.at_last.new.pass in
+    let has = g.S.Service.receipts c.by_permit.new.pass in
     let at = order_there m (slice_get m.ias c.args.place) c.in-Some.order (sym c.in-Some.is ∙ c.order_of.ensures) in (
       at.0,
       at.1,
-      subst (λ o. EndsAs g.S.Service.may_have c.args.partner m.kind c.args.now o had has c.at_last.result)
-          at.2 c.at_last.ensures,
+      subst (λ o. EndsAs g.S.Service.may_have (permit_at c.args.permits.now c.args.place) c.args.partner m.kind c.args.now
+          o had has c.by_permit.result) at.2
+          (subst (λ l. EndsAs g.S.Service.may_have l c.args.partner m.kind c.args.now c.in-Some.order had has
+          c.by_permit.result) c.permit_at-permit.ensures c.by_permit.ensures),
     )
