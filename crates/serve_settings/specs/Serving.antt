@@ -1,6 +1,6 @@
 -- What a server that goes on for years runs by, of the members of a TOML document.
 use Rattle.std.specs.Prelude.{◌≡◌, ◌&&◌, ◌/◌, max, ⊤, ℕ, ℤ, pos, negsuc, Bool, true, false, nat_le, List, codes, Option, Some, None}
-use Rattle.std.specs.Prelude.{if◌then◌else◌, IsSome, ◌⊎◌, ◌≢◌, [], string_bytes}
+use Rattle.std.specs.Prelude.{if◌then◌else◌, IsSome, option_map, ◌⊎◌, ◌≢◌, [], string_bytes}
 use Rattle.toml.specs.Data.{Data, Members, get_member, as_integer, as_bool, as_str}
 use Rattle.text_fields.specs.Parsing.{◌>>=◌}
 use Rattle.book_state.specs.Places.{AreDisjoint}
@@ -12,8 +12,19 @@ use Rattle.server_settings.specs.declared.error.OpenError.TheVariants.{Overlap, 
 use Rattle.serve_settings.specs.declared.error.ServeSettingsError.{ServeSettingsError}
 use Rattle.serve_settings.specs.declared.error.ServeSettingsError.TheVariants.{Node, Heartbeat, VolumeLines, VolumeHours}
 use Rattle.serve_settings.specs.declared.error.ServeSettingsError.TheVariants.{Alone, NoPartner, PartnerOfAlone, NoLinkKey, LinkKey, RenewFloor}
+use Rattle.serve_settings.specs.declared.error.ServeSettingsError.TheVariants.{IasPerMessage, UnitsPerClient, UnitsPerPort, ClientRate, BindToPort}
+use Rattle.client_limits.specs.declared.limits.Limits.{Limits as Quotas}
+use Rattle.client_limits.specs.declared.limits.PortRule.{PortRule}
+use Rattle.client_limits.specs.declared.limits.PortRule.TheVariants.{Free, Bound}
+use Rattle.serve_settings.specs.declared.quotas.Shares.{Shares}
 use Rattle.serve_settings.specs.declared.protection.LinkProtection.{LinkProtection}
 use Rattle.serve_settings.specs.declared.protection.LinkProtection.TheVariants.{KeyFile, OtherLayer}
+
+-- ---- truth values
+
+abbrev pub bool_or : Bool → Option Data → Option Bool
+bool_or unsaid None = Some unsaid
+bool_or unsaid (Some value) = as_bool value
 
 -- ---- numbers
 
@@ -79,11 +90,80 @@ abbrev pub IsFloorFault : Members → ServeSettingsError → Type 0
 IsFloorFault m RenewFloor = (life : ℕ) × (floor_in life m ≡ None)
 IsFloorFault m _ = ⊥
 
--- ---- the partner
+-- ---- how much clients may take
 
-abbrev pub bool_or : Bool → Option Data → Option Bool
-bool_or unsaid None = Some unsaid
-bool_or unsaid (Some value) = as_bool value
+-- a whole number up to the limit
+abbrev pub up_to : ℕ → ℤ → Option ℕ
+up_to most (pos n) = if nat_le n most then Some n else None
+up_to most (negsuc n) = None
+
+unfoldable pub number_of : ℕ → Data → Option ℕ
+number_of most value = as_integer value >>= up_to most
+
+abbrev pub number_or : ℕ → ℕ → Option Data → Option ℕ
+number_or unsaid most None = Some unsaid
+number_or unsaid most (Some value) = number_of most value
+
+-- the same at a key, or what is meant where the key isn't there
+unfoldable pub quota_at : List ℕ → ℕ → ℕ → Members → Option ℕ
+quota_at key unsaid most members = number_or unsaid most (get_member key members)
+
+abbrev pub ias_per_message_in : Members → Option ℕ
+ias_per_message_in members = quota_at (codes "ias_per_message") 4 65535 members
+
+abbrev pub units_per_client_in : Members → Option ℕ
+units_per_client_in members = quota_at (codes "units_per_client") 8 65536 members
+
+abbrev pub units_per_port_in : Members → Option ℕ
+units_per_port_in members = quota_at (codes "units_per_port") 64 65536 members
+
+abbrev pub client_rate_in : Members → Option ℕ
+client_rate_in members = quota_at (codes "client_rate") 20 1000000 members
+
+abbrev pub rule_by : Bool → PortRule
+rule_by true = Bound
+rule_by false = Free
+
+-- whether an identity association stays at its relay port: where nothing is said, it may come from any
+unfoldable pub port_rule_in : Members → Option PortRule
+port_rule_in members = option_map rule_by (bool_or false (get_member (codes "bind_to_port") members))
+
+-- of a message, of a client, of those behind a port
+unfoldable pub shares_in : Members → Option Shares
+shares_in members = do
+  ias ← ias_per_message_in members
+  units ← units_per_client_in members
+  behind ← units_per_port_in members
+  Some (record { ias_per_message = ias; units_per_client = units; units_per_port = behind })
+
+unfoldable pub quotas_in : Members → Option Quotas
+quotas_in members = do
+  shares ← shares_in members
+  rate ← client_rate_in members
+  rule ← port_rule_in members
+  Some (record {
+    ias_per_message = shares.ias_per_message;
+    units_per_client = shares.units_per_client;
+    units_per_port = shares.units_per_port;
+    client_rate = rate;
+    ports = rule;
+  })
+
+abbrev pub IsShareFault : Members → ServeSettingsError → Type 0
+IsShareFault m IasPerMessage = ias_per_message_in m ≡ None
+IsShareFault m UnitsPerClient = units_per_client_in m ≡ None
+IsShareFault m UnitsPerPort = units_per_port_in m ≡ None
+IsShareFault m _ = ⊥
+
+abbrev pub IsQuotaFault : Members → ServeSettingsError → Type 0
+IsQuotaFault m IasPerMessage = ias_per_message_in m ≡ None
+IsQuotaFault m UnitsPerClient = units_per_client_in m ≡ None
+IsQuotaFault m UnitsPerPort = units_per_port_in m ≡ None
+IsQuotaFault m ClientRate = client_rate_in m ≡ None
+IsQuotaFault m BindToPort = port_rule_in m ≡ None
+IsQuotaFault m _ = ⊥
+
+-- ---- the partner
 
 -- whether the document says that the server is alone
 unfoldable pub alone_in : Members → Option Bool
@@ -140,11 +220,12 @@ IsProtected members (Some protection) = (alone_in members ≡ Some false) × IsP
 -- ---- the document
 
 -- a server runs by what a document says
-pub record IsServed (members : Members) (server : ServerSettings) (upkeep : Limits) (floor : ℕ)
+pub record IsServed (members : Members) (server : ServerSettings) (upkeep : Limits) (floor : ℕ) (quotas : Quotas)
     (protection : Option LinkProtection) : Type 0 where
   pub named : named_in members ≡ Some server
   pub limits : limits_in members ≡ Some upkeep
   pub floor_is : floor_in server.life members ≡ Some floor
+  pub quotas_are : quotas_in members ≡ Some quotas
   pub partner : HasPartnerOrIsAlone members
   pub protected : IsProtected members protection
 
@@ -161,6 +242,11 @@ IsRefusal text Heartbeat = (members : Members) × IsDocument text members × IsL
 IsRefusal text VolumeLines = (members : Members) × IsDocument text members × IsLimitFault members VolumeLines
 IsRefusal text VolumeHours = (members : Members) × IsDocument text members × IsLimitFault members VolumeHours
 IsRefusal text RenewFloor = (members : Members) × IsDocument text members × IsFloorFault members RenewFloor
+IsRefusal text IasPerMessage = (members : Members) × IsDocument text members × IsQuotaFault members IasPerMessage
+IsRefusal text UnitsPerClient = (members : Members) × IsDocument text members × IsQuotaFault members UnitsPerClient
+IsRefusal text UnitsPerPort = (members : Members) × IsDocument text members × IsQuotaFault members UnitsPerPort
+IsRefusal text ClientRate = (members : Members) × IsDocument text members × IsQuotaFault members ClientRate
+IsRefusal text BindToPort = (members : Members) × IsDocument text members × IsQuotaFault members BindToPort
 IsRefusal text Alone = (members : Members) × IsDocument text members × IsPartnerFault members Alone
 IsRefusal text NoPartner = (members : Members) × IsDocument text members × IsPartnerFault members NoPartner
 IsRefusal text PartnerOfAlone = (members : Members) × IsDocument text members × IsPartnerFault members PartnerOfAlone

@@ -21,6 +21,21 @@ pub enum ServeSettingsError {
     /// What is at `renew_floor` is no number within its limits.
     #[error("renew_floor: wants a whole number of seconds, 0 to 31536000")]
     RenewFloor,
+    /// What is at `ias_per_message` is no number within its limits.
+    #[error("ias_per_message: wants a whole number, 0 to 65535 (0 for no limit)")]
+    IasPerMessage,
+    /// What is at `units_per_client` is no number within its limits.
+    #[error("units_per_client: wants a whole number of prefixes, 0 to 65536 (0 for no limit)")]
+    UnitsPerClient,
+    /// What is at `units_per_port` is no number within its limits.
+    #[error("units_per_port: wants a whole number of prefixes, 0 to 65536 (0 for no limit)")]
+    UnitsPerPort,
+    /// What is at `client_rate` is no number within its limits.
+    #[error("client_rate: wants a whole number of messages a second, 0 to 1000000 (0 for no limit)")]
+    ClientRate,
+    /// What is at `bind_to_port` is no truth value.
+    #[error("bind_to_port: wants true or false")]
+    BindToPort,
     /// What is at `alone` is no truth value.
     #[error("alone: wants true or false")]
     Alone,

@@ -10,6 +10,8 @@ ghost use Rattle.serve_settings.specs.Serving.{HasPartnerOrIsAlone, IsProtected,
 use crate::error::ServeSettingsError;
 use crate::limits::{is_alone, renew_floor_in, upkeep_in};
 use crate::protection::{LinkProtection, protection_in};
+use crate::quotas::quotas_in;
+use client_limits::Limits;
 use node_threads::NodeSettings;
 use server_settings::OpenError;
 use server_upkeep::Upkeep;
@@ -25,6 +27,9 @@ pub struct ServeSettings {
     /// The age, in seconds, from which on a grant isn't told again: with 0 none is. Where the key isn't there, a tenth of the
     /// desired lifetime, and 10 at least.
     pub renew_floor: u32,
+    /// How much clients may take. Where a key isn't there, 4 IA_PDs of a message, 8 units of a client, 64 of those behind a
+    /// relay port, 20 messages of a client in a second; an identity association may come from any port.
+    pub quotas: Limits,
     /// What protects the link with the partner; none where there is no partner.
     pub protection: Option<LinkProtection>,
 }
@@ -53,13 +58,13 @@ fn table_of(alloc: Global, text: &[u8]) -> Result<Table, OpenError>
 }
 
 impl ServeSettings {
-    /// The settings that a TOML document names: those of a node, `link_key` where there is a `link`, and `heartbeat`,
-    /// `volume_lines`, `volume_hours`, `renew_floor` and `alone`, which may each be left out. `Node` where no node runs by it, or a growth
-    /// was refused; else `Alone`, `NoPartner` or `PartnerOfAlone`; else `NoLinkKey` or `LinkKey`; else `Heartbeat`,
-    /// `VolumeLines` or `VolumeHours`; else `RenewFloor`.
+    /// The settings that a TOML document names: those of a node, `link_key` where there is a `link`, and the others, which
+    /// may each be left out. `Node` where no node runs by it, or a growth was refused; else `Alone`, `NoPartner` or `PartnerOfAlone`; else `NoLinkKey` or `LinkKey`; else `Heartbeat`,
+    /// `VolumeLines` or `VolumeHours`; else `RenewFloor`; else `IasPerMessage`, `UnitsPerClient`, `UnitsPerPort`,
+    /// `ClientRate` or `BindToPort`.
     pub fn read(alloc: Global, text: &[u8]) -> Result<ServeSettings, ServeSettingsError>
         ensures served { IfOk result (λ s. (members : Members) × IsDocument text.now members
-            × IsServed members s.node.server s.upkeep s.renew_floor s.protection) }
+            × IsServed members s.node.server s.upkeep s.renew_floor s.quotas s.protection) }
         ensures refused { IfErr result (IsRefusal text.now) }
     {
         let node = match NodeSettings::read(alloc, text) {
@@ -76,10 +81,12 @@ impl ServeSettings {
         };
         let upkeep = upkeep_in(&table)?;
         let renew_floor = renew_floor_in(&table, node.server.life())?;
+        let quotas = quotas_in(&table)?;
         Ok(ServeSettings {
             node,
             upkeep,
             renew_floor,
+            quotas,
             protection,
         })
     }

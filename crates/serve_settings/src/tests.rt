@@ -2,6 +2,7 @@
 
 use crate::error::ServeSettingsError;
 use crate::settings::ServeSettings;
+use client_limits::{Limits, PortRule};
 use server_settings::OpenError;
 use server_upkeep::Upkeep;
 use std::alloc::{AllocError, Global};
@@ -47,8 +48,17 @@ fn floor(alloc: Global, keys: &str) -> Result<Option<u32>, AllocError> {
     })
 }
 
+/// How much clients of a server of the document with some keys more may take.
+fn quotas(alloc: Global, keys: &str) -> Result<Option<Limits>, AllocError> {
+    let text = format!(in alloc; "{NODE}alone = true\n{keys}{POOL}")?;
+    Ok(match ServeSettings::read(alloc, text.as_bytes()) {
+        Ok(settings) => Some(settings.quotas),
+        Err(_) => None,
+    })
+}
+
 /// Keys of documents that are refused, and by what.
-const REFUSED: [(&str, ServeSettingsError); 17] = [
+const REFUSED: [(&str, ServeSettingsError); 22] = [
     ("", ServeSettingsError::NoPartner),
     (
         "lnik = \"[2001:db8::b]:647\"\n",
@@ -98,6 +108,26 @@ const REFUSED: [(&str, ServeSettingsError); 17] = [
         ServeSettingsError::RenewFloor,
     ),
     (
+        "alone = true\nias_per_message = -1\n",
+        ServeSettingsError::IasPerMessage,
+    ),
+    (
+        "alone = true\nunits_per_client = 65537\n",
+        ServeSettingsError::UnitsPerClient,
+    ),
+    (
+        "alone = true\nunits_per_port = \"64\"\n",
+        ServeSettingsError::UnitsPerPort,
+    ),
+    (
+        "alone = true\nclient_rate = 1000001\n",
+        ServeSettingsError::ClientRate,
+    ),
+    (
+        "alone = true\nbind_to_port = 1\n",
+        ServeSettingsError::BindToPort,
+    ),
+    (
         "alone = true\nlink = 647\n",
         ServeSettingsError::Node(OpenError::Settings),
     ),
@@ -126,6 +156,27 @@ fn reads_what_a_server_runs_by(rt: HostRuntime) -> Result<(), Fail> {
     assert_eq!(rt; floor(alloc, "")?, Some(360));
     assert_eq!(rt; floor(alloc, "renew_floor = 0\n")?, Some(0));
     assert_eq!(rt; floor(alloc, "renew_floor = 31536000\n")?, Some(31_536_000));
+    Ok(())
+}
+
+#[test]
+fn reads_how_much_clients_may_take(rt: HostRuntime) -> Result<(), Fail> {
+    let alloc = rt.alloc();
+    let unsaid = Limits {
+        ias_per_message: 4,
+        units_per_client: 8,
+        units_per_port: 64,
+        client_rate: 20,
+        ports: PortRule::Free,
+    };
+    assert_eq!(rt; quotas(alloc, "")?, Some(unsaid));
+    let none = "ias_per_message = 0\nunits_per_client = 0\nunits_per_port = 0\nclient_rate = 0\n";
+    assert_eq!(rt; quotas(alloc, none)?, Some(Limits::NONE));
+    let bound = Limits {
+        ports: PortRule::Bound,
+        ..unsaid
+    };
+    assert_eq!(rt; quotas(alloc, "bind_to_port = true\n")?, Some(bound));
     Ok(())
 }
 
