@@ -45,14 +45,16 @@ order_there m (Some ia) o is = (ia, refl, let same : o ≡ order_for m ia = cc i
 module _ (MayHave : List Receipt → Journal → Type 0) (partner : Partner) (m : ClientMessage) (now : ℕ) where
   told_more : (permits : List Permit) (ias : List IaPd) (answers : List IaAnswer) (added had : List Receipt) (ia : IaPd)
       (answer : IaAnswer) (own : List Receipt) → AreTold MayHave partner m permits now had ias answers added
-      → EndsBy MayHave (permit_at permits (length ias)) partner m.kind now (had ++ added) (order_for m ia) own (Ok answer)
+      → EndsBy MayHave (permit_at permits (length ias)) partner m.kind now (had ++ added) (order_for m ia) own
+      (Ok answer)
       → AreTold MayHave partner m permits now had (ias ++ ia ∷ []) (answers ++ answer ∷ []) (added ++ own)
   told_more permits [] [] added had ia answer own h ends =
       let at : had ++ added ≡ had = ap (λ rs. had ++ rs) h ∙ append-nil had in (
         own,
         [],
         ap (λ rs. rs ++ own) h ∙ sym (append-nil own),
-        subst (λ rs. EndsBy MayHave (permit_at permits 0) partner m.kind now rs (order_for m ia) own (Ok answer)) at ends,
+        subst (λ rs. EndsBy MayHave (permit_at permits 0) partner m.kind now rs (order_for m ia) own (Ok answer)) at
+            ends,
         refl,
       )
   told_more permits [] (a ∷ answers) added had ia answer own h ends = absurd h
@@ -66,8 +68,8 @@ module _ (MayHave : List Receipt → Journal → Type 0) (partner : Partner) (m 
         ap (λ rs. rs ++ own) h.2 ∙ append_assoc h.0 h.1 own,
         h.3,
         told_more (drop 1 permits) ias answers h.1 (had ++ h.0) ia answer own h.4
-            (subst (λ rs. EndsBy MayHave (permit_at (drop 1 permits) (length ias)) partner m.kind now rs (order_for m ia)
-            own (Ok answer)) at by),
+            (subst (λ rs. EndsBy MayHave (permit_at (drop 1 permits) (length ias)) partner m.kind now rs
+            (order_for m ia) own (Ok answer)) at by),
       )
 
   module _ (permits : List Permit) (had mid has : List Receipt) (count : ℕ) (answers : List IaAnswer) (line : Option ℕ)
@@ -80,8 +82,8 @@ module _ (MayHave : List Receipt → Journal → Type 0) (partner : Partner) (m 
         (Ok t.answer) =
         subst (λ rs. EndsBy MayHave (permit_at permits count) partner m.kind now rs (order_for m h.0) h.2.0
         (Ok t.answer)) first.1 h.2.2 in
-        let ends = subst (λ n. EndsBy MayHave (permit_at permits n) partner m.kind now (had ++ first.0) (order_for m h.0)
-        h.2.0 (Ok t.answer)) (sym (take_count m.ias count h.0 h.1)) there in
+        let ends = subst (λ n. EndsBy MayHave (permit_at permits n) partner m.kind now (had ++ first.0)
+        (order_for m h.0) h.2.0 (Ok t.answer)) (sym (take_count m.ias count h.0 h.1)) there in
         let more : take (count + 1) m.ias ≡ take count m.ias ++ h.0 ∷ [] = rw add-one (take_next m.ias count h.0 h.1) in
         let told = told_more permits (take count m.ias) answers first.0 had h.0 t.answer h.2.0 first.2 ends in (
           first.0 ++ h.2.0,

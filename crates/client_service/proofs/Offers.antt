@@ -133,7 +133,8 @@ pub cut_writes_none : (MayHave : List Receipt → Journal → Type 0) (partner :
     → IsCutShort MayHave partner m permits now had has why → m.kind ≡ Solicit → partner ≡ Up → has ≡ had
 cut_writes_none MayHave Up m permits now had has (Refused e) h solicit up =
     refused_nothing MayHave now m solicit permits had has e h
-cut_writes_none MayHave Up m permits now had has Memory h solicit up = cut_nothing MayHave now m solicit permits had has h
+cut_writes_none MayHave Up m permits now had has Memory h solicit up =
+    cut_nothing MayHave now m solicit permits had has h
 cut_writes_none MayHave Up m permits now had has NothingAsked h solicit up = absurd h
 cut_writes_none MayHave Up m permits now had has TooLong h solicit up = absurd h
 cut_writes_none MayHave Down m permits now had has why h solicit up = absurd cc

@@ -68,8 +68,8 @@ latest_more number (x ∷ ns) n = latest_more (later number x) ns n
 
 module _ (MayHave : List Receipt → Journal → Type 0) (t : RenewTerms) (m : ClientMessage) (now : ℕ)
     (had : List Receipt) where
-  again_more : (permits : List Permit) (ias : List IaPd) (answers : List IaAnswer) (numbers : List (Option ℕ)) (ia : IaPd)
-      (answer : IaAnswer) (number : Option ℕ) → AreAgain MayHave t m permits now had ias answers numbers
+  again_more : (permits : List Permit) (ias : List IaPd) (answers : List IaAnswer) (numbers : List (Option ℕ))
+      (ia : IaPd) (answer : IaAnswer) (number : Option ℕ) → AreAgain MayHave t m permits now had ias answers numbers
       → IsAgainBy MayHave (permit_at permits (length ias)) t now had (order_for m ia) answer number
       → AreAgain MayHave t m permits now had (ias ++ ia ∷ []) (answers ++ answer ∷ []) (numbers ++ number ∷ [])
   again_more permits [] [] [] ia answer number h one = (one, tt)

@@ -1,6 +1,7 @@
 -- An answer that is owed stays owed while the book grows.
 use Rattle.std.proofs.Common.{◌≡◌, ℕ, List, [], ◌∷◌, ◌++◌, refl, sym, ◌∙◌, ap, subst, append_assoc, append-nil}
 use Rattle.std.specs.List.{AllByRecursion}
+use Rattle.admission.specs.declared.permit.Permit.{Permit}
 use Rattle.dhcp6_pd.specs.declared.message.ClientMessage.{ClientMessage}
 use Rattle.locked_book.specs.declared.receipt.Receipt.{Receipt}
 use Rattle.client_service.specs.Answering.{AnswerTo, IsTold, IsSilent}
@@ -18,6 +19,7 @@ pub stays_owed : {P : Type 0} (own : List ℕ) (t : RenewTerms) (receipts more a
 stays_owed own t receipts more all a grows o = record {
   partner = o.partner;
   message = o.message;
+  permits = o.permits;
   read = o.read;
   had = o.had;
   has = o.has;
@@ -43,12 +45,13 @@ one_more_owed own t receipts [] h owed one = (one, tt)
 one_more_owed own t receipts (x ∷ held) h owed one = (owed.0, one_more_owed own t receipts held h owed.1 one)
 
 -- an answer that tells what was just added is owed
-pub just_owed : {P : Type 0} (own : List ℕ) (t : RenewTerms) (partner : Partner) (m : ClientMessage) (read : ℕ)
-    (had has : List Receipt) (a : AnswerTo P) → Tells partner t own m read had has a.octets a.line
-    → IsOwed own t has a
-just_owed own t partner m read had has a told = record {
+pub just_owed : {P : Type 0} (own : List ℕ) (t : RenewTerms) (partner : Partner) (m : ClientMessage)
+    (permits : List Permit) (read : ℕ) (had has : List Receipt) (a : AnswerTo P)
+    → Tells partner t own m permits read had has a.octets a.line → IsOwed own t has a
+just_owed own t partner m permits read had has a told = record {
   partner = partner;
   message = m;
+  permits = permits;
   read = read;
   had = had;
   has = has;
@@ -56,11 +59,6 @@ just_owed own t partner m read had has a told = record {
   told = told;
   first = sym (append-nil has);
 }
-
--- where nothing was ordered, memory is why there is no answer
-pub nothing_ordered : (own : List ℕ) (partner : Partner) (m : ClientMessage) (read : ℕ) (had : List Receipt)
-    → IsSilent HasReceipts partner own m read had had Memory
-nothing_ordered own partner m read had = ([], sym (append-nil had), (0, [], refl))
 
 -- where nothing was changed, no receipt was added
 pub same_grows : (old new : LiveState) → new ≡ old → (added : List Receipt) × Grows old new added

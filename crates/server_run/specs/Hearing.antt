@@ -1,5 +1,6 @@
 -- What becomes of a datagram.
-use Rattle.std.specs.Prelude.{◌≡◌, ℕ, List, [], ◌∷◌, ◌++◌, Option, Some, None, Err}
+use Rattle.std.specs.Prelude.{◌≡◌, ◌⊎◌, ℕ, List, [], ◌∷◌, ◌++◌, Option, Some, None, Err}
+use Rattle.admission.specs.declared.permit.Permit.{Permit}
 use Rattle.dhcp6_pd.specs.declared.message.ClientMessage.{ClientMessage}
 use Rattle.dhcp6_pd.specs.Grammar.{Spells}
 use Rattle.dhcp6_pd.specs.Answers.{Gives}
@@ -8,10 +9,12 @@ use Rattle.journal_lines.specs.declared.line.Journal.{Journal}
 use Rattle.order_book.specs.Replayed.{state_of}
 use Rattle.served_book.specs.Served.{receipts_in}
 use Rattle.client_service.specs.Answering.{AnswerTo, IsSilent}
+use Rattle.client_service.specs.declared.silence.Silence.{Silence}
+use Rattle.client_service.specs.declared.silence.Silence.TheVariants.{Memory}
 use Rattle.client_service.specs.declared.partner.Partner.{Partner}
 use Rattle.client_service.specs.declared.partner.Partner.TheVariants.{Up, Down}
 use Rattle.server_run.specs.declared.heard.Heard.{Heard}
-use Rattle.server_run.specs.declared.heard.Heard.TheVariants.{Answered, Unanswered, Unread}
+use Rattle.server_run.specs.declared.heard.Heard.TheVariants.{Answered, Unanswered, TooMany, Unread}
 use Rattle.server_run.specs.declared.leaving.HeldAnswer.{HeldAnswer}
 use Rattle.server_run.specs.Live.{LiveState}
 use Rattle.standing_lease.specs.declared.terms.RenewTerms.{RenewTerms}
@@ -25,18 +28,31 @@ partner_by None = Up
 abbrev pub partner_of : Journal → Partner
 partner_of j = partner_by (state_of j).down
 
--- One answer more is held back: to the peer, at this reading, and it tells the message what the receipts say that its
--- orders added, or again what stands. Or there is none, for a reason, and none more is held back.
-abbrev pub IsHeard : {P : Type 0} → (own : List ℕ) → RenewTerms → (peer : P) → (datagram : List ℕ) → (read : ℕ)
-    → LiveState → LiveState → List (HeldAnswer P) → List (HeldAnswer P) → Heard → Type 0
-IsHeard {P} own t peer datagram read old new was held (Answered kind) =
-    (m : ClientMessage) × (a : AnswerTo P) × Spells own datagram m × (kind ≡ m.kind) × (a.peer ≡ peer)
-    × Tells (partner_of old.served.journal) t own m read (receipts_in old.served) (receipts_in new.served) a.octets a.line
+-- why a message has no answer: for want of memory nothing was done, or its orders, by the permits that it was given,
+-- ended so
+abbrev pub IsUnanswered : (Journal → ℕ → ClientMessage → List Permit → Type 0) → (own : List ℕ) → ClientMessage
+    → (read : ℕ) → LiveState → LiveState → Silence → Type 0
+IsUnanswered Lets own m read old new why =
+    ((why ≡ Memory) × (new ≡ old))
+    ⊎ ((permits : List Permit) × Lets old.served.journal read m permits
+    × IsSilent HasReceipts (partner_of old.served.journal) own m permits read (receipts_in old.served)
+    (receipts_in new.served) why)
+
+-- One answer more is held back: to the peer, at this reading, and it tells the message, by the permits that it was
+-- given, what the receipts say that its orders added, or again what stands. Or there is none, for a reason, and none
+-- more is held back.
+abbrev pub IsHeard : {P : Type 0} → (Journal → ℕ → ClientMessage → List Permit → Type 0) → (own : List ℕ) → RenewTerms
+    → (peer : P) → (datagram : List ℕ) → (read : ℕ) → LiveState → LiveState → List (HeldAnswer P)
+    → List (HeldAnswer P) → Heard → Type 0
+IsHeard {P} Lets own t peer datagram read old new was held (Answered kind) =
+    (m : ClientMessage) × (permits : List Permit) × (a : AnswerTo P) × Spells own datagram m
+    × Lets old.served.journal read m permits × (kind ≡ m.kind) × (a.peer ≡ peer)
+    × Tells (partner_of old.served.journal) t own m permits read (receipts_in old.served) (receipts_in new.served)
+    a.octets a.line
     × (held ≡ was ++ record { answer = a; read = read } ∷ [])
-IsHeard own t peer datagram read old new was held (Unanswered why) =
-    (m : ClientMessage) × Spells own datagram m
-    × IsSilent HasReceipts (partner_of old.served.journal) own m read (receipts_in old.served) (receipts_in new.served)
-    why
-    × (held ≡ was)
-IsHeard own t peer datagram read old new was held (Unread e) =
+IsHeard Lets own t peer datagram read old new was held (Unanswered why) =
+    (m : ClientMessage) × Spells own datagram m × IsUnanswered Lets own m read old new why × (held ≡ was)
+IsHeard Lets own t peer datagram read old new was held TooMany =
+    (m : ClientMessage) × Spells own datagram m × (new ≡ old) × (held ≡ was)
+IsHeard Lets own t peer datagram read old new was held (Unread e) =
     (new ≡ old) × (held ≡ was) × Gives (λ (m : ClientMessage). m) (Err e) (message_of own datagram)

@@ -13,6 +13,9 @@ pub enum Heard {
     /// It is a message, and has no answer.
     #[error("it has no answer: {0}")]
     Unanswered(Silence),
+    /// It is a message, and its client sends too many: nothing was done.
+    #[error("its client sends too many messages")]
+    TooMany,
     /// It is no message to the server, or there was no memory to read it.
     #[error("it is no message: {0}")]
     Unread(PdError),

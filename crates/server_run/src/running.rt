@@ -18,6 +18,7 @@ ghost use Rattle.server_run.specs.Hearing.{IsHeard, partner_of};
 use crate::heard::Heard;
 use crate::leaving::{HeldAnswer, Leaving};
 use crate::live_volume::{LiveVolume, Unsettled};
+use admission::{Admission, Unheard};
 use client_id::Duid;
 use client_service::{Partner, Silence};
 use dhcp6_pd::decode;
@@ -132,10 +133,17 @@ where
     }
 
     /// Hears a datagram that came from a peer at a reading. Where it is a client's message to this server, its orders
-    /// are done, or it is told again what it has; the answer is held back until the next `settle`.
-    pub fn hear(&mut self, read: Reading, datagram: &[u8], peer: P) -> Heard
-        ensures heard { IsHeard self.old.own self.old.terms peer datagram.now read self.old.volume self.new.volume
-            self.old.held self.new.held result }
+    /// are done, those that the admission lets be, or it is told again what it has; the answer is held back until the
+    /// next `settle`.
+    pub fn hear<A: Admission>(
+        &mut self,
+        admission: &mut A,
+        read: Reading,
+        datagram: &[u8],
+        peer: P,
+    ) -> Heard
+        ensures heard { IsHeard (A.lets admission.old) self.old.own self.old.terms peer datagram.now read
+            self.old.volume self.new.volume self.old.held self.new.held result }
         ensures grows { (added : List ReceiptValue) × Grows self.old.volume self.new.volume added }
         ensures rest { self.new ≡ record self.old { volume = self.new.volume; held = self.new.held } }
     {
@@ -147,16 +155,24 @@ where
             Ok(()) => {}
             Err(_) => return Heard::Unanswered(Silence::Memory),
         }
+        let permits = match admission.permits(self.volume.book(), read, &message) {
+            Ok(permits) => permits,
+            Err(Unheard::TooMany) => return Heard::TooMany,
+            Err(Unheard::Memory) => return Heard::Unanswered(Silence::Memory),
+        };
         let partner = partner_of(self.volume.book());
-        match self.volume.answer(
+        let said = self.volume.answer(
             self.alloc,
             &self.own,
             partner,
             &self.terms,
+            &permits,
             read,
             &message,
             peer,
-        ) {
+        );
+        admission.note(self.volume.book(), &message);
+        match said {
             Ok(answer) => {
                 hold(&mut self.held, HeldAnswer { answer, read });
                 Heard::Answered(message.kind)

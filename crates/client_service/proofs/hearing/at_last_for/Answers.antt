@@ -13,8 +13,8 @@ returns g c =
     let at = order_there m (slice_get m.ias c.args.place) c.in-Some.order (sym c.in-Some.is ∙ c.order_of.ensures) in (
       at.0,
       at.1,
-      subst (λ o. EndsAs g.S.Service.may_have (permit_at c.args.permits.now c.args.place) c.args.partner m.kind c.args.now
-          o had has c.by_permit.result) at.2
+      subst (λ o. EndsAs g.S.Service.may_have (permit_at c.args.permits.now c.args.place) c.args.partner m.kind
+          c.args.now o had has c.by_permit.result) at.2
           (subst (λ l. EndsAs g.S.Service.may_have l c.args.partner m.kind c.args.now c.in-Some.order had has
           c.by_permit.result) c.permit_at-permit.ensures c.by_permit.ensures),
     )
