@@ -6,7 +6,7 @@ use crate::rest::Watched;
 use mio::net::UdpSocket;
 use std::io;
 use std::io::ErrorKind;
-use std::net::{Net, SocketAddr};
+use std::net::{IpAddr, Net, SocketAddr};
 
 /// A way to those who send datagrams, that doesn't wait.
 ///
@@ -27,6 +27,9 @@ pub trait Datagrams: Drop {
     fn receive(&mut self, buffer: &mut [u8]) -> io::Result<Option<(usize, Self::Peer)>>
         ensures length { IfOk result (λ came. IfSome came (λ got. got.0 ≤ length buffer.new)) }
         ensures listens { listens self.old self.new };
+
+    /// The address that a peer sends from, the first octet first; `None` where it isn't one of IPv6.
+    fn source(peer: &Self::Peer) -> Option<[u8; 16]>;
 
     /// Sends octets to a peer, if they can be sent now: a datagram may always be lost.
     fn send(&mut self, peer: &Self::Peer, octets: &[u8])
@@ -62,6 +65,13 @@ impl Datagrams for UdpDatagrams {
                 ErrorKind::WouldBlock | ErrorKind::Interrupted => Ok(None),
                 _ => Err(error),
             },
+        }
+    }
+
+    fn source(peer: &SocketAddr) -> Option<[u8; 16]> {
+        match peer.ip() {
+            IpAddr::V6(address) => Some(address.octets()),
+            IpAddr::V4(_) => None,
         }
     }
 

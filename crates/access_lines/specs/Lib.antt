@@ -1,0 +1,3 @@
+pub mod Pieces
+pub mod Indexing
+pub mod Sides
