@@ -1,3 +1,4 @@
 pub mod Pieces
 pub mod Indexing
 pub mod Sides
+pub mod Beside

@@ -2,7 +2,8 @@
 //!
 //! `JournalPaths` are the files that paths name, of a directory those in it and none deeper, for `archive_files` to
 //! read, whole or at their edges. Where a server runs over a directory it's asked how much of the volume that it writes
-//! is on its disk, and of that volume no more is read. What the system answers has no meaning in a contract.
+//! is on its disk, and of that volume no more is read. Beside `A-0000012.journal` the text `A-0000012.access` may have
+//! access records. What the system answers has no meaning in a contract.
 //!
 //! ```text
 //! let files = JournalPaths::at(&rt, &rt, &words)?;
@@ -12,6 +13,8 @@
 
 ghost use Rattle.std.specs.Prelude.{◌≤◌, ⊤, length, IfOk};
 
+use access_lines::AccessBeside;
+use access_records::AccessText;
 use archive_files::{FileEnd, JournalFiles, Unreadable};
 use std::alloc::Global;
 use std::fs::{self, File};
@@ -47,11 +50,15 @@ fn is_no_file(rt: &HostRuntime, path: Path<'_>) -> bool {
     }
 }
 
-/// Adds the files of a directory, and none deeper.
+/// What the name of a file of access records ends with, behind a stop.
+const ACCESS: &str = "access";
+
+/// Adds the files of a directory, but those of access records, and none deeper.
 fn add_files_in(rt: &HostRuntime, paths: &mut Vec<PathBuf>, folder: Path<'_>) -> io::Result<()> {
     for entry in fs::read_dir(rt, folder)? {
         let path = folder.join(rt.alloc(), entry?.file_name())?;
-        if !is_no_file(rt, path.as_path()) {
+        let has_records = path.as_path().extension() == Some(ACCESS);
+        if !has_records && !is_no_file(rt, path.as_path()) {
             paths.push(path)?;
         }
     }
@@ -234,5 +241,15 @@ impl JournalFiles for JournalPaths<'_> {
             Ok(end) => Ok(end),
             Err(error) => Err(unreadable(&error)),
         }
+    }
+}
+
+impl AccessBeside for JournalPaths<'_> {
+    ghost says = { λ s file text. ⊤ };
+
+    fn beside(&self, alloc: Global, file: usize) -> Option<AccessText> {
+        let path = self.path(file)?.with_extension(alloc, ACCESS).ok()?;
+        let content = fs::read(self.rt, path.as_path()).ok()?;
+        access_records::read(alloc, &content).ok()
     }
 }
