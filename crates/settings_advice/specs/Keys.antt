@@ -2,6 +2,7 @@
 use Rattle.std.specs.Prelude.{ℕ, List, codes}
 use Rattle.settings_advice.specs.declared.key.Key.{Key}
 use Rattle.settings_advice.specs.declared.key.Key.TheVariants.{Role, Duid, SkewMs, Mclt, Life, TransitMs, Listen, Link}
+use Rattle.settings_advice.specs.declared.key.Key.TheVariants.{IasPerMessage, UnitsPerClient, UnitsPerPort, ClientRate, BindToPort}
 use Rattle.settings_advice.specs.declared.key.Key.TheVariants.{LinkKey, Workers, Heartbeat, VolumeLines, VolumeHours, RenewFloor, Alone}
 use Rattle.settings_advice.specs.declared.key.Key.TheVariants.{Pool, Prefix, Unit}
 
@@ -20,6 +21,11 @@ key_name Heartbeat = codes "heartbeat"
 key_name VolumeLines = codes "volume_lines"
 key_name VolumeHours = codes "volume_hours"
 key_name RenewFloor = codes "renew_floor"
+key_name IasPerMessage = codes "ias_per_message"
+key_name UnitsPerClient = codes "units_per_client"
+key_name UnitsPerPort = codes "units_per_port"
+key_name ClientRate = codes "client_rate"
+key_name BindToPort = codes "bind_to_port"
 key_name Alone = codes "alone"
 key_name Pool = codes "pool"
 key_name Prefix = codes "prefix"

@@ -23,6 +23,11 @@ pub enum Key {
     VolumeLines,
     VolumeHours,
     RenewFloor,
+    IasPerMessage,
+    UnitsPerClient,
+    UnitsPerPort,
+    ClientRate,
+    BindToPort,
     Alone,
     Pool,
     /// Of a pool.
@@ -31,9 +36,9 @@ pub enum Key {
     Unit,
 }
 
-/// The keys of a node's settings. `link_key`, `heartbeat`, `volume_lines`, `volume_hours`, `renew_floor` and `alone` are
-/// read by a server that goes on for years, and passed over by all others: no value there is a reason to refuse settings.
-pub const KEYS: [Key; 16] = [
+/// The keys of a node's settings. `link_key`, `alone`, and those from `heartbeat` to `bind_to_port` are read by a server
+/// that goes on for years, and passed over by all others: no value there is a reason to refuse settings.
+pub const KEYS: [Key; 21] = [
     Key::Role,
     Key::Duid,
     Key::SkewMs,
@@ -48,6 +53,11 @@ pub const KEYS: [Key; 16] = [
     Key::VolumeLines,
     Key::VolumeHours,
     Key::RenewFloor,
+    Key::IasPerMessage,
+    Key::UnitsPerClient,
+    Key::UnitsPerPort,
+    Key::ClientRate,
+    Key::BindToPort,
     Key::Alone,
     Key::Pool,
 ];
@@ -75,6 +85,11 @@ impl Key {
             Key::VolumeLines => "volume_lines",
             Key::VolumeHours => "volume_hours",
             Key::RenewFloor => "renew_floor",
+            Key::IasPerMessage => "ias_per_message",
+            Key::UnitsPerClient => "units_per_client",
+            Key::UnitsPerPort => "units_per_port",
+            Key::ClientRate => "client_rate",
+            Key::BindToPort => "bind_to_port",
             Key::Alone => "alone",
             Key::Pool => "pool",
             Key::Prefix => "prefix",
