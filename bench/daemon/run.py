@@ -28,6 +28,8 @@ NODE = HERE.parent.parent / "crates" / "node_cli" / "out" / "node_cli"
 CLIENTS, RUNS, SINGLE, LINES, UNITS = 4_000, 5, 400, 200_000, 65_536
 PORT, LINK = 5479, 5481
 SERVER, SECOND = "00030001020000000009", "0003000102000000000a"
+# No quota and no rate: a few clients ask as fast as they can.
+UNLIMITED = "ias_per_message = 0\nunits_per_client = 0\nunits_per_port = 0\nclient_rate = 0\n"
 SETTINGS = f"""role = "primary"
 duid = "{SERVER}"
 skew_ms = 2000
@@ -53,7 +55,7 @@ def directory(folder):
     """A new directory of a server that is alone."""
     shutil.rmtree(folder, ignore_errors=True)
     folder.mkdir(parents=True)
-    (folder / "settings.toml").write_text("alone = true\nvolume_lines = 1000000\nrenew_floor = 0\n" + SETTINGS)
+    (folder / "settings.toml").write_text("alone = true\nvolume_lines = 1000000\nrenew_floor = 0\n" + UNLIMITED + SETTINGS)
     return folder
 
 
@@ -157,7 +159,7 @@ def pair(folder):
         own = folder / role
         directory(own)
         settings = SETTINGS.replace('role = "primary"', f'role = "{role}"').replace(str(PORT), str(listen)).replace(SERVER, number)
-        (own / "settings.toml").write_text(f'link = "127.0.0.1:{address}"\nlink_key = "none"\nvolume_lines = 1000000\n' + settings)
+        (own / "settings.toml").write_text(f'link = "127.0.0.1:{address}"\nlink_key = "none"\nvolume_lines = 1000000\n' + UNLIMITED + settings)
         both.append(own)
     return both
 

@@ -25,6 +25,8 @@ workers = 1
 heartbeat = 2
 volume_lines = {volume_lines}
 renew_floor = 0
+units_per_port = 0
+client_rate = 0
 [[pool]]
 prefix = "2001:db8::/49"
 unit = 56
