@@ -1,3 +1,5 @@
+mod SettingLines
 mod Edges
 mod LastLines
 pub mod Told
+mod ToldSettings

@@ -1,4 +1,5 @@
 pub mod Beginning
 pub mod End
 pub mod Outlining
+pub mod Settings
 pub mod Laws

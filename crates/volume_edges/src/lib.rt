@@ -6,6 +6,9 @@
 //! the end: then all of the file is to be read. Of a volume's text it makes the outline that all of the text would give
 //! ([`edges_tell_what_all_tells`]); of other octets it may make any, so who reads a chosen file whole asks again.
 //!
+//! [`settings_in`] tells what the first lines say of the server's settings, which are the same in all volumes of one
+//! server and of its partner, once a line stands behind them that says something else ([`beginnings_say_settings`]).
+//!
 //! ```text
 //! if is_headed(&beginning) {
 //!     let outline = outline_by(&beginning, &FileEnd { size, octets });
@@ -17,8 +20,10 @@ mod beginning;
 mod end;
 mod laws;
 mod outlining;
+mod settings;
 
 pub use beginning::is_headed;
 pub use end::FileEnd;
-pub use laws::edges_tell_what_all_tells;
+pub use laws::{beginnings_say_settings, edges_tell_what_all_tells};
 pub use outlining::{outline_by, outline_of};
+pub use settings::{Setting, are_same_settings, settings_in};
