@@ -1,3 +1,4 @@
 pub mod Listed
 pub mod Asked
+mod Tied
 pub mod AnyParts

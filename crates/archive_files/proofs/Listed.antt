@@ -1,6 +1,6 @@
 -- What was told of files, and one file more.
 use Rattle.std.specs.Prelude.{◌≡◌, ℕ, ◌+◌, ◌<◌, ◌⊎◌, List, [], ◌∷◌, ◌++◌, Some, slice_get, length}
-use Rattle.std.proofs.Common.{zero, suc, arith, sym, ◌∙◌, ap, subst, inl, inr, refl}
+use Rattle.std.proofs.Common.{zero, suc, arith, sym, ◌∙◌, subst, inl, inr, refl}
 use Rattle.std.proofs.lemmas.Bool.{cases_lt}
 use Rattle.binding_rules.specs.declared.role.Role.{Role}
 use Rattle.binding_rules.specs.declared.role.Role.TheVariants.{Primary, Secondary}

@@ -1,12 +1,15 @@
 //! What files are, and the archive of their volumes.
 
-ghost use Rattle.std.specs.Prelude.{IfOk};
+ghost use Rattle.std.specs.Prelude.{◌≡◌, ℕ, IfOk, IfErr};
+ghost use Rattle.archive_files.specs.declared.error.FilesError.TheVariants.{OtherPair};
 ghost use Rattle.archive_files.specs.Catalogues.{IsCatalogue};
 ghost use Rattle.archive_files.specs.Telling.{AreTold};
+ghost use Rattle.archive_files.specs.Ties.{AreTied, AreOfTwoPairs};
 
 use crate::error::FilesError;
 use crate::files::JournalFiles;
 use crate::found::{Found, look_at};
+use crate::ties::{Agreement, tie};
 use journal_archive::{Archive, Filed};
 use std::alloc::{AllocError, Global};
 
@@ -50,15 +53,25 @@ fn look_at_all<F: JournalFiles>(alloc: Global, files: &F) -> Result<Told, AllocE
     })
 }
 
-/// What the files are: the archive of those that are volumes, and what each other one is. `Archive` where their volumes
-/// can't be of one pair of servers, `Memory` where a growth was refused.
-pub fn catalogue_of<F: JournalFiles>(alloc: Global, files: &F) -> Result<Catalogue, FilesError>
-    ensures { IfOk result (IsCatalogue (F.had files.now) (F.files files.now)) }
+/// What the files are: the archive of those that are volumes, and what each other one is. `OtherPair` where two volumes
+/// that should agree say settings that differ, `Archive` where their volumes can't be of one pair of servers, `Changed`
+/// where a file can't be read again, `Memory` where a growth was refused.
+pub fn catalogue_of<F: JournalFiles>(
+    alloc: Global,
+    files: &F,
+    agreement: Agreement,
+) -> Result<Catalogue, FilesError>
+    ensures catalogue { IfOk result (IsCatalogue (F.had files.now) (F.files files.now)) }
+    ensures tied { IfOk result
+        (λ c. AreTied (F.had files.now) agreement c.archive.primary c.archive.secondary) }
+    ensures refused { IfErr result
+        (λ e. (first second : ℕ) → e ≡ OtherPair first second → AreOfTwoPairs (F.had files.now) first second) }
 {
     let Told {
         volumes,
         passed_over,
     } = look_at_all(alloc, files)?;
+    tie(alloc, files, &volumes, agreement)?;
     match Archive::new(alloc, &volumes) {
         Ok(archive) => Ok(Catalogue {
             archive,

@@ -14,6 +14,9 @@ pub enum FilesError {
     /// Their volumes can't be of one pair of servers.
     #[error("{0}")]
     Archive(ArchiveError),
+    /// The settings of these two files' servers differ, though they should be of one pair.
+    #[error("files {first} and {second} are of two pairs: their settings differ")]
+    OtherPair { first: usize, second: usize },
     /// This file couldn't be read again, or has another volume now.
     #[error("file {file} isn't what it was")]
     Changed { file: usize },

@@ -6,12 +6,15 @@
 //! file with another volume than its edges said is refused there. The contracts speak of octets that a file had when it was read
 //! (`had` of [`JournalFiles`]): a file that a server writes on may have others each time.
 //!
+//! All volumes of one server begin with the same settings, and so do its partner's where the two are set up alike: where
+//! they differ the files are of two pairs (`FilesError::OtherPair`). [`Agreement`] says whether the partner's are asked.
+//!
 //! Two files with one volume of a side count once where their outlines are the same: first and last reading, octets,
 //! and whether it's closed. Where these differ nothing is answered (`ArchiveError::Differ`): what stands between isn't
 //! compared.
 //!
 //! ```text
-//! let catalogue = catalogue_of(alloc, &files)?;
+//! let catalogue = catalogue_of(alloc, &files, Agreement::OfBoth)?;
 //! match shown_at(alloc, &files, &catalogue.archive, moment, skew, transit)? {
 //!     Shown::Journals(pair, shown) => .., // two closed journals, and which files they are of
 //!     Shown::Lacking(side, lack) => ..,
@@ -26,6 +29,7 @@ mod found;
 mod laws;
 mod reaching;
 mod showing;
+mod ties;
 
 pub use cataloguing::{Catalogue, PassedOver, catalogue_of};
 pub use error::FilesError;
@@ -34,4 +38,5 @@ pub use found::Found;
 pub use laws::what_is_shown_is_what_is_asked;
 pub use reaching::shown_until;
 pub use showing::{Shown, shown_at};
+pub use ties::Agreement;
 pub use volume_edges::FileEnd;
