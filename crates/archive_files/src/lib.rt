@@ -37,6 +37,6 @@ pub use files::{JournalFiles, Unreadable};
 pub use found::Found;
 pub use laws::what_is_shown_is_what_is_asked;
 pub use reaching::shown_until;
-pub use showing::{Shown, shown_at};
+pub use showing::{Shown, shown_at, shown_by};
 pub use ties::Agreement;
 pub use volume_edges::FileEnd;

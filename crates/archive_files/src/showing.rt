@@ -66,8 +66,13 @@ fn is_same(filed: &Outline, read: &Outline) -> bool
     filed.side == read.side && filed.number == read.number && filed.opened == read.opened
 }
 
-/// The journals that a pair of volumes shows, by what their files have now.
-fn shown_by<F: JournalFiles>(alloc: Global, files: &F, pair: &Pair) -> Result<ShownPair, FilesError>
+/// The journals that a pair of volumes shows, by what their files have now. The two are read whole: `Changed` where one
+/// isn't what the archive knows of it, `Faulty` where it's no journal, `Memory` where a growth was refused.
+pub fn shown_by<F: JournalFiles>(
+    alloc: Global,
+    files: &F,
+    pair: &Pair,
+) -> Result<ShownPair, FilesError>
     ensures shown { IfOk result (IsShown (F.had files.now) pair.now) }
     ensures closed { IfOk result AreClosed }
 {

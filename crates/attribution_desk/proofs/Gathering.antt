@@ -118,15 +118,22 @@ module _ (a b : Result Journal JournalFault) (rest : List ℕ) (skew transit : �
               AreRuled x b skew transit (texts_of claims) vs) (sym is_a) of_b,
         )
 
-    pub judged_by_both : (journal_b : Journal) (read : List Claim) (faults : List (Option CertificateFault))
-        (certificates : List Certificate) (audited vs : List Ruling) → b ≡ Ok journal_b
-        → texts_of read ≡ texts_of claims
-        → AreGathered (texts_of read) faults certificates
-        → AreRuledOn journal_a journal_b skew transit certificates audited → vs ≡ woven faults audited
-        → AreRulings a b rest skew transit vs
-    judged_by_both journal_b read faults certificates audited vs is_b same gathered judged all =
-        let both = all_woven journal_a journal_b skew transit (texts_of claims) faults certificates audited
-        (subst (λ (ts : List (List ℕ)). AreGathered ts faults certificates) same gathered) judged in
-        let of_a = subst₂ (λ (x : Result Journal JournalFault) (y : Result Journal JournalFault). AreRuled x y skew
-        transit (texts_of claims) (woven faults audited)) (sym is_a) (sym is_b) both in
-        (texts_of claims, texts, subst (AreRuled a b skew transit (texts_of claims)) (sym all) of_a)
+    pub ruled_by_both : (journal_b : Journal) (vs : List Ruling) → b ≡ Ok journal_b
+        → AreRuled (Ok journal_a) (Ok journal_b) skew transit (texts_of claims) vs → AreRulings a b rest skew transit vs
+    ruled_by_both journal_b vs is_b ruled = (
+      texts_of claims,
+      texts,
+      subst₂ (λ (x : Result Journal JournalFault) (y : Result Journal JournalFault). AreRuled x y skew transit
+          (texts_of claims) vs) (sym is_a) (sym is_b) ruled,
+    )
+
+-- what was read of texts, ruled on over two journals
+pub texts_ruled : (a b : Journal) (skew transit : ℕ) (claims read : List Claim)
+    (faults : List (Option CertificateFault)) (certificates : List Certificate) (audited vs : List Ruling)
+    → texts_of read ≡ texts_of claims → AreGathered (texts_of read) faults certificates
+    → AreRuledOn a b skew transit certificates audited → vs ≡ woven faults audited
+    → AreRuled (Ok a) (Ok b) skew transit (texts_of claims) vs
+texts_ruled a b skew transit claims read faults certificates audited vs same gathered judged all =
+    subst (AreRuled (Ok a) (Ok b) skew transit (texts_of claims)) (sym all)
+    (all_woven a b skew transit (texts_of claims) faults certificates audited
+    (subst (λ (ts : List (List ℕ)). AreGathered ts faults certificates) same gathered) judged)

@@ -11,3 +11,4 @@ pub mod Find
 pub mod Clocks
 pub mod Who
 pub mod Searching
+pub mod Laws

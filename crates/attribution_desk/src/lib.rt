@@ -2,8 +2,8 @@
 //!
 //! `order_of` gives the [`Order`] of the words (`desk_words`), `run` carries out its command between a reader and a
 //! writer, and `judge` answers an input that is at hand. The input is journal A, journal B and the certificate, one after
-//! the other (`desk_intake`). `search_pair`, `timeline_of` and `ruling_on_journals` answer over two journals that were
-//! read already. specs/Answer says what is answered, specs/Rulings what is ruled on texts, specs/Find, Who and Clocks
+//! the other (`desk_intake`). `search_pair`, `timeline_of`, `ruling_on_journals` and `rulings_on_claims` answer over two journals
+//! that were read already. specs/Answer says what is answered, specs/Rulings what is ruled on texts, specs/Find, Who and Clocks
 //! what searches answer.
 //!
 //! ```text
@@ -20,6 +20,7 @@ mod certificates;
 mod clocks;
 mod holding;
 mod judging;
+mod laws;
 mod outcome;
 mod reading_again;
 mod running;
@@ -28,10 +29,12 @@ mod timelines;
 
 pub use answer::Answer;
 pub use audit::judge;
+pub use batch::rulings_on_claims;
 pub use certificates::{Claim, texts_in};
 pub use desk_intake::{DeskError, Watched};
 pub use desk_words::{Command, Order, Source, UsageError, order_of};
 pub use judging::ruling_on_journals;
+pub use laws::accepted_rulings_are_true;
 pub use outcome::Outcome;
 pub use running::run;
 pub use searching::{Search, Searched, search_pair};

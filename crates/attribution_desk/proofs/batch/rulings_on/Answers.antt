@@ -1,7 +1,7 @@
 use Rattle.std.proofs.Common.{rules, ◌≡◌, ◌∙◌, ap, subst}
 use Rattle.std.proofs.Math.Path.{subst₂}
 use Rattle.attribution_desk.specs.Claims.{texts_of, AreRuledOn, woven}
-use Rattle.attribution_desk.proofs.Gathering.{refused_by_a, refused_by_b, judged_by_both, written_over}
+use Rattle.attribution_desk.proofs.Gathering.{refused_by_a, refused_by_b, ruled_by_both}
 use Rattle.attribution_desk.proofs.batch.rulings_on.Goals as goal
 
 pub returns-in-Err-clause-rulings : goal.returns-in-Err-clause-rulings
@@ -20,13 +20,6 @@ returns-in-Err-b-clause-rulings g c =
 
 pub returns-clause-rulings : goal.returns-clause-rulings
 returns-clause-rulings g c =
-    judged_by_both c.args.a c.args.b c.args.rest.now c.args.skew c.args.transit c.in_ok-claims.claims.items
-    c.in_ok-claims.ensures c.in-Ok.journal c.in-Ok.is
-    c.in-Ok-b.journal _ c.in_ok-found.found.faults.items c.in_ok-found.found.certificates.items
-    c.in_ok-rulings.rulings.items c.in_ok-woven.field-0.items c.in-Ok-b.is
-    (written_over c.read_all.new.claims c.in_ok-claims.claims.items _ c.in_ok-claims.claims.len (search rules)
-    (c.read_all.ensures.texts ∙ ap (λ cs. texts_of cs) c.deref_mut.ensures.value)) c.in_ok-found.ensures
-    (subst (λ cs. AreRuledOn c.in-Ok.journal c.in-Ok-b.journal c.args.skew c.args.transit cs
-    c.in_ok-rulings.rulings.items) c.deref.ensures.value c.in_ok-rulings.ensures.rulings)
-    (subst₂ (λ fs vs. c.in_ok-woven.field-0.items ≡ woven fs vs) c.deref-2.ensures.value c.deref-3.ensures.value
-    c.in_ok-woven.ensures)
+    ruled_by_both c.args.a c.args.b c.args.rest.now c.args.skew c.args.transit c.in_ok-claims.claims.items
+    c.in_ok-claims.ensures c.in-Ok.journal c.in-Ok.is c.in-Ok-b.journal c.in_ok-rulings.rulings.items c.in-Ok-b.is
+    c.in_ok-rulings.ensures.rulings
