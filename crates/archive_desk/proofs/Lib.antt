@@ -1,2 +1,4 @@
 pub mod Dropping
 pub mod OneMore
+mod Pendings
+mod Saying

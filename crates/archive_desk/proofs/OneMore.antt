@@ -30,15 +30,3 @@ one_stretch had names archive q spans i s before mid after reply asked lt at e i
       more,
       rest,
     )
-
-pub one_claim : {A : Type 0} (had : ℕ → List ℕ → Type 0) (names : List (PathBuf A)) (archive : Archive)
-    (skew transit : ℕ) (claims : List Claim) (i : ℕ) (c : Claim) (before mid after : Said) (judged : Judged)
-    → i < length claims → c ≡ get_or claims i c
-    → IsJudged had archive skew transit (certificate_of c.text.now) judged
-    → AcceptedClaimIsTrue had skew transit (certificate_of c.text.now) judged
-    → IsJudgedMore names judged before mid
-    → AreJudged had names archive skew transit (drop (i + 1) claims) mid after
-    → AreJudged had names archive skew transit (drop i claims) before after
-one_claim had names archive skew transit claims i c before mid after judged lt at is truth more rest =
-    subst (λ (cs : List Claim). AreJudged had names archive skew transit cs before after)
-    (sym (drop_more claims i c lt at)) (judged, mid, is, truth, more, rest)

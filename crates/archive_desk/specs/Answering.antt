@@ -4,6 +4,11 @@ use Rattle.std.specs.declared.path.buf.PathBuf.{PathBuf}
 use Rattle.journal_archive.specs.declared.archive.Archive.{Archive}
 use Rattle.archive_files.specs.declared.cataloguing.Catalogue.{Catalogue}
 use Rattle.archive_files.specs.Catalogues.{IsCatalogue}
+use Rattle.archive_files.specs.declared.ties.Agreement.{Agreement}
+use Rattle.archive_files.specs.declared.ties.Agreement.TheVariants.{OfBoth, OfEach}
+use Rattle.archive_files.specs.Ties.{AreTied}
+use Rattle.desk_words.specs.declared.settings.Settings.{Settings}
+use Rattle.desk_words.specs.declared.settings.Settings.TheVariants.{MustAgree, MayDiffer}
 use Rattle.archive_desk.specs.declared.answering.Question.{Question}
 use Rattle.archive_desk.specs.declared.answering.Question.TheVariants.{Who, Find, Timeline, Audit, Batch}
 use Rattle.archive_desk.specs.declared.telling.Told.{Told}
@@ -12,6 +17,16 @@ use Rattle.archive_desk.specs.Stretches.{IsFindTold}
 use Rattle.archive_desk.specs.Newest.{IsTimelineTold}
 use Rattle.archive_desk.specs.Certificates.{IsAuditTold, IsBatchTold}
 
+-- a name is given where the settings of all volumes agree, unless the two servers' may differ
+abbrev pub agreement_for : Settings → Agreement
+agreement_for MustAgree = OfBoth
+agreement_for MayDiffer = OfEach
+
+-- which volumes' settings agree wherever the question is answered
+abbrev pub agreement_of : Question → Agreement
+agreement_of (Who q settings) = agreement_for settings
+agreement_of _ = OfEach
+
 -- by the volumes of an archive
 abbrev pub IsAnswerOver : {A : Type 0} → (had : ℕ → List ℕ → Type 0) → List (PathBuf A) → Archive → Question → Told
     → Type 0
@@ -19,7 +34,7 @@ IsAnswerOver had names archive (Who q settings) told = IsWhoTold had names archi
 IsAnswerOver had names archive (Find q) told = IsFindTold had names archive q told
 IsAnswerOver had names archive Timeline told = IsTimelineTold had names archive told
 IsAnswerOver had names archive (Audit text skew transit) told = IsAuditTold had names archive text.now skew transit told
-IsAnswerOver had names archive (Batch texts skew transit) told =
+IsAnswerOver had names archive (Batch texts skew transit workers) told =
     IsBatchTold had names archive texts.now skew transit told
 
 -- by the volumes that so many files are; standard error has something in front of that, of the other files
@@ -27,6 +42,7 @@ pub record IsAnswer {A : Type 0} (had : ℕ → List ℕ → Type 0) (count : �
     (told : Told) : Type 0 where
   pub catalogue : Catalogue
   pub is_catalogue : IsCatalogue had count catalogue
+  pub tied : AreTied had (agreement_of q) catalogue.archive.primary catalogue.archive.secondary
   pub answer : Told
   pub is_answer : IsAnswerOver had names catalogue.archive q answer
   pub text : told.text ≡ answer.text

@@ -5,10 +5,10 @@ use Rattle.certificate.specs.Faults.{certificate_of}
 use Rattle.pair_ruling.specs.Ruling.{ruling_line, status_of as ruling_status}
 use Rattle.journal_archive.specs.declared.archive.Archive.{Archive}
 use Rattle.attribution_desk.specs.Batch.{AreTexts}
-use Rattle.attribution_desk.specs.Claims.{texts_of}
-use Rattle.attribution_desk.specs.declared.certificates.Claim.{Claim}
 use Rattle.archive_desk.specs.declared.judging.Judged.{Judged}
 use Rattle.archive_desk.specs.declared.judging.Judged.TheVariants.{Ruled, Faulty, Lacking}
+use Rattle.archive_desk.specs.declared.waiting.Pending.TheVariants.{Judged as IsJudgedAs}
+use Rattle.archive_desk.specs.declared.waiting.Waiting.{Waiting as WaitingValue}
 use Rattle.archive_desk.specs.declared.telling.Told.{Told}
 use Rattle.archive_desk.specs.Names.{journals_line}
 use Rattle.archive_desk.specs.Lacks.{BeginsWith, lack_front}
@@ -40,25 +40,31 @@ pub record IsJudgedMore {A : Type 0} (names : List (PathBuf A)) (judged : Judged
   pub is_noted : IsNotedOf names judged noted
   pub notes : after.notes ≡ before.notes ++ noted
 
+-- For bodies only: each of those that were judged is told of, one behind the other.
+abbrev pub AreSaid : {A : Type 0} → List (PathBuf A) → List WaitingValue → (before after : Said) → Type 0
+AreSaid names [] before after = after ≡ before
+AreSaid names (w ∷ ws) before after =
+    (judged : Judged) × (mid : Said) × (w.pending ≡ IsJudgedAs judged) × IsJudgedMore names judged before mid
+    × AreSaid names ws mid after
+
 -- each is judged, and what is accepted is true; they are told of one behind the other
 abbrev pub AreJudged : {A : Type 0} → (had : ℕ → List ℕ → Type 0) → List (PathBuf A) → Archive → (skew transit : ℕ)
-    → List Claim → (before after : Said) → Type 0
+    → (texts : List (List ℕ)) → (before after : Said) → Type 0
 AreJudged had names archive skew transit [] before after = after ≡ before
-AreJudged had names archive skew transit (c ∷ cs) before after =
-    (judged : Judged) × (mid : Said) × IsJudged had archive skew transit (certificate_of c.text.now) judged
-    × AcceptedClaimIsTrue had skew transit (certificate_of c.text.now) judged
-    × IsJudgedMore names judged before mid × AreJudged had names archive skew transit cs mid after
+AreJudged had names archive skew transit (text ∷ texts) before after =
+    (judged : Judged) × (mid : Said) × IsJudged had archive skew transit (certificate_of text) judged
+    × AcceptedClaimIsTrue had skew transit (certificate_of text) judged
+    × IsJudgedMore names judged before mid × AreJudged had names archive skew transit texts mid after
 
 -- a file's one certificate
 abbrev pub IsAuditTold : {A : Type 0} → (had : ℕ → List ℕ → Type 0) → List (PathBuf A) → Archive → List ℕ
     → (skew transit : ℕ) → Told → Type 0
 IsAuditTold had names archive text skew transit told =
-    (claims : List Claim) × (texts_of claims ≡ text ∷ [])
-    × AreJudged had names archive skew transit claims nothing (said_of told)
+    AreJudged had names archive skew transit (text ∷ []) nothing (said_of told)
 
 -- a file's certificates, one after another
 abbrev pub IsBatchTold : {A : Type 0} → (had : ℕ → List ℕ → Type 0) → List (PathBuf A) → Archive → List ℕ
     → (skew transit : ℕ) → Told → Type 0
 IsBatchTold had names archive rest skew transit told =
-    (claims : List Claim) × AreTexts rest (texts_of claims)
-    × AreJudged had names archive skew transit claims nothing (said_of told)
+    (texts : List (List ℕ)) × AreTexts rest texts
+    × AreJudged had names archive skew transit texts nothing (said_of told)

@@ -21,8 +21,13 @@ refusal_words names Memory = codes "fault Memory"
 abbrev pub refusal_line : {A : Type 0} → List (PathBuf A) → ArchiveError → List ℕ
 refusal_line names error = refusal_words names error ++ 10 ∷ []
 
--- standard output says so, and nothing else is said
-pub record IsRefusal {A : Type 0} (names : List (PathBuf A)) (error : ArchiveError) (told : Told) : Type 0 where
-  pub text : told.text.items ≡ refusal_line names error
+-- two files whose servers' settings differ
+abbrev pub other_pair_line : {A : Type 0} → List (PathBuf A) → (first second : ℕ) → List ℕ
+other_pair_line names first second =
+    codes "refused V4 OtherPair" ++ (file_word names first ++ (file_word names second ++ 10 ∷ []))
+
+-- standard output says this line, and nothing else is said
+pub record IsRefusal (line : List ℕ) (told : Told) : Type 0 where
+  pub text : told.text.items ≡ line
   pub status : told.status ≡ 1
   pub quiet : told.notes.items ≡ []

@@ -8,12 +8,14 @@ use Rattle.attribution.specs.declared.verdict.Verdict.TheVariants.{Accepted, Cer
 use Rattle.attribution.specs.Snapshot.{IsTrueInRunsThatBeginSo}
 use Rattle.pair_ruling.specs.declared.ruling.Ruling.{Ruling}
 use Rattle.pair_ruling.specs.declared.ruling.Ruling.TheVariants.{Verdict}
+use Rattle.journal_archive.specs.declared.answer.Pair.{Pair}
 use Rattle.journal_archive.specs.declared.archive.Archive.{Archive}
 use Rattle.journal_copy.specs.declared.pair.ShownPair.{ShownPair}
 use Rattle.journal_copy.specs.Shown.{read_of}
-use Rattle.archive_files.specs.Showing.{IsCopyOf, IsShownAt}
+use Rattle.archive_files.specs.Showing.{IsCopyOf, IsShown, IsShownAt, AreClosed}
 use Rattle.archive_files.specs.declared.showing.Shown.TheVariants.{Journals as ShownJournals, Lacking as ShownLacking}
 use Rattle.attribution_desk.specs.Rulings.{IsRulingOfJournals}
+use Rattle.attribution_desk.specs.Batch.{AreRuled}
 use Rattle.archive_desk.specs.declared.judging.Judged.{Judged}
 use Rattle.archive_desk.specs.declared.judging.Judged.TheVariants.{Ruled, Faulty, Lacking}
 
@@ -53,3 +55,16 @@ abbrev pub AcceptedClaimIsTrue : (had : ℕ → List ℕ → Type 0) → (skew t
     → Judged → Type 0
 AcceptedClaimIsTrue had skew transit (Ok claim) judged = AcceptedIsTrue had skew transit claim judged
 AcceptedClaimIsTrue had skew transit (Err fault) judged = ⊤
+
+-- ---- many certificates over one pair of volumes
+
+-- on each of their texts its ruling, over two journals
+abbrev pub IsRuledByShown : ShownPair → (skew transit : ℕ) → List (List ℕ) → List Ruling → Type 0
+IsRuledByShown shown skew transit texts rulings =
+    AreRuled (Ok shown.primary) (Ok shown.secondary) skew transit texts rulings
+
+-- over the journals that the two volumes show
+abbrev pub AreRuledOver : (had : ℕ → List ℕ → Type 0) → Pair → (skew transit : ℕ) → List (List ℕ) → List Ruling
+    → Type 0
+AreRuledOver had pair skew transit texts rulings =
+    (shown : ShownPair) × IsShown had pair shown × AreClosed shown × IsRuledByShown shown skew transit texts rulings

@@ -6,6 +6,7 @@ pub mod Who
 pub mod Stretches
 pub mod Newest
 pub mod Judging
+pub mod Waiting
 pub mod Certificates
 pub mod Answering
 pub mod Failing

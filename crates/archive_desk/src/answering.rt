@@ -1,21 +1,23 @@
 //! Answering a question over files.
 
 ghost use Rattle.std.specs.Prelude.{◌≡◌, ◌++◌, IfOk};
-ghost use Rattle.archive_desk.specs.Answering.{IsAnswerOver, IsAnswer};
+ghost use Rattle.archive_desk.specs.Answering.{agreement_for, agreement_of, IsAnswerOver, IsAnswer};
 
 use crate::certificates::{audit, batch};
 use crate::holding::who;
+use crate::lacks::Bounds;
 use crate::newest::timeline;
 use crate::passing::passed_over;
 use crate::stretches::find;
 use crate::telling::Told;
-use archive_files::{FilesError, JournalFiles, catalogue_of};
-use desk_words::Settings;
+use archive_files::{Agreement, FilesError, JournalFiles, catalogue_of};
+use desk_words::{Settings, Workers};
 use evidence_search::{HolderQuery, Query};
 use journal_archive::Archive;
 use lead_time::{Skew, Transit};
 use std::alloc::Global;
 use std::path::PathBuf;
+use std::sync::Wait;
 use std::thread::Threads;
 
 /// What is asked over files.
@@ -29,13 +31,34 @@ pub enum Question<'a> {
     Timeline,
     /// The verdict on a text's one certificate.
     Audit(&'a [u8], Skew, Transit),
-    /// The verdicts on the certificates of a text, one after another.
-    Batch(&'a [u8], Skew, Transit),
+    /// The verdicts on the certificates of a text, one after another, by so many workers.
+    Batch(&'a [u8], Skew, Transit, Workers),
+}
+
+/// A name is given where the settings of all volumes agree, unless whoever asks knows that the two servers' differ.
+fn agreement_for(settings: Settings) -> Agreement
+    ensures { result ≡ agreement_for settings }
+{
+    match settings {
+        Settings::MustAgree => Agreement::OfBoth,
+        Settings::MayDiffer => Agreement::OfEach,
+    }
+}
+
+/// Which volumes' settings must agree before a question is asked. Where evidence is asked for, a warning tells whether
+/// the two servers' do (K2).
+fn agreement_of(question: &Question) -> Agreement
+    ensures { result ≡ agreement_of question.now }
+{
+    match question {
+        Question::Who(_, settings) => agreement_for(*settings),
+        _ => Agreement::OfEach,
+    }
 }
 
 /// The answer over the volumes of an archive.
 fn answer_over<F: JournalFiles>(
-    rt: &(impl Threads + Sync),
+    rt: &(impl Threads + Wait + Sync),
     alloc: Global,
     files: &F,
     names: &[PathBuf],
@@ -49,19 +72,27 @@ fn answer_over<F: JournalFiles>(
         Question::Find(query) => find(rt, alloc, files, names, archive, query),
         Question::Timeline => timeline(alloc, files, names, archive),
         Question::Audit(text, skew, transit) => {
-            audit(rt, alloc, files, names, archive, text, *skew, *transit)
+            let bounds = Bounds {
+                skew: *skew,
+                transit: *transit,
+            };
+            audit(rt, alloc, files, names, archive, text, &bounds)
         }
-        Question::Batch(texts, skew, transit) => {
-            batch(rt, alloc, files, names, archive, texts, *skew, *transit)
+        Question::Batch(texts, skew, transit, workers) => {
+            let bounds = Bounds {
+                skew: *skew,
+                transit: *transit,
+            };
+            batch(rt, alloc, files, names, archive, texts, &bounds, *workers)
         }
     }
 }
 
 /// Answers a question over the volumes that the files are; standard error says first which files are passed over.
-/// `Archive` where the volumes can't be of one pair of servers, `Changed` or `Faulty` where a file isn't any longer what
-/// it was when it was looked at, `Memory` where a growth was refused.
+/// `OtherPair` or `Archive` where the volumes can't be of one pair of servers, `Changed` or `Faulty` where a file isn't
+/// any longer what it was when it was looked at, `Memory` where a growth was refused.
 pub fn answer<F: JournalFiles>(
-    rt: &(impl Threads + Sync),
+    rt: &(impl Threads + Wait + Sync),
     alloc: Global,
     files: &F,
     names: &[PathBuf],
@@ -69,7 +100,7 @@ pub fn answer<F: JournalFiles>(
 ) -> Result<Told, FilesError>
     ensures { IfOk result (IsAnswer (F.had files.now) (F.files files.now) names.now question.now) }
 {
-    let catalogue = catalogue_of(alloc, files)?;
+    let catalogue = catalogue_of(alloc, files, agreement_of(question))?;
     let mut notes = passed_over(alloc, names, &catalogue.passed_over)?;
     let told = answer_over(rt, alloc, files, names, &catalogue.archive, question)?;
     notes.extend_from_slice(&told.notes)?;

@@ -1,21 +1,24 @@
 //! Certificates out of a file, judged over the journals of others.
 
-ghost use Rattle.std.specs.Prelude.{◌≡◌, ◌++◌, ◌∷◌, [], IfOk, OnOk};
-ghost use Rattle.archive_desk.specs.Certificates.{line_of, status_of, IsNotedOf, IsJudgedMore, AreJudged};
+ghost use Rattle.std.specs.Prelude.{◌≡◌, ◌++◌, IfOk, OnOk};
+ghost use Rattle.attribution_desk.specs.Claims.{texts_of};
+ghost use Rattle.archive_desk.specs.Certificates.{line_of, status_of, IsNotedOf, IsJudgedMore, AreSaid, AreJudged};
 ghost use Rattle.archive_desk.specs.Certificates.{IsAuditTold, IsBatchTold};
 ghost use Rattle.archive_desk.specs.Telling.{said_of, nothing};
 
-use crate::judging::{Judged, judge};
+use crate::judging::{Judged, judge_all};
 use crate::lacks::{Bounds, lack_line, push_lack};
 use crate::names::push_journals;
 use crate::telling::Told;
+use crate::waiting::{Pending, Waiting};
 use archive_files::{FilesError, JournalFiles};
 use attribution_desk::{Claim, texts_in};
+use desk_words::Workers;
 use journal_archive::Archive;
-use lead_time::{Skew, Transit};
 use pair_ruling::{ruling_line, status_of};
 use std::alloc::{AllocError, Global};
 use std::path::PathBuf;
+use std::sync::Wait;
 use std::thread::Threads;
 
 impl Judged {
@@ -87,62 +90,83 @@ impl Told {
     }
 }
 
-/// Judges each of the certificates, and tells of one behind the other.
-fn told_of<F: JournalFiles>(
-    rt: &(impl Threads + Sync),
+/// Tells of judged certificates, one behind the other.
+fn told_of(
+    alloc: Global,
+    names: &[PathBuf],
+    waiting: &[Waiting],
+    bounds: &Bounds,
+) -> Result<Told, FilesError>
+    ensures { IfOk result (λ told. AreSaid names.now waiting.now nothing (said_of told)) }
+{
+    let mut told = Told::nothing(alloc);
+    for one in waiting {
+        // (none waits any longer)
+        let Pending::Judged(judged) = &one.pending else {
+            return Err(FilesError::Memory);
+        };
+        told.tell_judged(alloc, names, judged, bounds)?;
+    }
+    Ok(told)
+}
+
+/// Judges certificates, and tells of one behind the other.
+fn judged_told<F: JournalFiles>(
+    rt: &(impl Threads + Wait + Sync),
     alloc: Global,
     files: &F,
     names: &[PathBuf],
     archive: &Archive,
     claims: &[Claim],
-    skew: Skew,
-    transit: Transit,
+    bounds: &Bounds,
+    workers: Workers,
 ) -> Result<Told, FilesError>
-    ensures { IfOk result (λ told. AreJudged (F.had files.now) names.now archive.now skew transit claims.now nothing
-        (said_of told)) }
+    ensures { IfOk result (λ told. AreJudged (F.had files.now) names.now archive.now bounds.now.skew bounds.now.transit
+        (texts_of claims.now) nothing (said_of told)) }
 {
-    let bounds = Bounds { skew, transit };
-    let mut told = Told::nothing(alloc);
-    for claim in claims {
-        let judged = judge(rt, alloc, files, archive, claim.text, skew, transit)?;
-        told.tell_judged(alloc, names, &judged, &bounds)?;
-    }
+    let waiting = judge_all(rt, alloc, files, archive, claims, bounds, workers)?;
+    let told = told_of(alloc, names, &waiting, bounds)?;
     Ok(told)
 }
 
 /// The verdict on a file's one certificate. `Changed` or `Faulty` where a file isn't what the archive knows of it,
 /// `Memory` where a growth was refused.
 pub(crate) fn audit<F: JournalFiles>(
-    rt: &(impl Threads + Sync),
+    rt: &(impl Threads + Wait + Sync),
     alloc: Global,
     files: &F,
     names: &[PathBuf],
     archive: &Archive,
     text: &[u8],
-    skew: Skew,
-    transit: Transit,
+    bounds: &Bounds,
 ) -> Result<Told, FilesError>
-    ensures { IfOk result (IsAuditTold (F.had files.now) names.now archive.now text.now skew transit) }
+    ensures { IfOk result
+        (IsAuditTold (F.had files.now) names.now archive.now text.now bounds.now.skew bounds.now.transit) }
 {
+    // (one is a count of workers)
+    let Some(alone) = Workers::new(1) else {
+        return Err(FilesError::Memory);
+    };
     let claims = [Claim { text, parsed: None }];
-    let told = told_of(rt, alloc, files, names, archive, &claims, skew, transit)?;
+    let told = judged_told(rt, alloc, files, names, archive, &claims, bounds, alone)?;
     Ok(told)
 }
 
-/// The verdicts on a file's certificates, one after another.
+/// The verdicts on a file's certificates, one after another, by so many workers.
 pub(crate) fn batch<F: JournalFiles>(
-    rt: &(impl Threads + Sync),
+    rt: &(impl Threads + Wait + Sync),
     alloc: Global,
     files: &F,
     names: &[PathBuf],
     archive: &Archive,
     texts: &[u8],
-    skew: Skew,
-    transit: Transit,
+    bounds: &Bounds,
+    workers: Workers,
 ) -> Result<Told, FilesError>
-    ensures { IfOk result (IsBatchTold (F.had files.now) names.now archive.now texts.now skew transit) }
+    ensures { IfOk result
+        (IsBatchTold (F.had files.now) names.now archive.now texts.now bounds.now.skew bounds.now.transit) }
 {
     let claims = texts_in(alloc, texts)?;
-    let told = told_of(rt, alloc, files, names, archive, &claims, skew, transit)?;
+    let told = judged_told(rt, alloc, files, names, archive, &claims, bounds, workers)?;
     Ok(told)
 }

@@ -1,7 +1,7 @@
 //! Why files answer nothing, in words.
 
 ghost use Rattle.std.specs.Prelude.{◌≡◌, ◌++◌, OnOk, IfOk};
-ghost use Rattle.archive_desk.specs.Failing.{file_word, refusal_line, IsRefusal};
+ghost use Rattle.archive_desk.specs.Failing.{file_word, refusal_line, other_pair_line, IsRefusal};
 
 use crate::names::name_of;
 use crate::telling::Told;
@@ -50,10 +50,31 @@ fn push_refusal(
 
 /// What is told where files can't be of one pair of servers: standard output says why, by name, and the status is 1.
 fn refused(alloc: Global, names: &[PathBuf], error: &ArchiveError) -> Result<Told, AllocError>
-    ensures { IfOk result (IsRefusal names.now error.now) }
+    ensures { IfOk result (IsRefusal (refusal_line names.now error.now)) }
 {
     let mut text = Vec::new(alloc);
     push_refusal(&mut text, names, error)?;
+    Ok(Told {
+        text,
+        status: 1,
+        notes: Vec::new(alloc),
+    })
+}
+
+/// What is told where the settings of two files' servers differ.
+fn of_two_pairs(
+    alloc: Global,
+    names: &[PathBuf],
+    first: usize,
+    second: usize,
+) -> Result<Told, AllocError>
+    ensures { IfOk result (IsRefusal (other_pair_line names.now first second)) }
+{
+    let mut text = Vec::new(alloc);
+    text.extend_from_slice(b"refused V4 OtherPair")?;
+    push_file(&mut text, names, first)?;
+    push_file(&mut text, names, second)?;
+    text.push(b'\n')?;
     Ok(Told {
         text,
         status: 1,
@@ -75,7 +96,9 @@ fn faulty(alloc: Global, names: &[PathBuf], error: &FilesError) -> Result<Told, 
             let words = format!(in alloc; ": {fault}")?;
             notes.extend_from_slice(words.as_bytes())?;
         }
-        FilesError::Archive(_) | FilesError::Memory => notes.extend_from_slice(b"fault Memory")?,
+        FilesError::Archive(_) | FilesError::OtherPair { .. } | FilesError::Memory => {
+            notes.extend_from_slice(b"fault Memory")?
+        }
     }
     notes.push(b'\n')?;
     Ok(Told {
@@ -91,6 +114,7 @@ pub fn failure(alloc: Global, names: &[PathBuf], error: &FilesError) -> Result<T
     match error {
         FilesError::Archive(ArchiveError::Memory) => faulty(alloc, names, error),
         FilesError::Archive(refusal) => refused(alloc, names, refusal),
+        FilesError::OtherPair { first, second } => of_two_pairs(alloc, names, *first, *second),
         _ => faulty(alloc, names, error),
     }
 }

@@ -1,26 +1,23 @@
-//! A certificate, judged over the pair of volumes that shows where its interval begins.
+//! Certificates, judged over the pair of volumes that shows where their interval begins.
 
-ghost use Rattle.std.specs.Prelude.{◌≡◌, IfOk};
-ghost use Rattle.causal_order.specs.Journals.{Journals, journals_of};
-ghost use Rattle.attribution.specs.Snapshot.{snapshots, IsTrueInRunsThatBeginSo};
-ghost use Rattle.attribution_desk.specs.Rulings.{IsRulingOfJournals};
-ghost use Rattle.certificate.specs.Faults.{certificate_of};
-ghost use Rattle.volume_heads.specs.NextHead.{AreLegal};
+ghost use Rattle.std.specs.Prelude.{◌≡◌, IfOk, OnOk};
+ghost use Rattle.attribution_desk.specs.Claims.{texts_of};
 ghost use Rattle.archive_files.specs.Showing.{AreClosed};
-ghost use Rattle.archive_desk.specs.Judging.{IsJudgedAt, IsJudged, AcceptedIsTrue, AcceptedClaimIsTrue};
+ghost use Rattle.archive_desk.specs.Waiting.{AreWaiting, texts_waiting};
+ghost use Rattle.archive_desk.specs.Judging.{IsRuledByShown, AreRuledOver};
 
 use crate::asking::has_lines;
-use archive_files::{FilesError, JournalFiles, Shown, shown_at};
-use attribution::Verdict;
-use attribution_desk::ruling_on_journals;
+use crate::lacks::Bounds;
+use crate::waiting::{Pending, Waiting, claims_of, members_of, waiting_of};
+use archive_files::{FilesError, JournalFiles, shown_by};
+use attribution_desk::{Claim, accepted_rulings_are_true, rulings_on_claims};
 use binding_rules::Role;
-use certificate::CertificateError;
-use claims::Certificate;
+use desk_words::Workers;
 use journal_archive::{Archive, Lack, Pair};
 use journal_copy::{ShownPair, shown_pairs_are_snapshots};
-use lead_time::{Skew, Transit};
 use pair_ruling::Ruling;
 use std::alloc::Global;
+use std::sync::Wait;
 use std::thread::Threads;
 
 /// What files answer to a certificate.
@@ -34,22 +31,19 @@ pub enum Judged {
     Lacking(Role, Lack),
 }
 
-/// The ruling over the journals that two volumes show. `Changed` where one of them has no line any longer.
-fn ruling_over(
-    rt: &(impl Threads + Sync),
+/// The rulings over the journals that two volumes show. `Changed` where one of them has no line any longer.
+fn rulings_by(
+    rt: &(impl Threads + Wait + Sync),
     alloc: Global,
     pair: &Pair,
     shown: &ShownPair,
-    claim: &Certificate,
-    skew: Skew,
-    transit: Transit,
-) -> Result<Ruling, FilesError>
+    claims: Vec<Claim>,
+    bounds: &Bounds,
+    workers: Workers,
+) -> Result<Vec<Ruling>, FilesError>
     requires { AreClosed shown.now }
-    ensures ruling { IfOk result
-        (IsRulingOfJournals shown.now.primary shown.now.secondary skew transit claim.now) }
-    ensures truth { IfOk result (λ r. r ≡ Ruling.Verdict Verdict.Accepted → (read : Journals)
-        → journals_of shown.now.primary shown.now.secondary ≡ snapshots read
-        → IsTrueInRunsThatBeginSo AreLegal read skew transit claim.now) }
+    ensures { IfOk result (λ rs. IsRuledByShown shown.now bounds.now.skew bounds.now.transit
+        (texts_of claims.entry.items) rs.items) }
 {
     if !has_lines(&shown.primary) {
         return Err(FilesError::Changed {
@@ -61,65 +55,97 @@ fn ruling_over(
             file: pair.secondary.file,
         });
     }
-    match ruling_on_journals(
+    match rulings_on_claims(
         rt,
         alloc,
         &shown.primary,
         &shown.secondary,
-        claim,
-        skew,
-        transit,
+        claims,
+        bounds.skew,
+        bounds.transit,
+        workers,
     ) {
-        Ok(ruling) => Ok(ruling),
+        Ok(rulings) => Ok(rulings),
         Err(_) => Err(FilesError::Memory),
     }
 }
 
-/// What the files answer to a certificate that was read.
-fn judge_claim<F: JournalFiles>(
-    rt: &(impl Threads + Sync),
+/// Reads a pair of volumes and rules on certificates over them.
+fn rulings_over<F: JournalFiles>(
+    rt: &(impl Threads + Wait + Sync),
     alloc: Global,
     files: &F,
-    archive: &Archive,
-    claim: &Certificate,
-    skew: Skew,
-    transit: Transit,
-) -> Result<Judged, FilesError>
-    ensures judged { IfOk result (IsJudgedAt (F.had files.now) archive.now skew transit claim.now) }
-    ensures truth { IfOk result (AcceptedIsTrue (F.had files.now) skew transit claim.now) }
+    pair: &Pair,
+    claims: Vec<Claim>,
+    bounds: &Bounds,
+    workers: Workers,
+) -> Result<Vec<Ruling>, FilesError>
+    ensures { IfOk result (λ rs. AreRuledOver (F.had files.now) pair.now bounds.now.skew bounds.now.transit
+        (texts_of claims.entry.items) rs.items) }
 {
-    shown_pairs_are_snapshots();
-    let from = claim.from.milliseconds();
-    match shown_at(alloc, files, archive, from, skew, transit)? {
-        Shown::Journals(pair, shown) => {
-            let ruling = ruling_over(rt, alloc, &pair, &shown, claim, skew, transit)?;
-            Ok(Judged::Ruled(pair, ruling))
-        }
-        Shown::Lacking(side, lack) => Ok(Judged::Lacking(side, lack)),
-    }
+    let shown = shown_by(alloc, files, pair)?;
+    let rulings = rulings_by(rt, alloc, pair, &shown, claims, bounds, workers)?;
+    Ok(rulings)
 }
 
-/// What the files answer to a certificate's text. `Changed` or `Faulty` where a file isn't what the archive knows of it,
-/// `Memory` where a growth was refused.
-pub fn judge<F: JournalFiles>(
-    rt: &(impl Threads + Sync),
+/// Judges those of the certificates that a pair of volumes shows, which is read once.
+fn judge_shown<F: JournalFiles>(
+    rt: &(impl Threads + Wait + Sync),
     alloc: Global,
     files: &F,
     archive: &Archive,
-    text: &[u8],
-    skew: Skew,
-    transit: Transit,
-) -> Result<Judged, FilesError>
-    ensures judged { IfOk result
-        (IsJudged (F.had files.now) archive.now skew transit (certificate_of text.now)) }
-    // What is accepted is true in every run in which each of the two volumes begins with what its file had.
-    ensures truth { IfOk result (AcceptedClaimIsTrue (F.had files.now) skew transit (certificate_of text.now)) }
+    waiting: &mut [Waiting],
+    pair: &Pair,
+    bounds: &Bounds,
+    workers: Workers,
+) -> Result<(), FilesError>
+    requires { AreWaiting (F.had files.now) archive.now bounds.now.skew bounds.now.transit waiting.old }
+    ensures texts { texts_waiting waiting.new ≡ texts_waiting waiting.old }
+    ensures waiting { AreWaiting (F.had files.now) archive.now bounds.now.skew bounds.now.transit waiting.new }
 {
-    match certificate::read(alloc, text) {
-        Ok(claim) => judge_claim(rt, alloc, files, archive, &claim, skew, transit),
-        Err(CertificateError::Fault(fault)) => Ok(Judged::Faulty(Ruling::Verdict(
-            Verdict::Certificate(fault),
-        ))),
-        Err(CertificateError::Memory) => Err(FilesError::Memory),
+    shown_pairs_are_snapshots();
+    accepted_rulings_are_true();
+    let members = members_of(alloc, waiting, pair)?;
+    let claims = claims_of(alloc, &members)?;
+    let rulings = rulings_over(rt, alloc, files, pair, claims, bounds, workers)?;
+    for i in 0..members.len() {
+        let place = members[i].place;
+        let judged = Judged::Ruled(*pair, rulings[i]);
+        waiting[place].pending = Pending::Judged(judged);
     }
+    Ok(())
+}
+
+/// Judges certificates, each over the pair of volumes that shows where its interval begins; each such pair is read once,
+/// and forgotten before the next. `Changed` or `Faulty` where a file isn't what the archive knows of it, `Memory` where a
+/// growth was refused.
+pub(crate) fn judge_all<'a, F: JournalFiles>(
+    rt: &(impl Threads + Wait + Sync),
+    alloc: Global,
+    files: &F,
+    archive: &Archive,
+    claims: &[Claim<'a>],
+    bounds: &Bounds,
+    workers: Workers,
+) -> Result<Vec<Waiting<'a>>, FilesError>
+    ensures texts { IfOk result (λ ws. texts_waiting ws.items ≡ texts_of claims.now) }
+    ensures waiting { IfOk result
+        (λ ws. AreWaiting (F.had files.now) archive.now bounds.now.skew bounds.now.transit ws.items) }
+{
+    let mut waiting = waiting_of(alloc, archive, claims, bounds)?;
+    for place in 0..claims.len() {
+        if let Pending::Shown(pair) = waiting[place].pending {
+            judge_shown(
+                rt,
+                alloc,
+                files,
+                archive,
+                &mut waiting,
+                &pair,
+                bounds,
+                workers,
+            )?;
+        }
+    }
+    Ok(waiting)
 }

@@ -23,9 +23,10 @@ mod newest;
 mod passing;
 mod stretches;
 mod telling;
+mod waiting;
 
 pub use answering::{Question, answer};
 pub use asking::{Reply, ask_at};
 pub use failing::failure;
-pub use judging::{Judged, judge};
+pub use judging::Judged;
 pub use telling::Told;

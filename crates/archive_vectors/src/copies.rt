@@ -2,7 +2,9 @@
 
 ghost use Rattle.std.specs.Prelude.{⊤, length};
 
-use archive_files::{FileEnd, Found, JournalFiles, Shown, Unreadable, catalogue_of, shown_at};
+use archive_files::{
+    Agreement, FileEnd, Found, JournalFiles, Shown, Unreadable, catalogue_of, shown_at,
+};
 use journal_lines::Journal;
 use journal_text::write;
 use lead_time::{Skew, Transit};
@@ -89,7 +91,7 @@ fn shows_two_copies_as_far_as_each_bears_out_the_other(rt: HostRuntime) -> Resul
         texts: &["", SECONDARY, "no journal\n", PRIMARY],
     };
     let skew = Skew::new(500)?;
-    let catalogue = catalogue_of(rt.alloc(), &texts)?;
+    let catalogue = catalogue_of(rt.alloc(), &texts, Agreement::OfBoth)?;
     assert_eq!(rt; catalogue.passed_over.len(), 2);
     assert!(rt; matches!(catalogue.passed_over[1].found, Found::NoJournal));
     let shown = shown_at(

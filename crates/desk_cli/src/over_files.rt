@@ -17,9 +17,11 @@ fn question_of<'a>(command: &Command, certificates: &'a [u8]) -> Option<Question
         Command::Find(query) => Some(Question::Find(*query)),
         Command::Timeline => Some(Question::Timeline),
         Command::Audit { skew, transit } => Some(Question::Audit(certificates, *skew, *transit)),
-        Command::Batch { skew, transit, .. } => {
-            Some(Question::Batch(certificates, *skew, *transit))
-        }
+        Command::Batch {
+            skew,
+            transit,
+            workers,
+        } => Some(Question::Batch(certificates, *skew, *transit, *workers)),
         Command::Clocks => None,
     }
 }

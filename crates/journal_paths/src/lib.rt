@@ -7,7 +7,7 @@
 //!
 //! ```text
 //! let files = JournalPaths::at(&rt, &rt, &words)?;
-//! let catalogue = catalogue_of(rt.alloc(), &files)?;
+//! let catalogue = catalogue_of(rt.alloc(), &files, Agreement::OfBoth)?;
 //! ```
 #![tactic(auto)]
 

@@ -1,10 +1,15 @@
-use Rattle.std.proofs.Common.{◌∙◌, ◌++◌, ap, refl}
+use Rattle.std.proofs.Common.{◌∙◌, ◌++◌, ap, subst, refl}
+use Rattle.archive_files.specs.declared.ties.Agreement.{Agreement}
+use Rattle.archive_files.specs.Ties.{AreTied}
 use Rattle.archive_desk.proofs.answering.answer.Goals as goal
 
 pub returns : goal.returns
 returns g c = record {
   catalogue = c.in_ok-catalogue.catalogue;
-  is_catalogue = c.in_ok-catalogue.ensures;
+  is_catalogue = c.in_ok-catalogue.ensures.catalogue;
+  tied = subst (λ (a : Agreement). AreTied (g.F.JournalFiles.had c.args.files.now) a
+      c.in_ok-catalogue.catalogue.archive.primary c.in_ok-catalogue.catalogue.archive.secondary)
+      c.agreement_of.ensures c.in_ok-catalogue.ensures.tied;
   answer = c.in_ok-told.told;
   is_answer = c.in_ok-told.ensures;
   text = refl;
