@@ -62,10 +62,10 @@ class Desk:
         words = ["--holder", holder, "--prefix", prefix_word(prefix), "--from", str(start), "--to", str(end)]
         return self.over("find", words, paths)
 
-    def judges(self, command, certificates, file, paths):
+    def judges(self, command, certificates, file, paths, workers=1):
         """What `audit` or `batch` says of certificates over what paths name."""
         file.write_bytes(b"".join(certificates))
-        workers = ["--workers", "1"] if command == "batch" else []
+        workers = ["--workers", str(workers)] if command == "batch" else []
         return self.over(command, [*workers, "--certificate", str(file)], paths)
 
     def batch(self, texts, certificates):

@@ -96,14 +96,40 @@ class Misfortunes:
             yield f"{MANY_FILES} files took {time.monotonic() - begun:.0f} s"
 
     def other_pair(self):
-        """A volume of another pair's primary, whose number stands twice then."""
-        path, own = self.beside("other"), self.archive.volumes[0]
-        words = [b"open %d %d %d" % (SETTINGS.skew + 1, SETTINGS.mclt, SETTINGS.life), *head_of(own)[1][1:]]
-        rows = [row(number, own.opened(), line) for number, line in enumerate(words, start=1)]
-        (path / "A-0000001.journal").write_bytes(head_of(own)[0] + b"".join(rows))
-        answer = self.ask([*self.archive.paths, path])
-        if answer.status != 1 or not answer.out.startswith(b"refused ") or str(path).encode() not in answer.out + answer.err:
-            yield f"a journal of the other pair: {answer}"
+        """A volume of another pair's primary: its number stands twice then, or it comes behind all others; another skew, or a pool less."""
+        own, latest = self.archive.volumes[0], max(volume.last() for volume in self.archive.volumes)
+        first, words = head_of(own)
+        skewed, fewer = [b"open %d %d %d" % (SETTINGS.skew + 1, SETTINGS.mclt, SETTINGS.life), *words[1:]], [words[0], *words[2:]]
+        later = b"pd-journal 2 %s 99\n" % own.side.encode()
+        stories = [("twice", first, own.opened(), skewed), ("later", later, latest, [*skewed, b"base 0 0 0 0 0"]),
+                   ("fewer", later, latest, [*fewer, b"base 0 0 0 0 0"])]
+        for name, line, opened, head in stories:
+            path = self.beside(name) / "other.journal"
+            rows = [row(number, opened, each) for number, each in enumerate([*head, b"close"], start=1)]
+            path.write_bytes(line + b"".join(rows) + b"end %d\n" % len(rows))
+            for answer in (self.ask([*self.archive.paths, path]), self.desk.over("timeline", [], [path, *self.archive.paths])):
+                named = answer.out.startswith(b"refused V4 OtherPair ") and str(path).encode() in answer.out
+                if answer.status != 1 or not named or answer.out.count(b"\n") != 1:
+                    yield f"a journal of the other pair, {name}: {answer}"
+
+    def other_settings(self):
+        """A partner of another skew: `who` names nobody but to one who knows, and who asks for evidence is warned."""
+        path = self.beside("settings")
+        for volume in self.archive.volumes:
+            text = volume.text()
+            if volume.side == "B":
+                text = text.replace(b" open %d " % SETTINGS.skew, b" open %d " % (SETTINGS.skew - 1), 1)
+            (path / f"{volume.side}-{volume.number:07}.journal").write_bytes(text)
+        answer = self.ask([path])
+        if answer.status != 1 or not answer.out.startswith(b"refused V4 OtherPair "):
+            yield f"a partner of another skew: {answer}"
+        file = self.folder / "claimed"
+        for command in ("audit", "batch"):
+            answer = self.desk.judges(command, [self.right.certificate()], file, [path])
+            if not answer.out.startswith((b"accepted\n", b"refused L1 ")):
+                yield f"{command} over a partner of another skew: {answer}"
+            if answer.err.count(b"warning K2 Pair: ") != 1 or b"journals " not in answer.err:
+                yield f"{command} over a partner of another skew doesn't warn: {answer}"
 
     def shrinking(self):
         """A chosen file that is cut and made whole again, again and again, while the desk is asked."""
@@ -198,6 +224,6 @@ class Misfortunes:
             yield f"a volume of {MOST_LINES} lines took {lasted:.0f} s"
 
     def all(self):
-        for story in (self.no_such_path, self.strange_files, self.many_files, self.other_pair, self.on_disk, self.shrinking,
+        for story in (self.no_such_path, self.strange_files, self.many_files, self.other_pair, self.other_settings, self.on_disk, self.shrinking,
                       self.fault_within, self.long_beside_growing):
             yield from story()

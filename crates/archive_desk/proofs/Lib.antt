@@ -2,3 +2,4 @@ pub mod Dropping
 pub mod OneMore
 mod Pendings
 mod Saying
+mod Warned

@@ -12,8 +12,9 @@ use Rattle.archive_desk.specs.declared.waiting.Waiting.{Waiting as WaitingValue}
 use Rattle.archive_desk.specs.declared.telling.Told.{Told}
 use Rattle.archive_desk.specs.Names.{journals_line}
 use Rattle.archive_desk.specs.Lacks.{BeginsWith, lack_front}
-use Rattle.archive_desk.specs.Telling.{Said, said_of, nothing}
+use Rattle.archive_desk.specs.Telling.{Said, said_of, noted_first}
 use Rattle.archive_desk.specs.Judging.{IsJudged, AcceptedClaimIsTrue}
+use Rattle.archive_desk.specs.Warnings.{AreWarnings}
 
 -- the line of the ruling, or what is lacking
 abbrev pub line_of : Judged → List ℕ
@@ -56,15 +57,22 @@ AreJudged had names archive skew transit (text ∷ texts) before after =
     × AcceptedClaimIsTrue had skew transit (certificate_of text) judged
     × IsJudgedMore names judged before mid × AreJudged had names archive skew transit texts mid after
 
+-- behind the warnings on the pairs of volumes
+abbrev pub AreJudgedBehindWarnings : {A : Type 0} → (had : ℕ → List ℕ → Type 0) → List (PathBuf A) → Archive
+    → (skew transit : ℕ) → (texts : List (List ℕ)) → Said → Type 0
+AreJudgedBehindWarnings had names archive skew transit texts after =
+    (warnings : List ℕ) × AreWarnings had names skew transit warnings
+    × AreJudged had names archive skew transit texts (noted_first warnings) after
+
 -- a file's one certificate
 abbrev pub IsAuditTold : {A : Type 0} → (had : ℕ → List ℕ → Type 0) → List (PathBuf A) → Archive → List ℕ
     → (skew transit : ℕ) → Told → Type 0
 IsAuditTold had names archive text skew transit told =
-    AreJudged had names archive skew transit (text ∷ []) nothing (said_of told)
+    AreJudgedBehindWarnings had names archive skew transit (text ∷ []) (said_of told)
 
 -- a file's certificates, one after another
 abbrev pub IsBatchTold : {A : Type 0} → (had : ℕ → List ℕ → Type 0) → List (PathBuf A) → Archive → List ℕ
     → (skew transit : ℕ) → Told → Type 0
 IsBatchTold had names archive rest skew transit told =
     (texts : List (List ℕ)) × AreTexts rest texts
-    × AreJudged had names archive skew transit texts nothing (said_of told)
+    × AreJudgedBehindWarnings had names archive skew transit texts (said_of told)

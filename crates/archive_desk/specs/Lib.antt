@@ -7,6 +7,7 @@ pub mod Stretches
 pub mod Newest
 pub mod Judging
 pub mod Waiting
+pub mod Warnings
 pub mod Certificates
 pub mod Answering
 pub mod Failing

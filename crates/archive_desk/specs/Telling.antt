@@ -52,6 +52,10 @@ said_of told = record { text = told.text.items; status = told.status; notes = to
 abbrev pub nothing : Said
 nothing = record { text = []; status = 0; notes = [] }
 
+-- this alone is noted
+abbrev pub noted_first : List ℕ → Said
+noted_first notes = record { text = []; status = 0; notes = notes }
+
 -- one reply more: standard output names its files
 pub record IsSaidMore {A : Type 0} (names : List (PathBuf A)) (reply : Reply) (before after : Said) : Type 0 where
   pub text : after.text ≡ before.text ++ headed names reply

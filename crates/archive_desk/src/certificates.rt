@@ -2,9 +2,10 @@
 
 ghost use Rattle.std.specs.Prelude.{◌≡◌, ◌++◌, IfOk, OnOk};
 ghost use Rattle.attribution_desk.specs.Claims.{texts_of};
-ghost use Rattle.archive_desk.specs.Certificates.{line_of, status_of, IsNotedOf, IsJudgedMore, AreSaid, AreJudged};
+ghost use Rattle.archive_desk.specs.Certificates.{line_of, status_of, IsNotedOf, IsJudgedMore, AreSaid};
+ghost use Rattle.archive_desk.specs.Certificates.{AreJudgedBehindWarnings};
 ghost use Rattle.archive_desk.specs.Certificates.{IsAuditTold, IsBatchTold};
-ghost use Rattle.archive_desk.specs.Telling.{said_of, nothing};
+ghost use Rattle.archive_desk.specs.Telling.{said_of, noted_first};
 
 use crate::judging::{Judged, judge_all};
 use crate::lacks::{Bounds, lack_line, push_lack};
@@ -90,16 +91,18 @@ impl Told {
     }
 }
 
-/// Tells of judged certificates, one behind the other.
+/// Tells of judged certificates, one behind the other, behind warnings.
 fn told_of(
     alloc: Global,
     names: &[PathBuf],
+    warnings: &[u8],
     waiting: &[Waiting],
     bounds: &Bounds,
 ) -> Result<Told, FilesError>
-    ensures { IfOk result (λ told. AreSaid names.now waiting.now nothing (said_of told)) }
+    ensures { IfOk result (λ told. AreSaid names.now waiting.now (noted_first warnings.now) (said_of told)) }
 {
     let mut told = Told::nothing(alloc);
+    told.notes.extend_from_slice(warnings)?;
     for one in waiting {
         // (none waits any longer)
         let Pending::Judged(judged) = &one.pending else {
@@ -121,11 +124,11 @@ fn judged_told<F: JournalFiles>(
     bounds: &Bounds,
     workers: Workers,
 ) -> Result<Told, FilesError>
-    ensures { IfOk result (λ told. AreJudged (F.had files.now) names.now archive.now bounds.now.skew bounds.now.transit
-        (texts_of claims.now) nothing (said_of told)) }
+    ensures { IfOk result (λ told. AreJudgedBehindWarnings (F.had files.now) names.now archive.now bounds.now.skew
+        bounds.now.transit (texts_of claims.now) (said_of told)) }
 {
-    let waiting = judge_all(rt, alloc, files, archive, claims, bounds, workers)?;
-    let told = told_of(alloc, names, &waiting, bounds)?;
+    let all = judge_all(rt, alloc, files, names, archive, claims, bounds, workers)?;
+    let told = told_of(alloc, names, &all.warnings, &all.waiting, bounds)?;
     Ok(told)
 }
 

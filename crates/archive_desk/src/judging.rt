@@ -1,13 +1,15 @@
 //! Certificates, judged over the pair of volumes that shows where their interval begins.
 
-ghost use Rattle.std.specs.Prelude.{◌≡◌, IfOk, OnOk};
+ghost use Rattle.std.specs.Prelude.{◌≡◌, ◌++◌, IfOk, OnOk};
 ghost use Rattle.attribution_desk.specs.Claims.{texts_of};
 ghost use Rattle.archive_files.specs.Showing.{AreClosed};
 ghost use Rattle.archive_desk.specs.Waiting.{AreWaiting, texts_waiting};
 ghost use Rattle.archive_desk.specs.Judging.{IsRuledByShown, AreRuledOver};
+ghost use Rattle.archive_desk.specs.Warnings.{IsWarnedOver, warned, AreWarnings};
 
 use crate::asking::has_lines;
 use crate::lacks::Bounds;
+use crate::names::push_journals;
 use crate::waiting::{Pending, Waiting, claims_of, members_of, waiting_of};
 use archive_files::{FilesError, JournalFiles, shown_by};
 use attribution_desk::{Claim, accepted_rulings_are_true, rulings_on_claims};
@@ -15,8 +17,9 @@ use binding_rules::Role;
 use desk_words::Workers;
 use journal_archive::{Archive, Lack, Pair};
 use journal_copy::{ShownPair, shown_pairs_are_snapshots};
-use pair_ruling::Ruling;
-use std::alloc::Global;
+use pair_ruling::{Ruling, warnings};
+use std::alloc::{AllocError, Global};
+use std::path::PathBuf;
 use std::sync::Wait;
 use std::thread::Threads;
 
@@ -70,6 +73,14 @@ fn rulings_by(
     }
 }
 
+/// What certificates over one pair of volumes come to.
+#[derive(Drop)]
+struct Ruled {
+    rulings: Vec<Ruling>,
+    /// The warnings on the two journals (K2, K3).
+    warnings: Vec<u8>,
+}
+
 /// Reads a pair of volumes and rules on certificates over them.
 fn rulings_over<F: JournalFiles>(
     rt: &(impl Threads + Wait + Sync),
@@ -79,16 +90,25 @@ fn rulings_over<F: JournalFiles>(
     claims: Vec<Claim>,
     bounds: &Bounds,
     workers: Workers,
-) -> Result<Vec<Ruling>, FilesError>
-    ensures { IfOk result (λ rs. AreRuledOver (F.had files.now) pair.now bounds.now.skew bounds.now.transit
-        (texts_of claims.entry.items) rs.items) }
+) -> Result<Ruled, FilesError>
+    ensures rulings { IfOk result (λ ruled. AreRuledOver (F.had files.now) pair.now bounds.now.skew bounds.now.transit
+        (texts_of claims.entry.items) ruled.rulings.items) }
+    ensures warnings { IfOk result (λ ruled. IsWarnedOver (F.had files.now) pair.now bounds.now.skew bounds.now.transit
+        ruled.warnings.items) }
 {
     let shown = shown_by(alloc, files, pair)?;
+    let warnings = warnings(
+        alloc,
+        &shown.primary,
+        &shown.secondary,
+        bounds.skew,
+        bounds.transit,
+    )?;
     let rulings = rulings_by(rt, alloc, pair, &shown, claims, bounds, workers)?;
-    Ok(rulings)
+    Ok(Ruled { rulings, warnings })
 }
 
-/// Judges those of the certificates that a pair of volumes shows, which is read once.
+/// Judges those of the certificates that a pair of volumes shows, which is read once, and returns the warnings on it.
 fn judge_shown<F: JournalFiles>(
     rt: &(impl Threads + Wait + Sync),
     alloc: Global,
@@ -98,22 +118,75 @@ fn judge_shown<F: JournalFiles>(
     pair: &Pair,
     bounds: &Bounds,
     workers: Workers,
-) -> Result<(), FilesError>
+) -> Result<Vec<u8>, FilesError>
     requires { AreWaiting (F.had files.now) archive.now bounds.now.skew bounds.now.transit waiting.old }
     ensures texts { texts_waiting waiting.new ≡ texts_waiting waiting.old }
     ensures waiting { AreWaiting (F.had files.now) archive.now bounds.now.skew bounds.now.transit waiting.new }
+    ensures warnings { IfOk result (λ warnings. IsWarnedOver (F.had files.now) pair.now bounds.now.skew
+        bounds.now.transit warnings.items) }
 {
     shown_pairs_are_snapshots();
     accepted_rulings_are_true();
     let members = members_of(alloc, waiting, pair)?;
     let claims = claims_of(alloc, &members)?;
-    let rulings = rulings_over(rt, alloc, files, pair, claims, bounds, workers)?;
+    let ruled = rulings_over(rt, alloc, files, pair, claims, bounds, workers)?;
     for i in 0..members.len() {
         let place = members[i].place;
-        let judged = Judged::Ruled(*pair, rulings[i]);
+        let judged = Judged::Ruled(*pair, ruled.rulings[i]);
         waiting[place].pending = Pending::Judged(judged);
     }
+    Ok(ruled.warnings)
+}
+
+/// Appends the warnings on a pair of volumes behind the line that names its files; nothing where there are none.
+fn push_warnings(
+    out: &mut Vec<u8>,
+    names: &[PathBuf],
+    pair: &Pair,
+    warnings: &[u8],
+) -> Result<(), AllocError>
+    ensures { OnOk result (out.new.items ≡ out.old.items ++ warned names.now pair.now warnings.now) }
+{
+    if warnings.is_empty() {
+        return Ok(());
+    }
+    push_journals(out, names, pair)?;
+    out.extend_from_slice(warnings)?;
     Ok(())
+}
+
+/// Judges each of the certificates that isn't judged yet, and returns the warnings on the pairs of volumes.
+fn judge_each<F: JournalFiles>(
+    rt: &(impl Threads + Wait + Sync),
+    alloc: Global,
+    files: &F,
+    names: &[PathBuf],
+    archive: &Archive,
+    waiting: &mut [Waiting],
+    bounds: &Bounds,
+    workers: Workers,
+) -> Result<Vec<u8>, FilesError>
+    requires { AreWaiting (F.had files.now) archive.now bounds.now.skew bounds.now.transit waiting.old }
+    ensures texts { texts_waiting waiting.new ≡ texts_waiting waiting.old }
+    ensures waiting { AreWaiting (F.had files.now) archive.now bounds.now.skew bounds.now.transit waiting.new }
+    ensures warnings { IfOk result
+        (λ warnings. AreWarnings (F.had files.now) names.now bounds.now.skew bounds.now.transit warnings.items) }
+{
+    let mut warnings = Vec::new(alloc);
+    for place in 0..waiting.len() {
+        if let Pending::Shown(pair) = waiting[place].pending {
+            let more = judge_shown(rt, alloc, files, archive, waiting, &pair, bounds, workers)?;
+            push_warnings(&mut warnings, names, &pair, &more)?;
+        }
+    }
+    Ok(warnings)
+}
+
+/// Certificates that are judged, and the warnings on the pairs of volumes that were read for them.
+#[derive(Drop)]
+pub(crate) struct Judgement<'a> {
+    pub(crate) waiting: Vec<Waiting<'a>>,
+    pub(crate) warnings: Vec<u8>,
 }
 
 /// Judges certificates, each over the pair of volumes that shows where its interval begins; each such pair is read once,
@@ -123,29 +196,28 @@ pub(crate) fn judge_all<'a, F: JournalFiles>(
     rt: &(impl Threads + Wait + Sync),
     alloc: Global,
     files: &F,
+    names: &[PathBuf],
     archive: &Archive,
     claims: &[Claim<'a>],
     bounds: &Bounds,
     workers: Workers,
-) -> Result<Vec<Waiting<'a>>, FilesError>
-    ensures texts { IfOk result (λ ws. texts_waiting ws.items ≡ texts_of claims.now) }
+) -> Result<Judgement<'a>, FilesError>
+    ensures texts { IfOk result (λ j. texts_waiting j.waiting.items ≡ texts_of claims.now) }
     ensures waiting { IfOk result
-        (λ ws. AreWaiting (F.had files.now) archive.now bounds.now.skew bounds.now.transit ws.items) }
+        (λ j. AreWaiting (F.had files.now) archive.now bounds.now.skew bounds.now.transit j.waiting.items) }
+    ensures warnings { IfOk result
+        (λ j. AreWarnings (F.had files.now) names.now bounds.now.skew bounds.now.transit j.warnings.items) }
 {
     let mut waiting = waiting_of(alloc, archive, claims, bounds)?;
-    for place in 0..claims.len() {
-        if let Pending::Shown(pair) = waiting[place].pending {
-            judge_shown(
-                rt,
-                alloc,
-                files,
-                archive,
-                &mut waiting,
-                &pair,
-                bounds,
-                workers,
-            )?;
-        }
-    }
-    Ok(waiting)
+    let warnings = judge_each(
+        rt,
+        alloc,
+        files,
+        names,
+        archive,
+        &mut waiting,
+        bounds,
+        workers,
+    )?;
+    Ok(Judgement { waiting, warnings })
 }
