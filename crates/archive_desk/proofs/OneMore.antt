@@ -6,12 +6,10 @@ use Rattle.certificate.specs.Faults.{certificate_of}
 use Rattle.journal_archive.specs.declared.archive.Archive.{Archive}
 use Rattle.journal_archive.specs.declared.spans.Span.{Span}
 use Rattle.attribution_desk.specs.declared.certificates.Claim.{Claim}
-use Rattle.attribution_desk.specs.declared.searching.Search.TheVariants.{Find}
 use Rattle.archive_desk.specs.declared.asking.Reply.{Reply}
 use Rattle.archive_desk.specs.declared.judging.Judged.{Judged}
-use Rattle.archive_desk.specs.Asking.{IsReplyAt}
 use Rattle.archive_desk.specs.Telling.{Said, IsSaidMore}
-use Rattle.archive_desk.specs.Stretches.{stretch_of, AreStretchesTold}
+use Rattle.archive_desk.specs.Stretches.{stretch_of, IsFoundAt, AreStretchesTold}
 use Rattle.archive_desk.specs.Judging.{IsJudged, AcceptedClaimIsTrue}
 use Rattle.archive_desk.specs.Certificates.{IsJudgedMore, AreJudged}
 use Rattle.archive_desk.proofs.Dropping.{drop_more}
@@ -19,14 +17,14 @@ use Rattle.archive_desk.proofs.Dropping.{drop_more}
 pub one_stretch : {A : Type 0} (had : ℕ → List ℕ → Type 0) (names : List (PathBuf A)) (archive : Archive) (q : Query)
     (spans : List Span) (i : ℕ) (s : Span) (before mid after : Said) (reply : Reply) (asked : Query)
     → i < length spans → s ≡ get_or spans i s → asked ≡ stretch_of q s
-    → IsReplyAt had archive s.from (Find asked) reply → IsSaidMore names reply before mid
+    → IsFoundAt had archive s.from asked reply → IsSaidMore names reply s.to before mid
     → AreStretchesTold had names archive q (drop (i + 1) spans) mid after
     → AreStretchesTold had names archive q (drop i spans) before after
 one_stretch had names archive q spans i s before mid after reply asked lt at e is more rest =
     subst (λ (ss : List Span). AreStretchesTold had names archive q ss before after) (sym (drop_more spans i s lt at)) (
       reply,
       mid,
-      subst (λ (a : Query). IsReplyAt had archive s.from (Find a) reply) e is,
+      subst (λ (a : Query). IsFoundAt had archive s.from a reply) e is,
       more,
       rest,
     )

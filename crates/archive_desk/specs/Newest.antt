@@ -42,4 +42,4 @@ IsTimelineAt had archive moment skew (Lacking side lack) =
 abbrev pub IsTimelineTold : {A : Type 0} → (had : ℕ → List ℕ → Type 0) → List (PathBuf A) → Archive → Told → Type 0
 IsTimelineTold had names archive told =
     (reply : Reply) × IsTimelineAt had archive (last_moment archive) 0 reply
-    × IsSaidMore names reply nothing (said_of told)
+    × IsSaidMore names reply (last_moment archive) nothing (said_of told)

@@ -1,5 +1,6 @@
 -- What is told of replies.
-use Rattle.std.specs.Prelude.{◌≡◌, ℕ, List, [], ◌++◌, ◌==◌, if◌then◌else◌, codes}
+use Rattle.std.specs.Prelude.{◌≡◌, ℕ, Bool, false, List, [], ◌++◌, ◌==◌, Option, Some, None, nat_lt}
+use Rattle.std.specs.Prelude.{if◌then◌else◌, codes}
 use Rattle.std.specs.declared.path.buf.PathBuf.{PathBuf}
 use Rattle.archive_desk.specs.declared.asking.Reply.{Reply}
 use Rattle.archive_desk.specs.declared.asking.Reply.TheVariants.{Answered, Lacking}
@@ -56,10 +57,21 @@ nothing = record { text = []; status = 0; notes = [] }
 abbrev pub noted_first : List ℕ → Said
 noted_first notes = record { text = []; status = 0; notes = notes }
 
--- one reply more: standard output names its files
-pub record IsSaidMore {A : Type 0} (names : List (PathBuf A)) (reply : Reply) (before after : Said) : Type 0 where
+-- the two journals end before this moment
+abbrev pub falls_short : Option ℕ → ℕ → Bool
+falls_short None end = false
+falls_short (Some until) end = nat_lt until end
+
+-- 0 where what was asked up to a moment was found
+abbrev pub status_up_to : ℕ → Reply → ℕ
+status_up_to end (Answered pair found until) = if falls_short until end then 1 else found.status
+status_up_to end (Lacking side lack) = 1
+
+-- one reply more to a question up to a moment: standard output names its files
+pub record IsSaidMore {A : Type 0} (names : List (PathBuf A)) (reply : Reply) (end : ℕ) (before after : Said) :
+    Type 0 where
   pub text : after.text ≡ before.text ++ headed names reply
-  pub status : after.status ≡ (if status_of reply == 0 then before.status else 1)
+  pub status : after.status ≡ (if status_up_to end reply == 0 then before.status else 1)
   pub noted : List ℕ
   pub is_noted : IsNotedOf reply noted
   pub notes : after.notes ≡ before.notes ++ noted

@@ -43,7 +43,7 @@ pub(crate) fn pair_of(shown: ShownPair) -> ReadPair
 }
 
 /// What the desk answers over the journals that two volumes show. `Changed` where one of them has no line any longer.
-fn reply_over(
+pub(crate) fn reply_over(
     rt: &(impl Threads + Sync),
     alloc: Global,
     pair: &Pair,

@@ -1,13 +1,14 @@
 //! The evidence of an interval, stretch by stretch of one pair of volumes.
 
 ghost use Rattle.std.specs.Prelude.{◌≡◌, ◌≤◌, ◌<◌, IfOk};
-ghost use Rattle.archive_desk.specs.Stretches.{reading_or, stretch_of, IsFindTold, AreStretchesTold};
+ghost use Rattle.archive_desk.specs.Stretches.{reading_or, stretch_of, cut_at, IsFoundAt, IsFindTold};
+ghost use Rattle.archive_desk.specs.Stretches.{AreStretchesTold};
 ghost use Rattle.archive_desk.specs.Telling.{said_of, nothing};
 
-use crate::asking::ask_at;
+use crate::asking::{Reply, ask_at, reply_over};
 use crate::lacks::Bounds;
 use crate::telling::Told;
-use archive_files::{FilesError, JournalFiles};
+use archive_files::{FilesError, JournalFiles, Shown, shown_at, shown_until};
 use attribution_desk::Search;
 use evidence_search::Query;
 use journal_archive::{Archive, Span};
@@ -40,6 +41,49 @@ fn stretch_of(query: &Query, span: &Span) -> Query
     }
 }
 
+/// The question of an interval that ends where the two shown journals end, where they end within it.
+fn cut_at(query: &Query, until: &Option<u64>) -> Query
+    ensures { result ≡ cut_at until.now query.now }
+{
+    match until {
+        Some(until) => {
+            if query.from.milliseconds() < *until && *until < query.to.milliseconds() {
+                Query {
+                    holder: query.holder,
+                    prefix: query.prefix,
+                    from: query.from,
+                    to: reading_or(*until, query.to),
+                    skew: query.skew,
+                    transit: query.transit,
+                }
+            } else {
+                *query
+            }
+        }
+        None => *query,
+    }
+}
+
+/// The evidence of an interval over the pair of volumes that shows a moment, as far as the two bear each other out.
+fn find_at<F: JournalFiles>(
+    rt: &(impl Threads + Sync),
+    alloc: Global,
+    files: &F,
+    archive: &Archive,
+    moment: u64,
+    query: &Query,
+) -> Result<Reply, FilesError>
+    ensures { IfOk result (IsFoundAt (F.had files.now) archive.now moment query.now) }
+{
+    match shown_at(alloc, files, archive, moment, query.skew, query.transit)? {
+        Shown::Journals(pair, shown) => {
+            let cut = cut_at(query, &shown_until(&shown, query.skew));
+            reply_over(rt, alloc, &pair, shown, &Search::Find(cut))
+        }
+        Shown::Lacking(side, lack) => Ok(Reply::Lacking(side, lack)),
+    }
+}
+
 fn bounds_of(query: &Query) -> Bounds {
     Bounds {
         skew: query.skew,
@@ -63,15 +107,16 @@ fn told_over<F: JournalFiles>(
     let bounds = bounds_of(query);
     let mut told = Told::nothing(alloc);
     for span in spans {
-        let search = Search::Find(stretch_of(query, span));
-        let reply = ask_at(rt, alloc, files, archive, span.from, &search)?;
+        let stretch = stretch_of(query, span);
+        let reply = find_at(rt, alloc, files, archive, span.from, &stretch)?;
         told.tell_more(alloc, names, &reply, &bounds, span.to)?;
     }
     Ok(told)
 }
 
 /// The evidence that the client held the prefix over the interval: for each stretch that one pair of volumes shows, in
-/// order, a certificate behind the line that names the two files; `none` where no pair shows a stretch. An interval
+/// order, a certificate behind the line that names the two files, as far as these bear each other out; `none` where no
+/// pair shows a stretch. An interval
 /// without a moment is asked of as it is, of the pair that shows its beginning. `Changed` or `Faulty` where a file isn't
 /// what the archive knows of it, `Memory` where a growth was refused.
 pub(crate) fn find<F: JournalFiles>(

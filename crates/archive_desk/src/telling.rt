@@ -2,7 +2,7 @@
 
 ghost use Rattle.std.specs.Prelude.{◌≡◌, ◌++◌, [], OnOk, IfOk};
 ghost use Rattle.archive_desk.specs.Telling.{text_of, files_of, headed, status_of, IsNotedOf, IsToldOfOne};
-ghost use Rattle.archive_desk.specs.Telling.{said_of, nothing, IsSaidMore};
+ghost use Rattle.archive_desk.specs.Telling.{said_of, nothing, falls_short, status_up_to, IsSaidMore};
 
 use crate::asking::Reply;
 use crate::lacks::{Bounds, lack_line, push_moment};
@@ -34,7 +34,8 @@ impl Told {
         }
     }
 
-    /// Tells one reply more: its files and its text on standard output, and on standard error what is noted of it.
+    /// Tells one reply more, to a question of what is before `end`: its files and its text on standard output, and on
+    /// standard error what is noted of it.
     pub(crate) fn tell_more(
         &mut self,
         alloc: Global,
@@ -43,10 +44,10 @@ impl Told {
         bounds: &Bounds,
         end: u64,
     ) -> Result<(), FilesError>
-        ensures { OnOk result (IsSaidMore names.now reply.now (said_of self.old) (said_of self.new)) }
+        ensures { OnOk result (IsSaidMore names.now reply.now end (said_of self.old) (said_of self.new)) }
     {
         reply.push_headed(&mut self.text, names)?;
-        if reply.status() != 0 {
+        if reply.status_up_to(end) != 0 {
             self.status = 1;
         }
         self.notes
@@ -62,6 +63,22 @@ impl Reply {
     {
         match self {
             Reply::Answered(_, found, _) => found.status,
+            Reply::Lacking(_, _) => 1,
+        }
+    }
+
+    /// 0 where what was asked of all before `end` was found, else 1.
+    fn status_up_to(&self, end: u64) -> u8
+        ensures { result ≡ status_up_to end self.now }
+    {
+        match self {
+            Reply::Answered(_, found, until) => {
+                if falls_short(until, end) {
+                    1
+                } else {
+                    found.status
+                }
+            }
             Reply::Lacking(_, _) => 1,
         }
     }
@@ -113,6 +130,16 @@ impl Reply {
             }
             Reply::Lacking(side, lack) => lack_line(alloc, names, *side, lack, bounds),
         }
+    }
+}
+
+/// Returns whether two journals that end there end before this moment.
+fn falls_short(until: &Option<u64>, end: u64) -> bool
+    ensures { result ≡ falls_short until.now end }
+{
+    match until {
+        Some(until) => *until < end,
+        None => false,
     }
 }
 

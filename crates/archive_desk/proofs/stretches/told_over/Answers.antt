@@ -16,7 +16,7 @@ loop-span-preserved g c after h =
     c.loop-span.invariant after
     (one_stretch (g.F.JournalFiles.had c.args.files.now) c.args.names.now c.args.archive.now c.args.query.now
     c.args.spans.now c.loop-span.span-index c.span-item.result (said_of c.loop-span.told) _ after c.in_ok-reply.reply
-    c.stretch_of.result c.loop-span-test.true c.span-item.is c.stretch_of.ensures c.in_ok-reply.ensures c.in_ok-tell_more.ensures h)
+    c.stretch_of-stretch.result c.loop-span-test.true c.span-item.is c.stretch_of-stretch.ensures c.in_ok-reply.ensures c.in_ok-tell_more.ensures h)
 
 pub returns : goal.returns
 returns g c =
