@@ -3,6 +3,7 @@
 use crate::clients::{Told, request};
 use crate::disk::{Disk, Loss};
 use crate::folder::{DiskFolder, SharedDisk};
+use admission::Everything;
 use failover_message::encode;
 use folder_start::{NotRolled, Pairing, StartFailure, Started, start};
 use lead_time::Reading;
@@ -66,6 +67,7 @@ where
 
 /// A running server that has heard a client's request, which has an answer.
 fn heard<F: Folder + Drop, P: Drop>(
+    alloc: Global,
     mut running: Running<F, P>,
     now: Reading,
     client: u8,
@@ -74,7 +76,7 @@ fn heard<F: Folder + Drop, P: Drop>(
 where
     F::File: Drop,
 {
-    match running.hear(now, &request(client), peer) {
+    match running.hear(&mut Everything { alloc }, now, &request(client), peer) {
         Heard::Answered(_) => Ok(running),
         other => Err(Fail::from(other)),
     }
@@ -235,7 +237,7 @@ impl Server {
         let Some(running) = self.running.take() else {
             return Ok(());
         };
-        match heard(running, now, client, client) {
+        match heard(self.alloc, running, now, client, client) {
             Ok(running) => {
                 self.running = Some(running);
                 Ok(())

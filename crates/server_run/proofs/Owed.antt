@@ -1,18 +1,16 @@
 -- An answer that is owed stays owed while the book grows.
-use Rattle.std.proofs.Common.{◌≡◌, ℕ, List, [], ◌∷◌, ◌++◌, refl, sym, ◌∙◌, ap, subst, append_assoc, append-nil}
+use Rattle.std.proofs.Common.{◌≡◌, ℕ, List, [], ◌∷◌, ◌++◌, sym, ◌∙◌, ap, subst, append_assoc, append-nil}
 use Rattle.std.specs.List.{AllByRecursion}
 use Rattle.admission.specs.declared.permit.Permit.{Permit}
 use Rattle.dhcp6_pd.specs.declared.message.ClientMessage.{ClientMessage}
 use Rattle.locked_book.specs.declared.receipt.Receipt.{Receipt}
-use Rattle.client_service.specs.Answering.{AnswerTo, IsTold, IsSilent}
-use Rattle.client_service.specs.Again.{IsToldAgain}
+use Rattle.client_service.specs.Answering.{AnswerTo}
 use Rattle.client_service.specs.declared.partner.Partner.{Partner}
-use Rattle.client_service.specs.declared.silence.Silence.TheVariants.{Memory}
 use Rattle.server_run.specs.declared.leaving.HeldAnswer.{HeldAnswer}
 use Rattle.served_book.specs.Served.{ServedState, receipts_in}
 use Rattle.server_run.specs.Live.{LiveState, Grows}
 use Rattle.standing_lease.specs.declared.terms.RenewTerms.{RenewTerms}
-use Rattle.server_run.specs.Owing.{HasReceipts, Tells, IsOwed}
+use Rattle.server_run.specs.Owing.{Tells, IsOwed}
 
 pub stays_owed : {P : Type 0} (own : List ℕ) (t : RenewTerms) (receipts more all : List Receipt) (a : AnswerTo P)
     → all ≡ receipts ++ more → IsOwed own t receipts a → IsOwed own t all a
