@@ -2,16 +2,11 @@
 use Rattle.std.proofs.Common.{◌≡◌, ℕ, ◌+◌, ◌<◌, List, length, drop, get_or, sym, subst}
 use Rattle.std.specs.declared.path.buf.PathBuf.{PathBuf}
 use Rattle.plain_search.specs.declared.query.Query.{Query}
-use Rattle.certificate.specs.Faults.{certificate_of}
 use Rattle.journal_archive.specs.declared.archive.Archive.{Archive}
 use Rattle.journal_archive.specs.declared.spans.Span.{Span}
-use Rattle.attribution_desk.specs.declared.certificates.Claim.{Claim}
 use Rattle.archive_desk.specs.declared.asking.Reply.{Reply}
-use Rattle.archive_desk.specs.declared.judging.Judged.{Judged}
 use Rattle.archive_desk.specs.Telling.{Said, IsSaidMore}
 use Rattle.archive_desk.specs.Stretches.{stretch_of, IsFoundAt, AreStretchesTold}
-use Rattle.archive_desk.specs.Judging.{IsJudged, AcceptedClaimIsTrue}
-use Rattle.archive_desk.specs.Certificates.{IsJudgedMore, AreJudged}
 use Rattle.archive_desk.proofs.Dropping.{drop_more}
 
 pub one_stretch : {A : Type 0} (had : ℕ → List ℕ → Type 0) (names : List (PathBuf A)) (archive : Archive) (q : Query)

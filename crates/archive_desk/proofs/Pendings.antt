@@ -1,5 +1,5 @@
 -- Certificates that wait for their verdict, one after the other.
-use Rattle.std.specs.Prelude.{◌≡◌, ℕ, ◌+◌, ◌<◌, ◌≤◌, ◌⊎◌, List, [], ◌∷◌, ◌++◌, map, Some, slice_get, length, Result}
+use Rattle.std.specs.Prelude.{◌≡◌, ℕ, ◌+◌, ◌<◌, ◌≤◌, ◌⊎◌, List, [], ◌∷◌, ◌++◌, Some, slice_get, length, Result}
 use Rattle.std.specs.Prelude.{Ok, Err}
 use Rattle.std.proofs.Common.{zero, suc, arith, sym, ◌∙◌, ap, subst, inl, inr, refl, drop, append_assoc, append-nil}
 use Rattle.std.proofs.Common.{get_or, set}

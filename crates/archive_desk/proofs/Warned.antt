@@ -1,6 +1,6 @@
 -- Warnings on pairs of volumes, one behind the other.
-use Rattle.std.specs.Prelude.{◌≡◌, ℕ, List, [], ◌∷◌, ◌++◌, Some, slice_get}
-use Rattle.std.proofs.Common.{sym, ◌∙◌, ap, subst, inl, inr, refl, append_assoc, append-nil}
+use Rattle.std.specs.Prelude.{◌≡◌, ℕ, List, [], ◌∷◌, ◌++◌}
+use Rattle.std.proofs.Common.{sym, ◌∙◌, ap, subst, inl, inr, append_assoc, append-nil}
 use Rattle.std.specs.declared.path.buf.PathBuf.{PathBuf}
 use Rattle.journal_archive.specs.declared.answer.Pair.{Pair}
 use Rattle.archive_desk.specs.Warnings.{IsWarnedOver, warned, warned_all, AreWarnings}

@@ -1,5 +1,5 @@
 -- Certificates on their way to their verdicts.
-use Rattle.std.specs.Prelude.{◌≡◌, ℕ, List, [], ◌∷◌, map, Result, Ok, Err, Some, slice_get}
+use Rattle.std.specs.Prelude.{◌≡◌, ℕ, List, map, Result, Ok, Err, Some, slice_get}
 use Rattle.claims.specs.declared.certificate.Certificate.{Certificate as Claim}
 use Rattle.claims.specs.declared.fault.CertificateFault.{CertificateFault}
 use Rattle.certificate.specs.Faults.{certificate_of}
@@ -9,7 +9,7 @@ use Rattle.journal_archive.specs.declared.answer.Pair.{Pair}
 use Rattle.journal_archive.specs.declared.answer.Answer.TheVariants.{Shown as IsPair, Lacking as IsLacking}
 use Rattle.journal_archive.specs.Answers.{IsAnswer}
 use Rattle.journal_archive.specs.declared.archive.Archive.{Archive}
-use Rattle.archive_desk.specs.declared.judging.Judged.TheVariants.{Ruled, Faulty, Lacking}
+use Rattle.archive_desk.specs.declared.judging.Judged.TheVariants.{Faulty, Lacking}
 use Rattle.archive_desk.specs.declared.waiting.Pending.{Pending}
 use Rattle.archive_desk.specs.declared.waiting.Pending.TheVariants.{Shown, Judged}
 use Rattle.archive_desk.specs.declared.waiting.Waiting.{Waiting as WaitingValue}

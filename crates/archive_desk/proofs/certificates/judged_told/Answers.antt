@@ -1,4 +1,4 @@
-use Rattle.std.proofs.Common.{subst, ap, ◌∙◌}
+use Rattle.std.proofs.Common.{subst}
 use Rattle.std.proofs.Math.Path.{subst₂}
 use Rattle.archive_desk.specs.Telling.{said_of, noted_first}
 use Rattle.archive_desk.specs.Certificates.{AreSaid, AreJudged}
