@@ -1,6 +1,7 @@
 -- What is answered over files.
 use Rattle.std.specs.Prelude.{◌≡◌, ℕ, List, ◌++◌}
 use Rattle.std.specs.declared.path.buf.PathBuf.{PathBuf}
+use Rattle.access_records.specs.Spelling.{TextValue}
 use Rattle.journal_archive.specs.declared.archive.Archive.{Archive}
 use Rattle.archive_files.specs.declared.cataloguing.Catalogue.{Catalogue}
 use Rattle.archive_files.specs.Catalogues.{IsCatalogue}
@@ -28,23 +29,23 @@ agreement_of (Who q settings) = agreement_for settings
 agreement_of _ = OfEach
 
 -- by the volumes of an archive
-abbrev pub IsAnswerOver : {A : Type 0} → (had : ℕ → List ℕ → Type 0) → List (PathBuf A) → Archive → Question → Told
-    → Type 0
-IsAnswerOver had names archive (Who q settings) told = IsWhoTold had names archive q settings told
-IsAnswerOver had names archive (Find q) told = IsFindTold had names archive q told
-IsAnswerOver had names archive Timeline told = IsTimelineTold had names archive told
-IsAnswerOver had names archive (Audit text skew transit) told = IsAuditTold had names archive text.now skew transit told
-IsAnswerOver had names archive (Batch texts skew transit workers) told =
+abbrev pub IsAnswerOver : {A : Type 0} → (had : ℕ → List ℕ → Type 0) → (Says : ℕ → TextValue → Type 0) → List (PathBuf A)
+    → Archive → Question → Told → Type 0
+IsAnswerOver had Says names archive (Who q settings) told = IsWhoTold had Says names archive q settings told
+IsAnswerOver had Says names archive (Find q) told = IsFindTold had names archive q told
+IsAnswerOver had Says names archive Timeline told = IsTimelineTold had names archive told
+IsAnswerOver had Says names archive (Audit text skew transit) told = IsAuditTold had names archive text.now skew transit told
+IsAnswerOver had Says names archive (Batch texts skew transit workers) told =
     IsBatchTold had names archive texts.now skew transit told
 
 -- by the volumes that so many files are; standard error has something in front of that, of the other files
-pub record IsAnswer {A : Type 0} (had : ℕ → List ℕ → Type 0) (count : ℕ) (names : List (PathBuf A)) (q : Question)
-    (told : Told) : Type 0 where
+pub record IsAnswer {A : Type 0} (had : ℕ → List ℕ → Type 0) (Says : ℕ → TextValue → Type 0) (count : ℕ)
+    (names : List (PathBuf A)) (q : Question) (told : Told) : Type 0 where
   pub catalogue : Catalogue
   pub is_catalogue : IsCatalogue had count catalogue
   pub tied : AreTied had (agreement_of q) catalogue.archive.primary catalogue.archive.secondary
   pub answer : Told
-  pub is_answer : IsAnswerOver had names catalogue.archive q answer
+  pub is_answer : IsAnswerOver had Says names catalogue.archive q answer
   pub text : told.text ≡ answer.text
   pub status : told.status ≡ answer.status
   pub passed : List ℕ

@@ -10,6 +10,7 @@ use crate::newest::timeline;
 use crate::passing::passed_over;
 use crate::stretches::find;
 use crate::telling::Told;
+use access_lines::AccessBeside;
 use archive_files::{Agreement, FilesError, JournalFiles, catalogue_of};
 use desk_words::{Settings, Workers};
 use evidence_search::{HolderQuery, Query};
@@ -57,7 +58,7 @@ fn agreement_of(question: &Question) -> Agreement
 }
 
 /// The answer over the volumes of an archive.
-fn answer_over<F: JournalFiles>(
+fn answer_over<F: JournalFiles + AccessBeside>(
     rt: &(impl Threads + Wait + Sync),
     alloc: Global,
     files: &F,
@@ -65,7 +66,7 @@ fn answer_over<F: JournalFiles>(
     archive: &Archive,
     question: &Question,
 ) -> Result<Told, FilesError>
-    ensures { IfOk result (IsAnswerOver (F.had files.now) names.now archive.now question.now) }
+    ensures { IfOk result (IsAnswerOver (F.had files.now) (F.says files.now) names.now archive.now question.now) }
 {
     match question {
         Question::Who(query, settings) => who(rt, alloc, files, names, archive, query, *settings),
@@ -91,14 +92,14 @@ fn answer_over<F: JournalFiles>(
 /// Answers a question over the volumes that the files are; standard error says first which files are passed over.
 /// `OtherPair` or `Archive` where the volumes can't be of one pair of servers, `Changed` or `Faulty` where a file isn't
 /// any longer what it was when it was looked at, `Memory` where a growth was refused.
-pub fn answer<F: JournalFiles>(
+pub fn answer<F: JournalFiles + AccessBeside>(
     rt: &(impl Threads + Wait + Sync),
     alloc: Global,
     files: &F,
     names: &[PathBuf],
     question: &Question,
 ) -> Result<Told, FilesError>
-    ensures { IfOk result (IsAnswer (F.had files.now) (F.files files.now) names.now question.now) }
+    ensures { IfOk result (IsAnswer (F.had files.now) (F.says files.now) (F.files files.now) names.now question.now) }
 {
     let catalogue = catalogue_of(alloc, files, agreement_of(question))?;
     let mut notes = passed_over(alloc, names, &catalogue.passed_over)?;

@@ -1,23 +1,56 @@
 //! Who held a prefix at a moment.
 
 ghost use Rattle.std.specs.Prelude.{◌≡◌, IfOk};
-ghost use Rattle.archive_desk.specs.Who.{IsWhoTold};
+ghost use Rattle.archive_desk.specs.Who.{volume_of, IsAccessOf, IsWhoTold};
 
-use crate::asking::ask_at;
+use crate::asking::{Reply, ask_at};
 use crate::lacks::Bounds;
 use crate::telling::{Told, tell_one};
+use access_lines::{AccessBeside, VolumeFile, said_beside};
+use access_records::AccessHead;
 use archive_files::{FilesError, JournalFiles};
 use attribution_desk::Search;
 use desk_words::Settings;
 use evidence_search::HolderQuery;
-use journal_archive::Archive;
-use std::alloc::Global;
+use journal_archive::{Archive, Filed};
+use std::alloc::{AllocError, Global};
 use std::path::PathBuf;
 use std::thread::Threads;
 
-/// Who held the prefix at the moment, over the pair of volumes that shows it; `none` where no pair does. `Changed` or
-/// `Faulty` where a file isn't what the archive knows of it, `Memory` where a growth was refused.
-pub(crate) fn who<F: JournalFiles>(
+/// A volume and its file, as access records name them.
+fn volume_of(filed: &Filed) -> VolumeFile
+    ensures { result ≡ volume_of filed.now }
+{
+    VolumeFile {
+        file: filed.file,
+        volume: AccessHead {
+            side: filed.outline.side,
+            volume: filed.outline.number,
+        },
+    }
+}
+
+/// What the access records beside the two volumes say of the grants that a reply names.
+fn access_of<F: AccessBeside>(
+    alloc: Global,
+    files: &F,
+    reply: &Reply,
+) -> Result<Vec<u8>, AllocError>
+    ensures { IfOk result (λ text. IsAccessOf (F.says files.now) reply.now text.items) }
+{
+    match reply {
+        Reply::Answered(pair, found, _) => {
+            let primary = volume_of(&pair.primary);
+            let secondary = volume_of(&pair.secondary);
+            said_beside(alloc, files, &found.line, &primary, &secondary)
+        }
+        Reply::Lacking(_, _) => Ok(Vec::new(alloc)),
+    }
+}
+
+/// Who held the prefix at the moment, over the pair of volumes that shows it, and behind that what access records say of
+/// the grants that show it; `none` where no pair does. `Changed` or `Faulty` where a file isn't what the archive knows of it, `Memory` where a growth was refused.
+pub(crate) fn who<F: JournalFiles + AccessBeside>(
     rt: &(impl Threads + Sync),
     alloc: Global,
     files: &F,
@@ -26,7 +59,7 @@ pub(crate) fn who<F: JournalFiles>(
     query: &HolderQuery,
     settings: Settings,
 ) -> Result<Told, FilesError>
-    ensures { IfOk result (IsWhoTold (F.had files.now) names.now archive.now query.now settings) }
+    ensures { IfOk result (IsWhoTold (F.had files.now) (F.says files.now) names.now archive.now query.now settings) }
 {
     let moment = query.at.milliseconds();
     let bounds = Bounds {
@@ -35,6 +68,8 @@ pub(crate) fn who<F: JournalFiles>(
     };
     let search = Search::Who(*query, settings);
     let reply = ask_at(rt, alloc, files, archive, moment, &search)?;
-    let told = tell_one(alloc, names, &reply, &bounds, moment + 1)?;
+    let mut told = tell_one(alloc, names, &reply, &bounds, moment + 1)?;
+    let access = access_of(alloc, files, &reply)?;
+    told.text.extend_from_slice(&access)?;
     Ok(told)
 }
