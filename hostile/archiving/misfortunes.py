@@ -15,6 +15,8 @@ MANY_FILES = 10_000
 MOST_LINES = 1 << 20
 # So long the desk may take over many files, and over a volume of so many lines, in seconds.
 LONGEST = 20
+# How many shorter copies are asked of.
+SHORTER = 30
 HEAD = (Open, Pool, Transit, Base, Carry, UnitLine)
 
 
@@ -131,6 +133,23 @@ class Misfortunes:
             if answer.err.count(b"warning K2 Pair: ") != 1 or b"journals " not in answer.err:
                 yield f"{command} over a partner of another skew doesn't warn: {answer}"
 
+    def shorter_copies(self):
+        """The partner's copy is shorter and shorter: what `find` finds ends where the two bear each other out, and it says so."""
+        path, _ = self.copied("shorter")
+        chosen = path / f"B-{self.pair['B'].number:07}.journal"
+        rows, (start, end) = chosen.read_bytes().splitlines(keepends=True), self.right.interval()
+        holder, file = self.right.holder().split()[1].decode(), self.folder / "shorter-claims"
+        within = [count for count, (reading, _) in enumerate(self.pair["B"].entries, start=1) if start < reading]
+        for count in within[:: max(1, len(within) // SHORTER)]:
+            chosen.write_bytes(b"".join(rows[: count + 1]))
+            found = self.desk.find(holder, self.prefix, start, end, [path])
+            if found.status == 0 and found.stretches() and b"lacking " in found.err or found.status == 1 and b"lacking " not in found.err:
+                yield f"a copy of {count} lines: {found}"
+            for certificate in found.stretches():
+                verdict = self.desk.judges("audit", [certificate], file, [path])
+                if verdict.out != b"accepted\n":
+                    yield f"a copy of {count} lines: {certificate}: {verdict}"
+
     def shrinking(self):
         """A chosen file that is cut and made whole again, again and again, while the desk is asked."""
         path, chosen = self.copied("shrinking")
@@ -224,6 +243,6 @@ class Misfortunes:
             yield f"a volume of {MOST_LINES} lines took {lasted:.0f} s"
 
     def all(self):
-        for story in (self.no_such_path, self.strange_files, self.many_files, self.other_pair, self.other_settings, self.on_disk, self.shrinking,
-                      self.fault_within, self.long_beside_growing):
+        for story in (self.no_such_path, self.strange_files, self.many_files, self.other_pair, self.other_settings,
+                      self.shorter_copies, self.on_disk, self.shrinking, self.fault_within, self.long_beside_growing):
             yield from story()
