@@ -6,9 +6,12 @@ ghost use Rattle.daemon_parties.specs.Hearing.{MayHear, HasSameFiles};
 
 use crate::clocks::Clocks;
 use crate::hearing::HearingError;
+use access_records::{AccessRecord, Address};
+use client_limits::Limiter;
 use daemon_devices::Datagrams;
 use dhcp6_pd::{ClientKind, PdError, PdFault, ServerKind};
 use lead_time::{Reading, Transit};
+use order_book::Book;
 use server_notices::{Happening, Log};
 use server_run::{Heard, HeldAnswer, Running};
 use server_status::Traffic;
@@ -33,6 +36,8 @@ pub struct Clients<G: Datagrams> {
     traffic: Traffic,
     /// The types of the answers that are held back, in their order.
     held: Vec<ServerKind>,
+    /// What they may order, and the access records of what they were granted.
+    limiter: Limiter,
 }
 
 /// The type of the answer to a message of this type.
@@ -51,9 +56,20 @@ fn is_ordinary(fault: PdFault) -> bool {
     matches!(fault, PdFault::NotOurs | PdFault::Ignored)
 }
 
+/// The address that a datagram came from, if it is known.
+fn source_of<G: Datagrams>(peer: &G::Peer) -> Option<Address> {
+    let octets = G::source(peer)?;
+    Some(Address(u128::from_be_bytes(octets)))
+}
+
 impl<G: Datagrams> Clients<G> {
-    /// Clients whose datagrams come there. An error where a growth was refused.
-    pub fn new(alloc: Global, datagrams: G, transit: Transit) -> Result<Clients<G>, AllocError> {
+    /// Clients whose datagrams come there, and who may order what this lets them. An error where a growth was refused.
+    pub fn new(
+        alloc: Global,
+        datagrams: G,
+        transit: Transit,
+        limiter: Limiter,
+    ) -> Result<Clients<G>, AllocError> {
         Ok(Clients {
             alloc,
             datagrams,
@@ -61,6 +77,7 @@ impl<G: Datagrams> Clients<G> {
             transit,
             traffic: Traffic::NONE,
             held: Vec::new(alloc),
+            limiter,
         })
     }
 
@@ -83,6 +100,10 @@ impl<G: Datagrams> Clients<G> {
             }
             Heard::Unanswered(_) => {
                 self.traffic.unanswered = self.traffic.unanswered.saturating_add(1);
+            }
+            Heard::TooMany => {
+                self.traffic.unanswered = self.traffic.unanswered.saturating_add(1);
+                log.tell_often(&Happening::TooMany, now);
             }
             Heard::Unread(PdError::Fault(fault)) => {
                 self.traffic.faults.add(*fault);
@@ -117,8 +138,11 @@ impl<G: Datagrams> Clients<G> {
             let Some(now) = clocks.now() else {
                 return Err(HearingError::Clock);
             };
-            let heard = running.hear(now.reading, &self.buffer[..length], peer);
+            let strays = self.limiter.strays();
+            self.limiter.comes_from(source_of::<G>(&peer));
+            let heard = running.hear(&mut self.limiter, now.reading, &self.buffer[..length], peer);
             self.count(&heard, now.reading, log);
+            self.tell_strays(strays, now.reading, log);
         }
         Ok(MOST_HEARD)
     }
@@ -136,6 +160,24 @@ impl<G: Datagrams> Clients<G> {
             }
         }
         Ok(MOST_HEARD)
+    }
+
+    /// Takes the access records of what clients were granted since the last time, by the book that has the lines. For want
+    /// of memory a grant goes without one.
+    pub fn take_records(&mut self, book: &Book) -> Vec<AccessRecord>
+        ensures datagrams { self.new.datagrams ≡ self.old.datagrams }
+        ensures transit { self.new.transit ≡ self.old.transit }
+    {
+        let _ = self.limiter.look_through(book);
+        self.limiter.take_records()
+    }
+
+    /// Tells of identity associations that came from another relay port than their units were given by, if there are more
+    /// than before.
+    fn tell_strays<L: Print>(&self, before: u64, now: Reading, log: &mut Log<'_, L>) {
+        if self.limiter.strays() > before {
+            log.tell_often(&Happening::Stray, now);
+        }
     }
 
     /// Returns whether an answer may still leave by now, by what the clock read when its message came.

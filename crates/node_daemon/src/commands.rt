@@ -6,6 +6,7 @@ ghost use Rattle.node_daemon.specs.declared.commands.Refusal.TheVariants.{Memory
 
 use crate::daemon::Daemon;
 use crate::reporting::{standing_of, units_of, volume_of};
+use access_files::AccessKeeper;
 use binding_rules::ServerState;
 use control_words::{Form, Leave, Request};
 use daemon_devices::{Control, Datagrams, Door, Rest};
@@ -61,7 +62,16 @@ impl From<Bar> for Refusal {
     }
 }
 
-impl<G: Datagrams, D: Door, K: Control, C: Clocks, T: Rest, L: Print> Daemon<'_, G, D, K, C, T, L> {
+impl<G: Datagrams, D: Door, K: Control, C: Clocks, T: Rest, A: AccessKeeper, L: Print> Daemon<
+    '_,
+    G,
+    D,
+    K,
+    C,
+    T,
+    A,
+    L,
+> {
     /// Hears one request, if one has come, and does it; its answer is held back. Returns whether one had come.
     pub(crate) fn heed_request<F: Folder + Drop>(
         &mut self,

@@ -6,12 +6,15 @@ ghost use Rattle.volume_folder.specs.Names.{held};
 use crate::daemon::Daemon;
 use crate::error::DaemonError;
 use crate::reporting::head_lines_of;
+use access_files::FolderKeeper;
 use binding_rules::Role;
+use client_limits::{Limiter, Limits};
 use daemon_devices::{ControlSocket, Readiness, SystemDoor, UdpDatagrams, Watched};
 use daemon_parties::{Clients, Clocks, Desk, HearingError, Moment, Partner, SystemClocks};
 use folder_start::{Began, Pairing, StartFailure, Started, start};
 use link_entry::Keeper;
 use link_records::{LinkKey, Side};
+use order_book::Book;
 use real_files::{FolderError, RealFolder, RealVolumes};
 use serve_settings::ServeSettings;
 use server_notices::{Happening, Log, Watch};
@@ -39,6 +42,7 @@ type SystemDaemon<'a, R, L> = Daemon<
     ControlSocket,
     SystemClocks<'a, R>,
     Readiness,
+    FolderKeeper,
     L,
 >;
 
@@ -74,18 +78,56 @@ struct Sockets<'a, R: Net + RandomSource> {
     rest: Readiness,
 }
 
-/// The volumes of a server in a directory, which this process alone writes to.
-fn opened(rt: &HostRuntime, directory: &str, role: Role) -> Result<RealVolumes, ServeFailure>
+/// The directory of a server, which this process alone writes to.
+fn folder_of(rt: &HostRuntime, directory: &str) -> Result<RealFolder, ServeFailure> {
+    match RealFolder::open(rt, directory) {
+        Ok(folder) => Ok(folder),
+        Err(error) => Err(ServeFailure::Folder(error)),
+    }
+}
+
+/// The volumes of a server in its directory.
+fn opened(rt: &HostRuntime, folder: RealFolder, role: Role) -> Result<RealVolumes, ServeFailure>
     ensures { IfOk result (λ v. v.noted.calls ≡ held v.count ∷ []) }
 {
-    let folder = match RealFolder::open(rt, directory) {
-        Ok(folder) => folder,
-        Err(error) => return Err(ServeFailure::Folder(error)),
-    };
     match RealVolumes::open(*rt, folder, role) {
         Ok(volumes) => Ok(volumes),
         Err(error) => Err(ServeFailure::Folder(error)),
     }
+}
+
+/// What keeps a server's access records in its directory.
+fn access_in(
+    rt: &HostRuntime,
+    folder: &RealFolder,
+    role: Role,
+) -> Result<FolderKeeper, ServeFailure> {
+    match folder.shared(rt) {
+        Ok(folder) => Ok(FolderKeeper::new(*rt, folder, role)),
+        Err(error) => Err(ServeFailure::Folder(FolderError::System(error))),
+    }
+}
+
+/// What a server lets its clients order, by its limits, its book, and what was kept beside the open volume.
+fn limiter_of<L: Print>(
+    alloc: Global,
+    limits: Limits,
+    keeper: &FolderKeeper,
+    book: &Book,
+    log: &Log<'_, L>,
+) -> Limiter {
+    let mut limiter = Limiter::new(alloc, limits);
+    let records = match keeper.read_back(book.head().volume()) {
+        Ok(records) => records,
+        Err(_) => {
+            log.tell(&Happening::AccessUnread);
+            Vec::new(alloc)
+        }
+    };
+    if limiter.restore(book, records).is_err() {
+        log.tell(&Happening::AccessUnread);
+    }
+    limiter
 }
 
 /// What the clocks read, or that they tell no time.
@@ -248,33 +290,36 @@ fn keeper_of(role: Role, key: Option<LinkKey>) -> Keeper {
     Keeper { side, key }
 }
 
-/// The daemon of settings and sockets, for a server whose volume begins with so many head lines.
+/// The daemon of settings and sockets, for a server that has this book.
 fn daemon_of<'a, R: Net + RandomSource + Handle, L: Print>(
     rt: &'a R,
     alloc: Global,
     settings: &'a ServeSettings,
     key: Option<LinkKey>,
     sockets: Sockets<'a, R>,
-    head_lines: usize,
+    keeper: FolderKeeper,
+    book: &Book,
     log: Log<'a, L>,
 ) -> Result<SystemDaemon<'a, R, L>, AllocError> {
     let server = &settings.node.server;
+    let limiter = limiter_of(alloc, settings.quotas, &keeper, book, &log);
     Ok(Daemon {
         alloc,
         settings: server,
         upkeep: settings.upkeep,
-        clients: Clients::new(alloc, sockets.datagrams, server.transit())?,
+        clients: Clients::new(alloc, sockets.datagrams, server.transit(), limiter)?,
         partner: Partner::new(alloc, sockets.door, keeper_of(server.role(), key))?,
         desk: Desk::new(alloc, sockets.control),
         clocks: SystemClocks::new(rt),
         rest: sockets.rest,
+        keeper,
         log,
         watch: Watch::new(),
         syncs: SyncTimes::new(alloc),
         told: Told::Nothing,
         is_alone: settings.node.ways.link.is_none(),
         leave: None,
-        head_lines,
+        head_lines: head_lines_of(book),
         is_idle: false,
     })
 }
@@ -293,7 +338,9 @@ pub fn serve<R: Wait + Files + Net + RandomSource + Handle, L: Print>(
     let server = &settings.node.server;
     let alloc = rt.alloc();
     let log = Log::new(alloc, notes);
-    let volumes = opened(rt, directory, server.role())?;
+    let folder = folder_of(rt, directory)?;
+    let keeper = access_in(rt, &folder, server.role())?;
+    let volumes = opened(rt, folder, server.role())?;
     let now = moment(&SystemClocks::new(handles))?;
     let sockets = open_sockets(handles, alloc, directory, settings, &now, &log)?;
     let started = start_server(
@@ -309,8 +356,16 @@ pub fn serve<R: Wait + Files + Net + RandomSource + Handle, L: Print>(
         log.tell(&Happening::HasNoKey);
     }
     let Started { running, .. } = started;
-    let head_lines = head_lines_of(running.book());
-    let Ok(mut daemon) = daemon_of(handles, alloc, settings, key, sockets, head_lines, log) else {
+    let Ok(mut daemon) = daemon_of(
+        handles,
+        alloc,
+        settings,
+        key,
+        sockets,
+        keeper,
+        running.book(),
+        log,
+    ) else {
         return Err(ServeFailure::Ended(DaemonError::Memory));
     };
     match daemon.run(handles, running) {
