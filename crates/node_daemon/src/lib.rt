@@ -20,6 +20,7 @@
 mod commands;
 mod daemon;
 mod error;
+mod keeping;
 mod reporting;
 mod serving;
 
