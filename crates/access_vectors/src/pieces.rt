@@ -28,6 +28,9 @@ fn are_said_with_their_ports(rt: HostRuntime) -> Result<(), Fail> {
     let secondary = read(rt.alloc(), TEXT)?.records;
     let said = access_lines(rt.alloc(), ANSWER, &[], &secondary)?;
     assert!(rt; said.as_slice() == SAID);
-    assert_eq!(rt; access_lines(rt.alloc(), b"none\n", &[], &secondary)?.len(), 0);
+    assert_eq!(rt;
+        access_lines(rt.alloc(), b"none\n", &[], &secondary)?.len(),
+        0
+    );
     Ok(())
 }

@@ -84,7 +84,12 @@ fn leaves_out_what_was_torn(rt: HostRuntime) -> Result<(), Fail> {
     let whole = TEXT.len() - 1;
     assert_eq!(rt; read(rt.alloc(), &TEXT[..whole])?.records.len(), 3);
     assert_eq!(rt; read(rt.alloc(), b"pd-access 1 A 12\n")?.records.len(), 0);
-    for text in [b"".as_slice(), b"pd-access 1 A 12", b"pd-access 2 A 12\n", b"pd-journal 1 A\n"] {
+    for text in [
+        b"".as_slice(),
+        b"pd-access 1 A 12",
+        b"pd-access 2 A 12\n",
+        b"pd-journal 1 A\n",
+    ] {
         assert!(rt; matches!(read(rt.alloc(), text), Err(AccessError::Head)));
     }
     Ok(())
