@@ -89,7 +89,7 @@ class Draws:
         if self.chance(0.1):
             parts.append(self.foreign_option())
         if self.amiss(0.1):
-            parts += [option(self.random.choice((1, 2, 9, 18, 25)), self.octets(2))] * 2
+            parts += [option(self.random.choice((1, 2, 9, 18, 25, 37)), self.octets(2))] * 2
         self.random.shuffle(parts)
         data = identifier.to_bytes(4, "big") + self.random.choice(SHORT_TIMES).to_bytes(4, "big") * 2
         data += b"".join(parts)
@@ -131,17 +131,28 @@ class Draws:
         parts += [self.foreign_option() for _ in range(self.pick(5, 0, 3, 1, 1, 3))]
         if self.amiss(0.06):
             parts += [option(self.random.choice((9, 18)), self.octets(3))] * self.random.choice((1, 1, 2))
+        if self.chance(0.06):
+            parts += [self.remote_option() for _ in range(self.random.choice((1, 1, 2)))]
         if self.chance(0.4):
             self.random.shuffle(parts)
         return bytes([kind]) + self.transaction() + b"".join(parts)
+
+    def remote_option(self):
+        """A remote identifier: mostly an enterprise's number and some octets, at times fewer or none."""
+        length = self.pick(10, 4 + self.random.randrange(20), 3, 0, 2, self.random.randrange(5), 1, 300)
+        return option(messages.REMOTE_IDENTIFIER, self.octets(length))
 
     def relay_options(self, inner):
         parts = [option(messages.RELAY_MESSAGE, inner)]
         if self.chance(0.5):
             length = self.pick(10, 4, 4, self.random.randrange(20), 1, 300)
             parts.append(option(messages.INTERFACE_IDENTIFIER, self.octets(length)))
+        if self.chance(0.4):
+            parts.append(self.remote_option())
+        if self.amiss(0.06):
+            parts += [self.remote_option()] * self.random.choice((1, 2))
         if self.chance(0.2):
-            code = self.random.choice((1, 2, 25, 26, 37, 38, 79))
+            code = self.random.choice((1, 2, 25, 26, 38, 79))
             parts.append(option(code, self.octets(self.random.choice(EDGE_LENGTHS))))
         if self.amiss(0.08):
             parts.append(self.random.choice(parts))
@@ -193,7 +204,8 @@ class Draws:
         inner = self.client_message()
         if self.chance(0.5):
             head = bytes([messages.RELAY_FORWARD, 0]) + self.octets(32) + option(messages.RELAY_MESSAGE, inner)
-            code = self.random.choice((messages.INTERFACE_IDENTIFIER, messages.INTERFACE_IDENTIFIER, 37))
+            code = self.random.choice((messages.INTERFACE_IDENTIFIER, messages.INTERFACE_IDENTIFIER,
+                                       messages.REMOTE_IDENTIFIER))
         else:
             head, code = inner, 16
         length = size - len(head) - 4

@@ -9,8 +9,9 @@ KIND_NAMES = {SOLICIT: "SOLICIT", REQUEST: "REQUEST", RENEW: "RENEW", REBIND: "R
 KINDS_WITHOUT_SERVER = (SOLICIT, REBIND)
 
 CLIENT_IDENTIFIER, SERVER_IDENTIFIER, RELAY_MESSAGE = 1, 2, 9
-STATUS_CODE, INTERFACE_IDENTIFIER, IA_PD, IA_PREFIX = 13, 18, 25, 26
+STATUS_CODE, INTERFACE_IDENTIFIER, IA_PD, IA_PREFIX, REMOTE_IDENTIFIER = 13, 18, 25, 26, 37
 COUNTED_CODES = (CLIENT_IDENTIFIER, SERVER_IDENTIFIER, RELAY_MESSAGE, INTERFACE_IDENTIFIER)
+COUNTED_CODES_OF_A_RELAY = COUNTED_CODES + (REMOTE_IDENTIFIER,)
 
 SUCCESS, NO_BINDING, NO_PREFIX_AVAILABLE = 0, 3, 6
 
@@ -33,6 +34,7 @@ class Relay:
     link: bytes
     peer: bytes
     interface: bytes | None = None
+    remote: bytes | None = None
 
 
 @dataclass
@@ -68,8 +70,8 @@ def options(octets, start):
         place += length
 
 
-def count_once(code, met):
-    if code in COUNTED_CODES:
+def count_once(code, met, counted):
+    if code in counted:
         if code in met:
             raise Refused("DuplicateId")
         met.add(code)
@@ -109,7 +111,7 @@ def read_client_message(octets):
     message = ClientMessage(octets[0], octets[1:4])
     met = set()
     for code, data in options(octets, 4):
-        count_once(code, met)
+        count_once(code, met, COUNTED_CODES)
         if code == CLIENT_IDENTIFIER:
             message.client = identifier_of(data)
         elif code == SERVER_IDENTIFIER:
@@ -131,9 +133,11 @@ def read_relay(octets, relays):
     message = None
     met = set()
     for code, data in options(octets, 34):
-        count_once(code, met)
+        count_once(code, met, COUNTED_CODES_OF_A_RELAY)
         if code == INTERFACE_IDENTIFIER:
             relay.interface = data
+        elif code == REMOTE_IDENTIFIER:
+            relay.remote = data
         elif code == RELAY_MESSAGE:
             message = read_level(data, relays)
     if message is None:

@@ -67,6 +67,28 @@ def read_messages():
         equal(refusal_of(messages.decode, octets, OWN), wanted)
 
 
+def read_remote_identifiers():
+    client = bytes.fromhex("010a0b0c0001000a" + FIRST.hex())
+    inner, remote, empty = messages.option(9, client), messages.option(37, bytes.fromhex("0000000961")), messages.option(37, b"")
+
+    def relayed(*parts):
+        return bytes([12]) + bytes(33) + b"".join(parts)
+
+    def remotes_of(octets):
+        return [relay.remote for relay in messages.decode(octets, OWN).relays]
+    for parts, wanted in (((inner,), None), ((inner, remote), remote[4:]), ((remote, inner), remote[4:]), ((empty, inner), b"")):
+        equal(remotes_of(relayed(*parts)), [wanted])
+    equal(remotes_of(relayed(empty, messages.option(9, relayed(inner, remote)))), [b"", remote[4:]])
+    equal(remotes_of(relayed(messages.option(9, client + remote + empty))), [None])
+    equal(remotes_of(client + remote + remote), [])
+    faulty, short = messages.option(9, client + messages.option(25, bytes(11))), bytes.fromhex("00250001")
+    for parts, wanted in (((inner, remote, empty), "DuplicateId"), ((empty, inner, empty), "DuplicateId"),
+                          ((remote, remote), "DuplicateId"), ((remote,), "Short"), ((remote, remote, faulty), "DuplicateId"),
+                          ((remote, faulty, remote), "OptionLength"), ((inner, remote, short), "OptionLength"),
+                          ((remote, remote, inner, inner[:5]), "DuplicateId")):
+        equal(refusal_of(messages.decode, relayed(*parts), OWN), (wanted, None))
+
+
 def answer_messages():
     solicit = bytes.fromhex("010a0b0c0001000a000300010200000000010019000c000000010000000000000000")
     start = "020a0b0c" + identifiers()
@@ -81,6 +103,10 @@ def answer_messages():
     release = bytes.fromhex("080a0b0c" + identifiers() + "0019000c000000010000000000000000")
     equal(answers.serve_datagram(book, OWN, release, 10000)[0].hex(),
           "070a0b0c" + identifiers() + "000d00020000" + "00190012000000010000000000000000000d00020003")
+    named = bytes([12]) + bytes(33) + messages.option(37, b"far") + messages.option(9, release) + messages.option(18, b"near")
+    answer = answers.serve_datagram(book, OWN, release, 10000)[0]
+    equal(answers.serve_datagram(book, OWN, named, 10000)[0],
+          bytes([13]) + bytes(33) + messages.option(18, b"near") + messages.option(9, answer))
     wide = bytes([12]) + bytes(33) + messages.option(18, bytes(65_535)) + messages.option(9, solicit)
     equal(answers.serve_datagram(book, OWN, wide, 10000)[0], None)
 
@@ -202,7 +228,8 @@ def captures(folder):
 
 
 def main():
-    for test in (read_messages, answer_messages, keep_a_book, lead_times, move_a_unit, partner_down, link_frames):
+    for test in (read_messages, read_remote_identifiers, answer_messages, keep_a_book, lead_times, move_a_unit, partner_down,
+                 link_frames):
         test()
     for folder in sys.argv[1:]:
         captures(pathlib.Path(folder))
