@@ -1,5 +1,5 @@
 -- What is decided of IA_PDs, one after the other.
-use Rattle.std.proofs.Common.{◌≡◌, ℕ, List}
+use Rattle.std.proofs.Common.{ℕ, List}
 use Rattle.std.specs.Prelude.{option_map}
 use Rattle.order_book.specs.Replayed.{state_of}
 use Rattle.dhcp6_pd.specs.declared.message.IaPd.{IaPd}

@@ -1,12 +1,11 @@
 //! What a server lets its clients order.
 
-ghost use Rattle.std.specs.Prelude.{◌≡◌, IfOk, option_map};
-ghost use Rattle.client_limits.specs.declared.limiter.Origin.{Origin as OriginValue};
-ghost use Rattle.client_limits.specs.Origins.{port_of, name_by};
+ghost use Rattle.std.specs.Prelude.{◌≡◌, IfOk};
+ghost use Rattle.client_limits.specs.Origins.{port_of, name_by, named};
 ghost use Rattle.client_limits.specs.Limiting.{MayLet};
 
 use crate::limits::Limits;
-use crate::origin::{name_of, port_named, port_of};
+use crate::origin::{name_by, port_named, port_of};
 use crate::quotas::{Known, permits_by, strays_in};
 use crate::rates::Rates;
 use access_records::{AccessRecord, Address, RelayPort};
@@ -26,7 +25,8 @@ use unit_holders::Holders;
 #[derive(Drop)]
 struct Origin {
     port: RelayPort,
-    name: Vec<u8>,
+    /// None where its relay doesn't tell its clients apart.
+    name: Option<Vec<u8>>,
 }
 
 /// How far a book's journal was looked through.
@@ -126,8 +126,18 @@ impl Limiter {
     /// Notes that a unit was given by the port of the message that was asked about last.
     fn give_by_port(&mut self, unit: Prefix) -> Result<(), AllocError> {
         match &self.origin {
-            Some(origin) => self.ports.give(unit, &origin.name),
-            None => self.ports.forget(&unit),
+            Some(
+                Origin {
+                    name: Some(name),
+                    ..
+                },
+            ) => {
+                if self.ports.holder(unit.first()) == Some(name.as_slice()) {
+                    return Ok(());
+                }
+                self.ports.give(unit, name)
+            }
+            _ => self.ports.forget(&unit),
         }
     }
 
@@ -219,7 +229,10 @@ impl Limiter {
             return Ok(());
         };
         match given_by(&line.event) {
-            Some((_, unit)) => self.ports.give(unit, &name_of(self.alloc, port)?),
+            Some((_, unit)) => match name_by(self.alloc, &port)? {
+                Some(name) => self.ports.give(unit, &name),
+                None => Ok(()),
+            },
             None => Ok(()),
         }
     }
@@ -244,20 +257,26 @@ impl Limiter {
         let mut name = Vec::new(self.alloc);
         name.push(client.as_bytes().len() as u8)?;
         name.extend_from_slice(client.as_bytes())?;
-        if let Some(origin) = &self.origin {
-            name.extend_from_slice(&origin.name)?;
+        if let Some(
+            Origin {
+                name: Some(port),
+                ..
+            },
+        ) = &self.origin
+        {
+            name.extend_from_slice(port)?;
         }
         self.rates.hears(self.limits.client_rate, now, &name)
     }
 
     /// The origin of a message.
     fn origin_of(&self, message: &ClientMessage) -> Result<Option<Origin>, AllocError>
-        ensures { IfOk result (λ o. option_map (λ (x : OriginValue). x.name.items) o ≡ name_by (port_of message.now.relays)) }
+        ensures { IfOk result (λ o. named o ≡ name_by (port_of message.now.relays)) }
     {
         let Some(port) = port_of(self.alloc, message)? else {
             return Ok(None);
         };
-        let name = name_of(self.alloc, port.clone()?)?;
+        let name = name_by(self.alloc, &port)?;
         Ok(Some(Origin { port, name }))
     }
 }
@@ -277,7 +296,10 @@ impl Admission for Limiter {
             return Err(Unheard::TooMany);
         }
         let port = match &self.origin {
-            Some(origin) => Some(origin.name.as_slice()),
+            Some(origin) => match &origin.name {
+                Some(name) => Some(name.as_slice()),
+                None => None,
+            },
             None => None,
         };
         let known = Known {

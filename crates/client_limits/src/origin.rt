@@ -1,7 +1,9 @@
 //! Where a message came from: the relay port of its client, and what names it.
 
-ghost use Rattle.std.specs.Prelude.{◌≡◌, IfOk};
-ghost use Rattle.client_limits.specs.Origins.{port_by, port_of, name_of};
+ghost use Rattle.std.specs.Prelude.{◌≡◌, ℕ, IfOk, Some, option_map};
+ghost use Rattle.std.specs.declared.alloc.Global.{Global};
+ghost use Rattle.std.specs.declared.vec.Vec.{Vec as VecValue};
+ghost use Rattle.client_limits.specs.Origins.{port_by, port_of, name_of, name_by};
 
 use access_records::{AccessRecord, Address, PortName, RelayPort, push_record, record_of};
 use dhcp6_pd::{ClientMessage, Relay, RelayId};
@@ -53,6 +55,16 @@ pub(crate) fn name_of(alloc: Global, port: RelayPort) -> Result<Vec<u8>, AllocEr
     };
     push_record(&mut name, &record)?;
     Ok(name)
+}
+
+/// The octets that name a port, where its relay tells its clients apart.
+pub(crate) fn name_by(alloc: Global, port: &RelayPort) -> Result<Option<Vec<u8>>, AllocError>
+    ensures { IfOk result (λ n. option_map (λ (v : VecValue ℕ Global). v.items) n ≡ name_by (Some port.now)) }
+{
+    if port.interface.is_none() && port.remote.is_none() {
+        return Ok(None);
+    }
+    Ok(Some(name_of(alloc, port.clone()?)?))
 }
 
 /// The port that these octets name.

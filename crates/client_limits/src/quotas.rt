@@ -151,6 +151,9 @@ fn is_port_full(known: &Known<'_>, asking: &Asking<'_>, more: usize) -> bool
     ensures { result ≡ is_port_full known.now.limits.now (state_of known.now.book.now) known.now.clients.now known.now.ports.now
         asking.now.client.now (option_map (λ o. o.now) asking.now.port) asking.now.kind (option_map (λ o. o.now) asking.now.port) more }
 {
+    if known.limits.units_per_port == 0 {
+        return false;
+    }
     match asking.port {
         Some(port) => is_reached(
             known.limits.units_per_port,

@@ -1,4 +1,4 @@
-use Rattle.std.proofs.Common.{◌≡◌, ◌++◌, ◌≤◌, ◌<◌, drop}
+use Rattle.std.proofs.Common.{◌≡◌, ◌++◌, ◌≤◌, drop}
 use Rattle.client_limits.proofs.Permits.{all_permits}
 use Rattle.client_limits.proofs.quotas.permits.Given as goal
 
