@@ -8,6 +8,7 @@ use crate::words::Words;
 use client_service::{Alone, Answer, Partner, Silence, answer_to};
 use dhcp6_pd::decode;
 use line_words::{add_number, add_word};
+use server_book::Manner;
 use std::alloc::{AllocError, Global};
 use text_fields::push_octets;
 
@@ -30,6 +31,7 @@ pub fn add_answered(
         &Alone,
         book,
         &own,
+        &Manner::plain(alloc),
         Partner::Up,
         &[],
         now,
@@ -60,6 +62,7 @@ fn reason(why: Silence) -> Result<&'static [u8], Fault> {
     match why {
         Silence::NothingAsked => Ok(b"nothing-asked"),
         Silence::Refused(_) => Ok(b"refused"),
+        Silence::Elsewhere => Ok(b"elsewhere"),
         Silence::TooLong => Ok(b"too-long"),
         Silence::Memory => Err(Fault::Memory),
     }
@@ -89,7 +92,18 @@ pub fn add_told(
     let Ok(message) = decode(alloc, &octets, &own) else {
         return Ok(add_word(out, b"none")?);
     };
-    match answer_to(alloc, &Alone, book, &own, partner, &[], now, &message, ()) {
+    match answer_to(
+        alloc,
+        &Alone,
+        book,
+        &own,
+        &Manner::plain(alloc),
+        partner,
+        &[],
+        now,
+        &message,
+        (),
+    ) {
         Ok(answer) => Ok(add_numbered(out, &answer)?),
         Err(why) => Ok(add_word(out, reason(why)?)?),
     }

@@ -16,9 +16,10 @@ use Rattle.locked_book.specs.declared.error.ServeError.{ServeError}
 use Rattle.client_service.specs.declared.partner.Partner.{Partner}
 use Rattle.client_service.specs.declared.partner.Partner.TheVariants.{Up, Down}
 use Rattle.client_service.specs.declared.silence.Silence.{Silence}
-use Rattle.client_service.specs.declared.silence.Silence.TheVariants.{NothingAsked, Refused, TooLong, Memory}
+use Rattle.client_service.specs.declared.silence.Silence.TheVariants.{NothingAsked, Elsewhere, Refused, TooLong, Memory}
 use Rattle.client_service.specs.Lines.{is_takeover, number_of, or_earlier, last_number}
 use Rattle.client_service.specs.Telling.{IsOfferedAs, EndsAtOnce, Ends, EndsBy, IsSeizeServed}
+use Rattle.server_book.specs.Manner.{plain}
 use Rattle.client_service.specs.Answering.{order_for, permit_at, AreTold, IsSilent}
 use Rattle.client_service.specs.Ending.{AreAllTold, IsCutShort}
 use Rattle.client_service.proofs.Orders.{last_number-append}
@@ -99,7 +100,7 @@ module _ (MayHave : List Receipt → Journal → Type 0) (now : ℕ) where
         h.2 ∙ (ap (λ rs. rs ++ h.1) own ∙ adds_nothing (drop 1 permits) (had ++ h.0) ias answers h.1 h.4)
 
     refused_nothing : (permits : List Permit) (had has : List Receipt) (e : ServeError)
-        → IsSilent MayHave Up [] m permits now had has (Refused e) → has ≡ had
+        → IsSilent MayHave Up [] plain m permits now had has (Refused e) → has ≡ had
     refused_nothing permits had has e h =
         let t = h.2 in
         let before = adds_nothing permits had (take t.0 m.ias) t.2 t.3 t.7 in
@@ -107,7 +108,7 @@ module _ (MayHave : List Receipt → Journal → Type 0) (now : ℕ) where
         let none = t.6 ∙ (ap (λ rs. rs ++ t.4) before ∙ last) in
         h.1 ∙ (ap (λ rs. had ++ rs) none ∙ append-nil had)
 
-    cut_nothing : (permits : List Permit) (had has : List Receipt) → IsSilent MayHave Up [] m permits now had has Memory
+    cut_nothing : (permits : List Permit) (had has : List Receipt) → IsSilent MayHave Up [] plain m permits now had has Memory
         → has ≡ had
     cut_nothing permits had has h =
         h.1 ∙ (ap (λ rs. had ++ rs) (adds_nothing permits had (take h.2.0 m.ias) h.2.1 h.0 h.2.2) ∙ append-nil had)
@@ -136,5 +137,6 @@ cut_writes_none MayHave Up m permits now had has (Refused e) h solicit up =
 cut_writes_none MayHave Up m permits now had has Memory h solicit up =
     cut_nothing MayHave now m solicit permits had has h
 cut_writes_none MayHave Up m permits now had has NothingAsked h solicit up = absurd h
+cut_writes_none MayHave Up m permits now had has Elsewhere h solicit up = absurd h
 cut_writes_none MayHave Up m permits now had has TooLong h solicit up = absurd h
 cut_writes_none MayHave Down m permits now had has why h solicit up = absurd cc

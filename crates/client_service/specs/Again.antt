@@ -1,5 +1,5 @@
 -- What a client is told of its whole message without a line: what it has already, for the seconds that remain of it.
-use Rattle.std.specs.Prelude.{◌≡◌, ◌≢◌, ℕ, ⊤, max, List, [], ◌∷◌, drop, Option, Some, None}
+use Rattle.std.specs.Prelude.{◌≡◌, ◌≢◌, false, ℕ, ⊤, max, List, [], ◌∷◌, drop, Option, Some, None}
 use Rattle.admission.specs.declared.permit.Permit.{Permit}
 use Rattle.admission.specs.declared.permit.Permit.TheVariants.{Ordered, Denied}
 use Rattle.dhcp6_pd.specs.declared.message.ClientKind.TheVariants.{Solicit}
@@ -11,7 +11,8 @@ use Rattle.order_book.specs.declared.order.Order.{Order}
 use Rattle.order_book.specs.declared.error.BookError.TheVariants.{NoPrefix as NoPrefixLeft, NoBinding as NoSuchBinding}
 use Rattle.server_book.specs.declared.messages.IaAnswer.{IaAnswer}
 use Rattle.server_book.specs.declared.messages.IaAnswer.TheVariants.{Given, NoPrefix, NoBinding}
-use Rattle.server_book.specs.Messages.{answer_of}
+use Rattle.server_book.specs.declared.manner.Manner.{Manner}
+use Rattle.server_book.specs.Messages.{answer_of, is_elsewhere}
 use Rattle.locked_book.specs.declared.receipt.Receipt.{Receipt}
 use Rattle.standing_lease.specs.declared.terms.RenewTerms.{RenewTerms}
 use Rattle.standing_lease.specs.Standing.{IsStanding}
@@ -63,11 +64,12 @@ AreAgain MayHave t m permits now had _ _ _ = ⊥
 
 -- The octets are those of the server's answer to the message, which isn't a SOLICIT: it tells each IA_PD what its
 -- client has already, or its refusal. No line is written, and the number is that of the last line that it tells of.
-pub record IsToldAgain (MayHave : List Receipt → Journal → Type 0) (t : RenewTerms) (own : List ℕ) (m : ClientMessage)
-    (permits : List Permit) (now : ℕ) (had : List Receipt) (octets : List ℕ) (line : Option ℕ) : Type 0 where
+pub record IsToldAgain (MayHave : List Receipt → Journal → Type 0) (t : RenewTerms) (own : List ℕ) (manner : Manner)
+    (m : ClientMessage) (permits : List Permit) (now : ℕ) (had : List Receipt) (octets : List ℕ) (line : Option ℕ) : Type 0 where
   pub answers : List IaAnswer
   pub numbers : List (Option ℕ)
   pub asks : m.kind ≢ Solicit
   pub told : AreAgain MayHave t m permits now had m.ias answers numbers
-  pub spelled : octets ≡ message_octets (answer_of m own answers)
+  pub spelled : octets ≡ message_octets (answer_of m own manner answers)
+  pub known : is_elsewhere m manner answers ≡ false
   pub last : line ≡ latest numbers

@@ -1,5 +1,5 @@
 -- What a client is told of its whole message, or why it is told nothing.
-use Rattle.std.specs.Prelude.{◌≡◌, ℕ, ◌<◌, List, [], ◌∷◌, ◌++◌, length, take, drop, slice_get, Option, Some, None}
+use Rattle.std.specs.Prelude.{◌≡◌, ⊤, true, false, ℕ, ◌<◌, List, [], ◌∷◌, ◌++◌, length, take, drop, slice_get, Option, Some, None}
 use Rattle.std.specs.Prelude.{Ok, Err}
 use Rattle.admission.specs.declared.permit.Permit.{Permit}
 use Rattle.admission.specs.declared.permit.Permit.TheVariants.{Ordered}
@@ -10,11 +10,13 @@ use Rattle.dhcp6_pd.specs.Layout.{message_octets}
 use Rattle.journal_lines.specs.declared.line.Journal.{Journal}
 use Rattle.order_book.specs.declared.order.Order.{Order}
 use Rattle.server_book.specs.declared.messages.IaAnswer.{IaAnswer}
-use Rattle.server_book.specs.Messages.{asked_in, order_by, answer_of}
+use Rattle.server_book.specs.declared.manner.Manner.{Manner}
+use Rattle.server_book.specs.Messages.{asked_in, order_by, answer_of, is_elsewhere, information_answer}
+use Rattle.dhcp6_pd.specs.declared.message.InformationRequest.{InformationRequest}
 use Rattle.locked_book.specs.declared.receipt.Receipt.{Receipt}
 use Rattle.client_service.specs.declared.partner.Partner.{Partner}
 use Rattle.client_service.specs.declared.silence.Silence.{Silence}
-use Rattle.client_service.specs.declared.silence.Silence.TheVariants.{NothingAsked, Refused, TooLong, Memory}
+use Rattle.client_service.specs.declared.silence.Silence.TheVariants.{NothingAsked, Refused, Elsewhere, TooLong, Memory}
 use Rattle.client_service.specs.Lines.{last_number}
 use Rattle.client_service.specs.Telling.{EndsBy}
 
@@ -42,40 +44,52 @@ AreTold MayHave partner m permits now had _ _ added = ⊥
 
 -- The octets are those of the server's answer to the message: it tells each IA_PD what the receipts say that were
 -- added. The number is that of the last line that it tells of.
-pub record IsTold (MayHave : List Receipt → Journal → Type 0) (partner : Partner) (own : List ℕ) (m : ClientMessage)
-    (permits : List Permit) (now : ℕ) (had has : List Receipt) (octets : List ℕ) (line : Option ℕ) : Type 0 where
+pub record IsTold (MayHave : List Receipt → Journal → Type 0) (partner : Partner) (own : List ℕ) (manner : Manner)
+    (m : ClientMessage) (permits : List Permit) (now : ℕ) (had has : List Receipt) (octets : List ℕ) (line : Option ℕ) : Type 0 where
   pub answers : List IaAnswer
   pub added : List Receipt
   pub all : has ≡ had ++ added
   pub told : AreTold MayHave partner m permits now had m.ias answers added
-  pub spelled : octets ≡ message_octets (answer_of m own answers)
+  pub spelled : octets ≡ message_octets (answer_of m own manner answers)
+  pub known : is_elsewhere m manner answers ≡ false
   pub last : line ≡ last_number added
 
 -- ---- no answer
 
 -- why there is none, where so many receipts were added: those of the IA_PDs that were served before stand
-abbrev pub IsSilence : (List Receipt → Journal → Type 0) → Partner → List ℕ → ClientMessage → List Permit → ℕ
+abbrev pub IsSilence : (List Receipt → Journal → Type 0) → Partner → List ℕ → Manner → ClientMessage → List Permit → ℕ
     → List Receipt → List Receipt → Silence → Type 0
-IsSilence MayHave partner own m permits now had added NothingAsked = (m.ias ≡ []) × (added ≡ [])
-IsSilence MayHave partner own m permits now had added (Refused e) =
+IsSilence MayHave partner own manner m permits now had added NothingAsked = (m.ias ≡ []) × (added ≡ [])
+IsSilence MayHave partner own manner m permits now had added (Refused e) =
     (place : ℕ) × (ia : IaPd) × (answers : List IaAnswer) × (earlier : List Receipt) × (last : List Receipt)
     × (slice_get m.ias place ≡ Some ia) × (added ≡ earlier ++ last)
     × AreTold MayHave partner m permits now had (take place m.ias) answers earlier
     × EndsBy MayHave (permit_at permits place) partner m.kind now (had ++ earlier) (order_for m ia) last (Err e)
-IsSilence MayHave partner own m permits now had added TooLong =
+IsSilence MayHave partner own manner m permits now had added Elsewhere =
     (answers : List IaAnswer) × AreTold MayHave partner m permits now had m.ias answers added
-    × (MAX_OCTETS < length (message_octets (answer_of m own answers)))
-IsSilence MayHave partner own m permits now had added Memory =
+    × (is_elsewhere m manner answers ≡ true)
+IsSilence MayHave partner own manner m permits now had added TooLong =
+    (answers : List IaAnswer) × AreTold MayHave partner m permits now had m.ias answers added
+    × (MAX_OCTETS < length (message_octets (answer_of m own manner answers)))
+IsSilence MayHave partner own manner m permits now had added Memory =
     (count : ℕ) × (answers : List IaAnswer) × AreTold MayHave partner m permits now had (take count m.ias) answers added
 
 -- receipts were added, and no other changed
-abbrev pub IsSilent : (List Receipt → Journal → Type 0) → Partner → List ℕ → ClientMessage → List Permit → ℕ
+abbrev pub IsSilent : (List Receipt → Journal → Type 0) → Partner → List ℕ → Manner → ClientMessage → List Permit → ℕ
     → List Receipt → List Receipt → Silence → Type 0
-IsSilent MayHave partner own m permits now had has why =
-    (added : List Receipt) × (has ≡ had ++ added) × IsSilence MayHave partner own m permits now had added why
+IsSilent MayHave partner own manner m permits now had has why =
+    (added : List Receipt) × (has ≡ had ++ added) × IsSilence MayHave partner own manner m permits now had added why
 
 -- an answer: what is sent, to whom, and the number of the last line that it tells of
 pub record AnswerTo (P : Type 0) : Type 0 where
   pub octets : List ℕ
   pub peer : P
   pub line : Option ℕ
+
+-- ---- requests for options alone
+
+-- why such a request has no answer
+abbrev pub IsUninformed : List ℕ → Manner → InformationRequest → Silence → Type 0
+IsUninformed own manner i TooLong = MAX_OCTETS < length (message_octets (information_answer i own manner))
+IsUninformed own manner i Memory = ⊤
+IsUninformed own manner i why = ⊥

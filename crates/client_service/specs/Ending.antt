@@ -17,11 +17,14 @@ use Rattle.locked_book.specs.declared.error.ServeError.{ServeError}
 use Rattle.locked_book.specs.declared.error.ServeError.TheVariants.{Book}
 use Rattle.dhcp6_pd.specs.declared.message.ClientMessage.{ClientMessage}
 use Rattle.dhcp6_pd.specs.declared.message.IaPd.{IaPd}
+use Rattle.dhcp6_pd.specs.declared.message.ServerMessage.{ServerMessage}
 use Rattle.dhcp6_pd.specs.declared.numbers.TheConstants.{MAX_OCTETS}
 use Rattle.dhcp6_pd.specs.Layout.{message_octets}
-use Rattle.server_book.specs.Messages.{answer_of}
+use Rattle.server_book.specs.declared.manner.Manner.{Manner}
+use Rattle.server_book.specs.Manner.{plain}
+use Rattle.server_book.specs.Messages.{answer_of, is_elsewhere}
 use Rattle.client_service.specs.declared.silence.Silence.{Silence}
-use Rattle.client_service.specs.declared.silence.Silence.TheVariants.{Refused, TooLong, Memory}
+use Rattle.client_service.specs.declared.silence.Silence.TheVariants.{Refused, Elsewhere, TooLong, Memory}
 use Rattle.client_service.specs.Answering.{order_for, permit_at, AreTold, IsSilent}
 use Rattle.standing_lease.specs.declared.terms.RenewTerms.{RenewTerms}
 use Rattle.client_service.specs.Again.{IsAgainBy, AreAgain, latest}
@@ -116,15 +119,22 @@ AreAllTold MayHave partner m permits now had has answers line =
 abbrev pub IsCutShort : (List Receipt → Journal → Type 0) → Partner → ClientMessage → List Permit → ℕ → List Receipt
     → List Receipt → Silence → Type 0
 IsCutShort MayHave partner m permits now had has (Refused e) =
-    IsSilent MayHave partner [] m permits now had has (Refused e)
-IsCutShort MayHave partner m permits now had has Memory = IsSilent MayHave partner [] m permits now had has Memory
+    IsSilent MayHave partner [] plain m permits now had has (Refused e)
+IsCutShort MayHave partner m permits now had has Memory = IsSilent MayHave partner [] plain m permits now had has Memory
 IsCutShort MayHave partner m permits now had has why = ⊥
 
+-- why a message is not encoded
+abbrev pub IsUnencoded : ServerMessage → Silence → Type 0
+IsUnencoded s TooLong = MAX_OCTETS < length (message_octets s)
+IsUnencoded s Memory = ⊤
+IsUnencoded s why = ⊥
+
 -- why nothing is written
-abbrev pub IsUnwritten : List ℕ → ClientMessage → List IaAnswer → Silence → Type 0
-IsUnwritten own m answers TooLong = MAX_OCTETS < length (message_octets (answer_of m own answers))
-IsUnwritten own m answers Memory = ⊤
-IsUnwritten own m answers why = ⊥
+abbrev pub IsUnwritten : List ℕ → Manner → ClientMessage → List IaAnswer → Silence → Type 0
+IsUnwritten own manner m answers Elsewhere = is_elsewhere m manner answers ≡ true
+IsUnwritten own manner m answers TooLong = MAX_OCTETS < length (message_octets (answer_of m own manner answers))
+IsUnwritten own manner m answers Memory = ⊤
+IsUnwritten own manner m answers why = ⊥
 
 -- ---- without a line
 

@@ -13,7 +13,8 @@
 //! ```text
 //! let message = decode(alloc, datagram, &own)?;
 //! let service = Shared { rt, book: &shared };
-//! let told = answer_to(alloc, &service, &mut pass, &own, Partner::Up, &permits, clock.now()?, &message, peer);
+//! let now = clock.now()?;
+//! let told = answer_to(alloc, &service, &mut pass, &own, &manner, Partner::Up, &permits, now, &message, peer);
 //! if let Ok(answer) = told { socket.send(answer.peer(), answer.octets())?; }
 //! ```
 #![tactic(auto)]
@@ -31,7 +32,7 @@ mod silence;
 mod told;
 
 pub use alone::Alone;
-pub use answer::{Answer, answer_again, answer_to};
+pub use answer::{Answer, answer_again, answer_information, answer_to};
 pub use partner::Partner;
 pub use service::Service;
 pub use shared::Shared;

@@ -12,6 +12,9 @@ pub enum Silence {
     /// The order of an IA_PD ended in what no client is told: any refusal but `NoPrefix` and `NoBinding`.
     #[error("an order was refused: {0}")]
     Refused(ServeError),
+    /// It is a REBIND of nothing that the server has a binding for, and another server may have it.
+    #[error("nothing is known of what it asks for, and another server may know it")]
+    Elsewhere,
     /// The answer has more than 65,535 octets.
     #[error("the answer has more than 65,535 octets")]
     TooLong,

@@ -12,6 +12,7 @@ use daemon_devices::Datagrams;
 use dhcp6_pd::{ClientKind, PdError, PdFault, ServerKind};
 use lead_time::{Reading, Transit};
 use order_book::Book;
+use server_book::Manner;
 use server_notices::{Happening, Log};
 use server_run::{Heard, HeldAnswer, Running};
 use server_status::Traffic;
@@ -98,7 +99,10 @@ impl<G: Datagrams> Clients<G> {
                 self.traffic.messages.add(*kind);
                 let _ = self.held.push(answer_kind(*kind));
             }
-            Heard::Unanswered(_) => {
+            Heard::Informed => {
+                let _ = self.held.push(ServerKind::Reply);
+            }
+            Heard::Unanswered(_) | Heard::Uninformed(_) => {
                 self.traffic.unanswered = self.traffic.unanswered.saturating_add(1);
             }
             Heard::TooMany => {
@@ -120,6 +124,7 @@ impl<G: Datagrams> Clients<G> {
     pub fn hear<F: Folder + Drop, C: Clocks, L: Print>(
         &mut self,
         running: &mut Running<F, G::Peer>,
+        manner: &Manner,
         clocks: &C,
         log: &mut Log<'_, L>,
     ) -> Result<usize, HearingError>
@@ -140,7 +145,8 @@ impl<G: Datagrams> Clients<G> {
             };
             let strays = self.limiter.strays();
             self.limiter.comes_from(source_of::<G>(&peer));
-            let heard = running.hear(&mut self.limiter, now.reading, &self.buffer[..length], peer);
+            let datagram = &self.buffer[..length];
+            let heard = running.hear(&mut self.limiter, manner, now.reading, datagram, peer);
             self.count(&heard, now.reading, log);
             self.tell_strays(strays, now.reading, log);
         }

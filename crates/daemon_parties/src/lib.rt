@@ -4,7 +4,7 @@
 //! They stand on devices that don't wait (`daemon_devices`), and on a server that runs (`server_run`).
 //!
 //! ```text
-//! clients.hear(&mut running, &clocks, &mut log)?;
+//! clients.hear(&mut running, &manner, &clocks, &mut log)?;
 //! partner.hear(&mut running, &settings, &now, &clocks, &mut log)?;
 //! .. running.settle() ..
 //! clients.send(&answers, now.reading, &mut log);

@@ -12,12 +12,15 @@ use Rattle.dhcp6_pd.specs.declared.error.PdFault.TheVariants.{Short, TooDeep, Ig
 use Rattle.dhcp6_pd.specs.declared.numbers.TheConstants.{CLIENT_ID, SERVER_ID, RELAY_MESSAGE, INTERFACE_ID}
 use Rattle.dhcp6_pd.specs.declared.numbers.TheConstants.{REMOTE_ID, RELAY_FORWARD}
 use Rattle.dhcp6_pd.specs.declared.message.ClientKind.{ClientKind}
+use Rattle.dhcp6_pd.specs.declared.reads.Reads.TheVariants.{Leases}
+use Rattle.dhcp6_pd.specs.declared.reads.MessageKind.{MessageKind}
+use Rattle.dhcp6_pd.specs.declared.reads.MessageKind.TheVariants.{Lease, Information}
 use Rattle.dhcp6_pd.specs.declared.relay_options.RelayOptions.{RelayOptions}
 use Rattle.dhcp6_pd.specs.declared.untested.UntestedMessage.{UntestedMessage}
 use Rattle.dhcp6_pd.specs.Layout.{option_octets}
 use Rattle.dhcp6_pd.specs.Options.{DhcpOption, IsOption, octets_of, data_of}
 use Rattle.dhcp6_pd.specs.Rows.{Row, Done, Broken, Next, row_of, code_of, folded}
-use Rattle.dhcp6_pd.specs.Grammar.{type_of}
+use Rattle.dhcp6_pd.specs.Grammar.{lease_type}
 use Rattle.dhcp6_pd.specs.Refusals.{relay_message, Carries, Carried, IsDeeper, IsOfOtherType}
 use Rattle.dhcp6_pd.specs.Faults.{seen_once, kind_of, relay_code, relay_option, no_relay_options, to_message, relay_of}
 use Rattle.dhcp6_pd.specs.Faults.{by_relay, behind, relay_in, or_ignored, by_type, message_in}
@@ -251,54 +254,55 @@ fails_relay parse octets inside fault h e = let f = found_again octets inside h 
 -- ---- too many relays
 
 -- a message of another fault than those of options
-other_type : (kind : Option ClientKind) (octets : List ℕ) (fault : PdFault) → (OfOptions fault → ⊥)
+other_type : (kind : Option MessageKind) (octets : List ℕ) (fault : PdFault) → (OfOptions fault → ⊥)
     → or_ignored kind octets ≡ Err fault → (kind ≡ None) × (fault ≡ Ignored)
 other_type None octets fault never e = (refl, cc)
 other_type (Some kind) octets fault never e = absurd (never (subst (Faults OfOptions) e (client_in_faults kind octets)))
 
-pub deep_takes : (left : ℕ) (octets : List ℕ) → AreOctets octets → message_in left octets ≡ Err TooDeep
+pub deep_takes : (left : ℕ) (octets : List ℕ) → AreOctets octets → message_in Leases left octets ≡ Err TooDeep
     → IsDeeper left octets
 unfolding message_in
 deep_takes zero [] fits e = absurd cc
 deep_takes (suc left) [] fits e = absurd cc
 deep_takes zero (x ∷ octets) fits e = by (x == RELAY_FORWARD) refl e
   where
-    by : (t : Bool) → (x == RELAY_FORWARD) ≡ t → (if t then Err TooDeep else or_ignored (kind_of x) (x ∷ octets))
+    by : (t : Bool) → (x == RELAY_FORWARD) ≡ t → (if t then Err TooDeep else or_ignored (kind_of Leases x) (x ∷ octets))
         ≡ Err TooDeep → IsDeeper zero (x ∷ octets)
     by true t e = record { inside = x ∷ octets; carried = refl; some = omega arith; kind = eqb-true x RELAY_FORWARD t }
-    by false t e = absurd (let f = (other_type (kind_of x) (x ∷ octets) TooDeep (λ h. h) e).1 in cc)
+    by false t e = absurd (let f = (other_type (kind_of Leases x) (x ∷ octets) TooDeep (λ h. h) e).1 in cc)
 deep_takes (suc left) (x ∷ octets) fits e = by (x == RELAY_FORWARD) refl (deep_takes left) e
   where
     by : (t : Bool) → (x == RELAY_FORWARD) ≡ t
-        → ((inside : List ℕ) → AreOctets inside → message_in left inside ≡ Err TooDeep → IsDeeper left inside)
-        → (if t then relay_in (message_in left) (x ∷ octets) else or_ignored (kind_of x) (x ∷ octets)) ≡ Err TooDeep
+        → ((inside : List ℕ) → AreOctets inside → message_in Leases left inside ≡ Err TooDeep → IsDeeper left inside)
+        → (if t then relay_in (message_in Leases left) (x ∷ octets) else or_ignored (kind_of Leases x) (x ∷ octets)) ≡ Err TooDeep
         → IsDeeper (suc left) (x ∷ octets)
     by true t again e =
-        let f = relay_fails (message_in left) (x ∷ octets) TooDeep fits (eqb-true x RELAY_FORWARD t) (λ h. h) e in
+        let f = relay_fails (message_in Leases left) (x ∷ octets) TooDeep fits (eqb-true x RELAY_FORWARD t) (λ h. h) e in
         let d = again f.inside f.fits f.fails in
         record { inside = d.inside; carried = (f.inside, f.carries, d.carried); some = d.some; kind = d.kind }
-    by false t again e = absurd (let f = (other_type (kind_of x) (x ∷ octets) TooDeep (λ h. h) e).1 in cc)
+    by false t again e = absurd (let f = (other_type (kind_of Leases x) (x ∷ octets) TooDeep (λ h. h) e).1 in cc)
 
 pub deep_again : (left : ℕ) (octets inside : List ℕ) → Carried left octets inside → 0 < length inside
-    → slice_index inside 0 ≡ RELAY_FORWARD → message_in left octets ≡ Err TooDeep
+    → slice_index inside 0 ≡ RELAY_FORWARD → message_in Leases left octets ≡ Err TooDeep
 unfolding message_in
 deep_again zero octets [] h some kind = absurd (omega arith)
 deep_again zero octets (x ∷ inside) h some kind = rw h (by_relay_type x inside kind)
   where
     by_relay_type : (x : ℕ) (inside : List ℕ) → x ≡ RELAY_FORWARD
-        → by_type (λ _. Err TooDeep) (x ∷ inside) ≡ Err TooDeep
+        → by_type Leases (λ _. Err TooDeep) (x ∷ inside) ≡ Err TooDeep
     by_relay_type x inside is = rw (eq-eqb x RELAY_FORWARD is) refl
 deep_again (suc left) octets inside h some kind =
-    relay_typed (relay_in (message_in left)) octets h.1.whole h.1.kind
-    ∙ fails_relay (message_in left) octets h.0 TooDeep h.1 (deep_again left h.0 inside h.2 some kind)
+    relay_typed Leases (relay_in (message_in Leases left)) octets h.1.whole h.1.kind
+    ∙ fails_relay (message_in Leases left) octets h.0 TooDeep h.1 (deep_again left h.0 inside h.2 some kind)
 
 -- ---- a type that is not read
 
-unknown : (x : ℕ) (kind : ClientKind) → kind_of x ≡ None → x ≢ type_of kind
-unknown x kind e is = absurd (let f : kind_of x ≡ Some kind = ap kind_of is ∙ (kind_again kind).1 in cc)
+unknown : (x : ℕ) (kind : ClientKind) → kind_of Leases x ≡ None → x ≢ lease_type kind
+unknown x kind e is = absurd (let f : kind_of Leases x ≡ Some (Lease kind) = ap (kind_of Leases) is
+    ∙ (kind_again Leases (Lease kind) tt).1 in cc)
 
 here : (left x : ℕ) (octets : List ℕ) → (x == RELAY_FORWARD) ≡ false
-    → or_ignored (kind_of x) (x ∷ octets) ≡ Err Ignored → IsOfOtherType left (x ∷ octets)
+    → or_ignored (kind_of Leases x) (x ∷ octets) ≡ Err Ignored → IsOfOtherType left (x ∷ octets)
 here left x octets t e = record {
   relays = zero;
   few = omega arith;
@@ -307,28 +311,28 @@ here left x octets t e = record {
   some = omega arith;
   relay = λ is. (let u : (x == RELAY_FORWARD) ≡ true = eq-eqb x RELAY_FORWARD is in
       absurd (let v : true ≡ false = sym u ∙ t in cc));
-  other = λ kind. unknown x kind (other_type (kind_of x) (x ∷ octets) Ignored (λ h. h) e).0;
+  other = λ kind. unknown x kind (other_type (kind_of Leases x) (x ∷ octets) Ignored (λ h. h) e).0;
 }
 
-pub other_takes : (left : ℕ) (octets : List ℕ) → AreOctets octets → message_in left octets ≡ Err Ignored
+pub other_takes : (left : ℕ) (octets : List ℕ) → AreOctets octets → message_in Leases left octets ≡ Err Ignored
     → IsOfOtherType left octets
 unfolding message_in
 other_takes zero [] fits e = absurd cc
 other_takes (suc left) [] fits e = absurd cc
 other_takes zero (x ∷ octets) fits e = by (x == RELAY_FORWARD) refl e
   where
-    by : (t : Bool) → (x == RELAY_FORWARD) ≡ t → (if t then Err TooDeep else or_ignored (kind_of x) (x ∷ octets))
+    by : (t : Bool) → (x == RELAY_FORWARD) ≡ t → (if t then Err TooDeep else or_ignored (kind_of Leases x) (x ∷ octets))
         ≡ Err Ignored → IsOfOtherType zero (x ∷ octets)
     by true t e = absurd cc
     by false t e = here zero x octets t e
 other_takes (suc left) (x ∷ octets) fits e = by (x == RELAY_FORWARD) refl (other_takes left) e
   where
     by : (t : Bool) → (x == RELAY_FORWARD) ≡ t
-        → ((inside : List ℕ) → AreOctets inside → message_in left inside ≡ Err Ignored → IsOfOtherType left inside)
-        → (if t then relay_in (message_in left) (x ∷ octets) else or_ignored (kind_of x) (x ∷ octets)) ≡ Err Ignored
+        → ((inside : List ℕ) → AreOctets inside → message_in Leases left inside ≡ Err Ignored → IsOfOtherType left inside)
+        → (if t then relay_in (message_in Leases left) (x ∷ octets) else or_ignored (kind_of Leases x) (x ∷ octets)) ≡ Err Ignored
         → IsOfOtherType (suc left) (x ∷ octets)
     by true t again e =
-        let f = relay_fails (message_in left) (x ∷ octets) Ignored fits (eqb-true x RELAY_FORWARD t) (λ h. h) e in
+        let f = relay_fails (message_in Leases left) (x ∷ octets) Ignored fits (eqb-true x RELAY_FORWARD t) (λ h. h) e in
         let d = again f.inside f.fits f.fails in
         record {
           relays = suc d.relays;
@@ -343,29 +347,30 @@ other_takes (suc left) (x ∷ octets) fits e = by (x == RELAY_FORWARD) refl (oth
     by false t again e = here (suc left) x octets t e
 
 -- a type that is not read is not known
-none_of : (x : ℕ) → ((kind : ClientKind) → x ≢ type_of kind) → kind_of x ≡ None
-none_of x other = by (kind_of x) refl
+none_of : (x : ℕ) → ((kind : ClientKind) → x ≢ lease_type kind) → kind_of Leases x ≡ None
+none_of x other = by (kind_of Leases x) refl
   where
-    by : (o : Option ClientKind) → kind_of x ≡ o → kind_of x ≡ None
+    by : (o : Option MessageKind) → kind_of Leases x ≡ o → kind_of Leases x ≡ None
     by None e = e
-    by (Some kind) e = absurd (other kind (kind_takes x kind e))
+    by (Some (Lease kind)) e = absurd (other kind (kind_takes Leases x (Lease kind) e).0)
+    by (Some Information) e = absurd (kind_takes Leases x Information e).1
 
 typed : (relay : List ℕ → Result UntestedMessage PdFault) (octets : List ℕ) → 0 < length octets
-    → slice_index octets 0 ≢ RELAY_FORWARD → ((kind : ClientKind) → slice_index octets 0 ≢ type_of kind)
-    → by_type relay octets ≡ Err Ignored
+    → slice_index octets 0 ≢ RELAY_FORWARD → ((kind : ClientKind) → slice_index octets 0 ≢ lease_type kind)
+    → by_type Leases relay octets ≡ Err Ignored
 typed relay [] some never other = absurd (omega arith)
 typed relay (x ∷ octets) some never other = rw (ne_eqb x RELAY_FORWARD never, none_of x other) refl
 
 pub other_again : (relays left : ℕ) (octets inside : List ℕ) → relays ≤ left → Carried relays octets inside
     → 0 < length inside → slice_index inside 0 ≢ RELAY_FORWARD
-    → ((kind : ClientKind) → slice_index inside 0 ≢ type_of kind)
-    → message_in left octets ≡ Err Ignored
+    → ((kind : ClientKind) → slice_index inside 0 ≢ lease_type kind)
+    → message_in Leases left octets ≡ Err Ignored
 unfolding message_in
 other_again zero zero octets inside few h some never other = rw h (typed (λ _. Err TooDeep) inside some never other)
 other_again zero (suc left) octets inside few h some never other =
-    rw h (typed (relay_in (message_in left)) inside some never other)
+    rw h (typed (relay_in (message_in Leases left)) inside some never other)
 other_again (suc relays) zero octets inside few h some never other = absurd (omega arith)
 other_again (suc relays) (suc left) octets inside few h some never other =
-    relay_typed (relay_in (message_in left)) octets h.1.whole h.1.kind
-    ∙ fails_relay (message_in left) octets h.0 Ignored h.1
+    relay_typed Leases (relay_in (message_in Leases left)) octets h.1.whole h.1.kind
+    ∙ fails_relay (message_in Leases left) octets h.0 Ignored h.1
     (other_again relays left h.0 inside (omega (arith, few)) h.2 some never other)

@@ -1,7 +1,7 @@
 -- Which faults parsing gives: those of options, those of relays and types, and last those of identifiers.
 use Rattle.std.proofs.Common.{ℕ, zero, suc, ◌+◌, Bool, true, false, List, [], ◌∷◌, length, drop, Option, Some, None}
 use Rattle.std.proofs.Common.{Result, Ok, Err}
-use Rattle.std.specs.Prelude.{◌==◌, nat_lt, slice_index, if◌then◌else◌}
+use Rattle.std.specs.Prelude.{◌==◌, ◌%◌, nat_lt, slice_index, if◌then◌else◌}
 use Rattle.byteorder.specs.Endian.{big_number}
 use Rattle.prefix_range.specs.Prefix.{Prefix}
 use Rattle.client_id.specs.Duid.{duid_in}
@@ -12,7 +12,11 @@ use Rattle.dhcp6_pd.specs.declared.error.PdFault.TheVariants.{Short, OptionLengt
 use Rattle.dhcp6_pd.specs.declared.error.PdFault.TheVariants.{ServerIdPresent, ServerIdMissing, NotOurs, TooDeep}
 use Rattle.dhcp6_pd.specs.declared.error.PdFault.TheVariants.{TooManyIas, Ignored, BadPrefixLength}
 use Rattle.dhcp6_pd.specs.declared.numbers.TheConstants.{IA_PREFIX, RELAY_MESSAGE, RELAY_FORWARD}
-use Rattle.dhcp6_pd.specs.declared.message.ClientKind.{ClientKind}
+use Rattle.dhcp6_pd.specs.declared.reads.Reads.{Reads}
+use Rattle.dhcp6_pd.specs.declared.reads.MessageKind.{MessageKind}
+use Rattle.dhcp6_pd.specs.declared.wishes.Wishes.{Wishes}
+use Rattle.dhcp6_pd.specs.declared.numbers.TheConstants.{OPTION_REQUEST, IA_NA, IA_TA}
+use Rattle.dhcp6_pd.specs.Wishes.{request_in, request_once, wish_option, no_wishes}
 use Rattle.dhcp6_pd.specs.declared.option_code.OptionCode.{OptionCode}
 use Rattle.dhcp6_pd.specs.declared.option_code.OptionCode.TheVariants as codes
 use Rattle.dhcp6_pd.specs.declared.client_options.ClientOptions.{ClientOptions}
@@ -186,11 +190,25 @@ relay_faults l o = by (code_of o.code)
     by codes.IaPrefix = tt
     by codes.Other = tt
 
-pub client_in_faults : (kind : ClientKind) (octets : List ℕ) → Faults OfOptions (client_in kind octets)
+request_faults : (before : Option (List ℕ)) (octets : List ℕ) → Faults OfOptions (request_once before octets)
+unfolding request_once request_in
+request_faults None octets = bind_faults OfOptions (request_in octets) _
+    (if_faults OfOptions (length octets % 2 == 0) _ _ tt tt) (λ _. tt)
+request_faults (Some codes) octets = tt
+
+wish_faults : (w : Wishes) (o : DhcpOption) → Faults OfOptions (wish_option w o)
+unfolding wish_option
+wish_faults w o = if_faults OfOptions (o.code == OPTION_REQUEST) _ _
+    (bind_faults OfOptions (request_once w.requested o.octets) _ (request_faults w.requested o.octets) (λ _. tt))
+    (if_faults OfOptions (o.code == IA_NA) _ _ tt (if_faults OfOptions (o.code == IA_TA) _ _ tt tt))
+
+pub client_in_faults : (kind : MessageKind) (octets : List ℕ) → Faults OfOptions (client_in kind octets)
 unfolding client_in
 client_in_faults kind octets = if_faults OfOptions (nat_lt (length octets) 4) _ _ tt
     (bind_faults OfOptions (folded client_option no_client_options (row_of (drop 4 octets))) _
-    (folded_faults client_option no_client_options _ client_faults (row_faults 0 (drop 4 octets))) (λ _. tt))
+    (folded_faults client_option no_client_options _ client_faults (row_faults 0 (drop 4 octets)))
+    (λ _. bind_faults OfOptions (folded wish_option no_wishes (row_of (drop 4 octets))) _
+    (folded_faults wish_option no_wishes _ wish_faults (row_faults 0 (drop 4 octets))) (λ _. tt)))
 
 -- the options up to the relay message, and those behind it
 abbrev pub Rest : RelayOptions × Option (List ℕ × Row) → Type 0
@@ -243,22 +261,22 @@ behind_faults parse octets (Ok (l, Some (inside, row))) h up =
     (wider _ OfOptions OfOctets (folded relay_option l row) of_octets
     (folded_faults relay_option l row relay_faults up)) (λ _. tt))
 
-ignored_faults : (kind : Option ClientKind) (octets : List ℕ) → Faults OfOctets (or_ignored kind octets)
+ignored_faults : (kind : Option MessageKind) (octets : List ℕ) → Faults OfOctets (or_ignored kind octets)
 ignored_faults None octets = tt
 ignored_faults (Some kind) octets = wider _ OfOptions OfOctets (client_in kind octets) of_octets
     (client_in_faults kind octets)
 
-type_faults : (relay : List ℕ → Result UntestedMessage PdFault) (octets : List ℕ) → Faults OfOctets (relay octets)
-    → Faults OfOctets (by_type relay octets)
-type_faults relay [] h = tt
-type_faults relay (x ∷ octets) h = if_faults OfOctets (x == RELAY_FORWARD) _ _ h
-    (ignored_faults (kind_of x) (x ∷ octets))
+type_faults : (reads : Reads) (relay : List ℕ → Result UntestedMessage PdFault) (octets : List ℕ)
+    → Faults OfOctets (relay octets) → Faults OfOctets (by_type reads relay octets)
+type_faults reads relay [] h = tt
+type_faults reads relay (x ∷ octets) h = if_faults OfOctets (x == RELAY_FORWARD) _ _ h
+    (ignored_faults (kind_of reads x) (x ∷ octets))
 
-pub message_faults : (left : ℕ) (octets : List ℕ) → Faults OfOctets (message_in left octets)
+pub message_faults : (reads : Reads) (left : ℕ) (octets : List ℕ) → Faults OfOctets (message_in reads left octets)
 unfolding message_in relay_in
-message_faults zero octets = type_faults (λ _. Err TooDeep) octets tt
-message_faults (suc left) octets =
-    type_faults (relay_in (message_in left)) octets
+message_faults reads zero octets = type_faults reads (λ _. Err TooDeep) octets tt
+message_faults reads (suc left) octets =
+    type_faults reads (relay_in (message_in reads left)) octets
     (if_faults OfOctets (nat_lt (length octets) 34) _ _ tt
-    (behind_faults (message_in left) octets _ (message_faults left)
+    (behind_faults (message_in reads left) octets _ (message_faults reads left)
     (to_message_faults no_relay_options (row_of (drop 34 octets)) (row_faults 0 (drop 34 octets)))))

@@ -10,22 +10,29 @@ use Rattle.dhcp6_pd.specs.declared.error.PdFault.TheVariants.{NotOurs}
 use Rattle.dhcp6_pd.specs.declared.error.PdError.{PdError}
 use Rattle.dhcp6_pd.specs.declared.message.ClientKind.{ClientKind}
 use Rattle.dhcp6_pd.specs.declared.message.ClientKind.TheVariants.{Solicit, Request, Renew, Rebind, Release}
+use Rattle.dhcp6_pd.specs.declared.reads.Reads.{Reads}
+use Rattle.dhcp6_pd.specs.declared.reads.Reads.TheVariants.{Leases}
+use Rattle.dhcp6_pd.specs.declared.reads.MessageKind.{MessageKind}
+use Rattle.dhcp6_pd.specs.declared.reads.MessageKind.TheVariants.{Lease, Information}
+use Rattle.dhcp6_pd.specs.Refusals.{IsRead}
 use Rattle.dhcp6_pd.specs.declared.message.ClientMessage.{ClientMessage}
 use Rattle.dhcp6_pd.specs.declared.untested.UntestedMessage.{UntestedMessage}
 use Rattle.dhcp6_pd.specs.declared.numbers.TheConstants.{MAX_RELAYS}
 use Rattle.dhcp6_pd.specs.Grammar.{SpellsUntested, server_for, addressed, Spells}
-use Rattle.dhcp6_pd.specs.Faults.{message_in, for_server, or_no_client, identified, message_of}
+use Rattle.dhcp6_pd.specs.Faults.{message_in, for_server, or_no_client, lease_or_ignored, identified}
+use Rattle.dhcp6_pd.specs.Faults.{message_of}
 use Rattle.dhcp6_pd.specs.Answers.{Gives}
 use Rattle.dhcp6_pd.proofs.Binds.{bind_ok, allowed, ok_is}
 use Rattle.dhcp6_pd.proofs.MessageLaws.{message_takes, message_again}
 
-pub untested_takes : (octets : List ℕ) (u : UntestedMessage) → AreOctets octets → message_in MAX_RELAYS octets ≡ Ok u
-    → SpellsUntested octets u
-untested_takes octets u fits e = let h = message_takes MAX_RELAYS octets u fits e in record { spelled = h.0; few = h.1 }
+pub untested_takes : (reads : Reads) (octets : List ℕ) (u : UntestedMessage) → AreOctets octets
+    → message_in reads MAX_RELAYS octets ≡ Ok u → SpellsUntested octets u × IsRead reads u.kind
+untested_takes reads octets u fits e =
+    let h = message_takes reads MAX_RELAYS octets u fits e in (record { spelled = h.0; few = h.1 }, h.2)
 
-pub untested_again : (octets : List ℕ) (u : UntestedMessage) → SpellsUntested octets u
-    → message_in MAX_RELAYS octets ≡ Ok u
-untested_again octets u h = message_again u.relays MAX_RELAYS octets u h.spelled h.few
+pub untested_again : (reads : Reads) (octets : List ℕ) (u : UntestedMessage) → IsRead reads u.kind
+    → SpellsUntested octets u → message_in reads MAX_RELAYS octets ≡ Ok u
+untested_again reads octets u read h = message_again reads u.relays MAX_RELAYS octets u read h.spelled h.few
 
 -- ---- the identifiers
 
@@ -60,15 +67,21 @@ client_some : (o : Option (List ℕ)) (client : List ℕ) → or_no_client o ≡
 client_some None client e = absurd cc
 client_some (Some x) client e = ap (λ (y : List ℕ). Some y) (ok_is x client e)
 
+lease_is : (kind : MessageKind) (k : ClientKind) → lease_or_ignored kind ≡ Ok k → kind ≡ Lease k
+lease_is (Lease kind) k e = ap (λ (x : ClientKind). Lease x) (ok_is kind k e)
+lease_is Information k e = absurd cc
+
 identified_takes : (own : List ℕ) (u : UntestedMessage) (m : ClientMessage) → identified own u ≡ Ok m
     → u ≡ addressed own m
 unfolding identified
 identified_takes own u m e =
-    let c = bind_ok (or_no_client u.client) _ m e in
-    let s = bind_ok (for_server own u.kind u.server) _ m c.2 in
+    let k = bind_ok (lease_or_ignored u.kind) _ m e in
+    let c = bind_ok (or_no_client u.client) _ m k.2 in
+    let s = bind_ok (for_server own k.0 u.server) _ m c.2 in
     ap (λ (x : Option (List ℕ)). record u { client = x }) (client_some u.client c.0 c.1)
-    ∙ (ap (λ (x : Option (List ℕ)). record u { client = Some c.0; server = x }) (server_takes own u.kind u.server s.1)
-    ∙ ap (addressed own) (ok_is _ _ s.2))
+    ∙ (ap (λ (x : Option (List ℕ)). record u { client = Some c.0; server = x }) (server_takes own k.0 u.server s.1)
+    ∙ (ap (λ (x : MessageKind). record u { client = Some c.0; server = server_for own k.0; kind = x })
+    (lease_is u.kind k.0 k.1) ∙ ap (addressed own) (ok_is _ _ s.2)))
 
 identified_again : (own : List ℕ) (m : ClientMessage) → identified own (addressed own m) ≡ Ok m
 unfolding identified
@@ -79,11 +92,11 @@ identified_again own m = rw (server_again own m.kind) refl
 pub message_of_takes : (own octets : List ℕ) (m : ClientMessage) → AreOctets octets → message_of own octets ≡ Ok m
     → Spells own octets m
 message_of_takes own octets m fits e =
-    let b = bind_ok (message_in MAX_RELAYS octets) (identified own) m e in
-    subst (SpellsUntested octets) (identified_takes own b.0 m b.2) (untested_takes octets b.0 fits b.1)
+    let b = bind_ok (message_in Leases MAX_RELAYS octets) (identified own) m e in
+    subst (SpellsUntested octets) (identified_takes own b.0 m b.2) (untested_takes Leases octets b.0 fits b.1).0
 
 pub message_of_again : (own octets : List ℕ) (m : ClientMessage) → Spells own octets m → message_of own octets ≡ Ok m
-message_of_again own octets m h = rw (untested_again octets (addressed own m) h) (identified_again own m)
+message_of_again own octets m h = rw (untested_again Leases octets (addressed own m) tt h) (identified_again own m)
 
 -- ---- what a function gives that gives what parsing gives
 

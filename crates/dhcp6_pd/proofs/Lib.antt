@@ -18,3 +18,5 @@ pub mod Rows
 pub mod Sizes
 pub mod UpToMessage
 pub mod Wholes
+pub mod WishLaws
+pub mod InformationLaws

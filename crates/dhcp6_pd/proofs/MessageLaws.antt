@@ -1,13 +1,13 @@
 -- What is read is a message in its relays, whatever its identifiers are.
 use Rattle.std.proofs.Common.{◌≡◌, ℕ, zero, suc, ◌≤◌, Bool, true, false, List, [], ◌∷◌, length, take, drop, Option}
 use Rattle.std.proofs.Common.{Some, None, Result, Ok, Err, refl, sym, ap, subst, ◌∙◌, arith, le-ltb}
-use Rattle.std.specs.Prelude.{◌==◌, slice_index, if◌then◌else◌}
+use Rattle.std.specs.Prelude.{◌==◌, slice_index, option_map, if◌then◌else◌}
 use Rattle.std.proofs.lemmas.Bool.{ltb-false, eqb-true, eq-eqb}
 use Rattle.std.specs.List.{AllByRecursion}
 use Rattle.text_fields.specs.Octets.{AreOctets}
 use Rattle.dhcp6_pd.specs.declared.numbers.TheConstants.{CLIENT_ID, SERVER_ID, RELAY_MESSAGE, INTERFACE_ID, IA_PD}
 use Rattle.dhcp6_pd.specs.declared.numbers.TheConstants.{SOLICIT, REQUEST, RENEW, REBIND, RELEASE, RELAY_FORWARD}
-use Rattle.dhcp6_pd.specs.declared.numbers.TheConstants.{REMOTE_ID, MAX_IAS}
+use Rattle.dhcp6_pd.specs.declared.numbers.TheConstants.{REMOTE_ID, MAX_IAS, OPTION_REQUEST, INFORMATION_REQUEST}
 use Rattle.dhcp6_pd.specs.declared.error.PdFault.{PdFault}
 use Rattle.dhcp6_pd.specs.declared.error.PdFault.TheVariants.{TooDeep}
 use Rattle.dhcp6_pd.specs.declared.message.ClientKind.{ClientKind}
@@ -18,36 +18,46 @@ use Rattle.dhcp6_pd.specs.declared.message.Relay.{Relay}
 use Rattle.dhcp6_pd.specs.declared.client_options.ClientOptions.{ClientOptions}
 use Rattle.dhcp6_pd.specs.declared.relay_options.RelayOptions.{RelayOptions}
 use Rattle.dhcp6_pd.specs.declared.untested.UntestedMessage.{UntestedMessage}
+use Rattle.dhcp6_pd.specs.declared.reads.Reads.{Reads}
+use Rattle.dhcp6_pd.specs.declared.reads.Reads.TheVariants.{Leases}
+use Rattle.dhcp6_pd.specs.declared.reads.Reads.TheVariants as which
+use Rattle.dhcp6_pd.specs.declared.reads.MessageKind.{MessageKind}
+use Rattle.dhcp6_pd.specs.declared.reads.MessageKind.TheVariants.{Lease, Information}
+use Rattle.dhcp6_pd.specs.Refusals.{IsRead}
+use Rattle.dhcp6_pd.specs.declared.wishes.Wishes.{Wishes}
 use Rattle.dhcp6_pd.specs.Options.{DhcpOption, IsOption, data_of}
 use Rattle.dhcp6_pd.specs.Rows.{Row, row_of, folded}
-use Rattle.dhcp6_pd.specs.Grammar.{type_of, listed, SpellIas, SpellsClient, SpellsRelay, SpellsFrom}
-use Rattle.dhcp6_pd.specs.Faults.{client_option, no_client_options, kind_of, client_message, client_in, relay_option}
+use Rattle.dhcp6_pd.specs.Grammar.{lease_type, type_of, listed, SpellIas, SpellsClient, SpellsRelay, SpellsFrom}
+use Rattle.dhcp6_pd.specs.Faults.{client_option, no_client_options, lease_kind, kind_of, client_message, client_in}
+use Rattle.dhcp6_pd.specs.Faults.{relay_option}
+use Rattle.dhcp6_pd.specs.Wishes.{wish_option, no_wishes}
 use Rattle.dhcp6_pd.specs.Faults.{no_relay_options, to_message, or_short, relay_of, by_relay, relay_in, or_ignored}
 use Rattle.dhcp6_pd.specs.Faults.{by_type, message_in}
 use Rattle.dhcp6_pd.proofs.Binds.{bind_ok, passed, ok_is}
 use Rattle.dhcp6_pd.proofs.Wholes.{folded_whole, are_options, row_is, octets_drop}
 use Rattle.dhcp6_pd.proofs.OnceLaws.{Once, Sees, AddsIas}
 use Rattle.dhcp6_pd.proofs.ClientOptionLaws.{AddsToClient, client_options_takes, client_options_again}
+use Rattle.dhcp6_pd.proofs.WishLaws.{AddsWishes, wishes_takes, wishes_again, asks_spelled, asked_in, asks_of}
 use Rattle.dhcp6_pd.proofs.RelayOptionLaws.{Stands, AddsToRelay}
 use Rattle.dhcp6_pd.proofs.HeldLaws.{held_takes, held_again}
 
 -- ---- the type
 
-pub kind_takes : (x : ℕ) (kind : ClientKind) → kind_of x ≡ Some kind → x ≡ type_of kind
-unfolding kind_of
-kind_takes x kind e = by (x == SOLICIT) (x == REQUEST) (x == RENEW) (x == REBIND)
+lease_takes : (x : ℕ) (kind : ClientKind) → lease_kind x ≡ Some kind → x ≡ lease_type kind
+unfolding lease_kind
+lease_takes x kind e = by (x == SOLICIT) (x == REQUEST) (x == RENEW) (x == REBIND)
     (x == RELEASE) refl refl refl refl refl e
   where
     some_is : (a b : ClientKind) → Some a ≡ Some b → a ≡ b
     some_is a b e = cc
 
-    is : (n : ℕ) (a : ClientKind) → (x == n) ≡ true → n ≡ type_of a → Some a ≡ Some kind → x ≡ type_of kind
-    is n a t same e = eqb-true x n t ∙ (same ∙ ap type_of (some_is a kind e))
+    is : (n : ℕ) (a : ClientKind) → (x == n) ≡ true → n ≡ lease_type a → Some a ≡ Some kind → x ≡ lease_type kind
+    is n a t same e = eqb-true x n t ∙ (same ∙ ap lease_type (some_is a kind e))
 
     by : (a b c d f : Bool) → (x == SOLICIT) ≡ a → (x == REQUEST) ≡ b → (x == RENEW) ≡ c → (x == REBIND) ≡ d
         → (x == RELEASE) ≡ f
         → (if a then Some Solicit else if b then Some Request else if c then Some Renew else if d then Some Rebind else
-        if f then Some Release else None) ≡ Some kind → x ≡ type_of kind
+        if f then Some Release else None) ≡ Some kind → x ≡ lease_type kind
     by true b c d f ta tb tc td tf e = is SOLICIT Solicit ta refl e
     by false true c d f ta tb tc td tf e = is REQUEST Request tb refl e
     by false false true d f ta tb tc td tf e = is RENEW Renew tc refl e
@@ -55,13 +65,36 @@ kind_takes x kind e = by (x == SOLICIT) (x == REQUEST) (x == RENEW) (x == REBIND
     by false false false false true ta tb tc td tf e = is RELEASE Release tf refl e
     by false false false false false ta tb tc td tf e = absurd cc
 
-pub kind_again : (kind : ClientKind) → ((type_of kind == RELAY_FORWARD) ≡ false) × (kind_of (type_of kind) ≡ Some kind)
+-- a message's type is one that is read
+abbrev pub Types : Reads → ℕ → MessageKind → Type 0
+Types reads x kind = (x ≡ type_of kind) × IsRead reads kind
+
+pub kind_takes : (reads : Reads) (x : ℕ) (kind : MessageKind) → kind_of reads x ≡ Some kind → Types reads x kind
 unfolding kind_of
-kind_again Solicit = (refl, refl)
-kind_again Request = (refl, refl)
-kind_again Renew = (refl, refl)
-kind_again Rebind = (refl, refl)
-kind_again Release = (refl, refl)
+kind_takes Leases x kind e = by (lease_kind x) refl e
+  where
+    by : (o : Option ClientKind) → lease_kind x ≡ o → option_map (λ k. Lease k) o ≡ Some kind → Types Leases x kind
+    by None is e = absurd cc
+    by (Some k) is e = let same : Lease k ≡ kind = cc in subst (Types Leases x) same (lease_takes x k is, tt)
+kind_takes which.Information x kind e = by (x == INFORMATION_REQUEST) refl e
+  where
+    by : (t : Bool) → (x == INFORMATION_REQUEST) ≡ t → (if t then Some Information else None) ≡ Some kind
+        → Types which.Information x kind
+    by true t e = let same : Information ≡ kind = cc in
+        subst (Types which.Information x) same (eqb-true x INFORMATION_REQUEST t, tt)
+    by false t e = absurd cc
+
+pub kind_again : (reads : Reads) (kind : MessageKind) → IsRead reads kind
+    → ((type_of kind == RELAY_FORWARD) ≡ false) × (kind_of reads (type_of kind) ≡ Some kind)
+unfolding kind_of lease_kind
+kind_again Leases (Lease Solicit) h = (refl, refl)
+kind_again Leases (Lease Request) h = (refl, refl)
+kind_again Leases (Lease Renew) h = (refl, refl)
+kind_again Leases (Lease Rebind) h = (refl, refl)
+kind_again Leases (Lease Release) h = (refl, refl)
+kind_again Leases Information h = absurd h
+kind_again which.Information (Lease kind) h = absurd h
+kind_again which.Information Information h = (refl, refl)
 
 -- ---- an option that stands once or not at all
 
@@ -98,21 +131,25 @@ once_again (Some duid) all is h = rw is (refl, h.0, refl, refl)
 ias_of : (all : List (List ℕ)) (ias : List IaPd) → AddsIas [] all ias → SpellIas all ias
 ias_of all ias h = subst (SpellIas all) (sym h.joined) h.spelled
 
-client_takes : (kind : ClientKind) (octets : List ℕ) (u : UntestedMessage) → AreOctets octets
-    → slice_index octets 0 ≡ type_of kind → client_in kind octets ≡ Ok u → (u.relays ≡ []) × SpellsClient octets u
+client_takes : (kind : MessageKind) (octets : List ℕ) (u : UntestedMessage) → AreOctets octets
+    → slice_index octets 0 ≡ type_of kind → client_in kind octets ≡ Ok u
+    → (u.relays ≡ []) × SpellsClient octets u × (u.kind ≡ kind)
 unfolding client_in
 client_takes kind octets u fits type e =
     let long = passed _ _ _ u e in
     let b = bind_ok (folded client_option no_client_options (row_of (drop 4 octets))) _ u long.1 in
     let kept = b.0 in
+    let w = bind_ok (folded wish_option no_wishes (row_of (drop 4 octets))) _ u b.2 in
+    let wishes = w.0 in
     let all = folded_whole client_option no_client_options kept (row_of (drop 4 octets)) b.1 in
     let options = are_options all.0 (drop 4 octets) (octets_drop 4 octets fits) all.1 in
     let adds = client_options_takes all.0 no_client_options kept options.each
     (ap (folded client_option no_client_options) (sym all.1) ∙ b.1) in
+    let asks = wishes_takes all.0 no_wishes wishes options.each (ap (folded wish_option no_wishes) (sym all.1) ∙ w.1) in
     let client = once_listed kept.client (data_of CLIENT_ID all.0) adds.client in
     let server = once_listed kept.server (data_of SERVER_ID all.0) adds.server in
-    subst (λ (x : UntestedMessage). (x.relays ≡ []) × SpellsClient octets x)
-    (ok_is (client_message kind octets kept) u b.2) (
+    subst (λ (x : UntestedMessage). (x.relays ≡ []) × SpellsClient octets x × (x.kind ≡ kind))
+    (ok_is (client_message kind octets kept wishes) u w.2) (
       refl,
       record {
         whole = ltb-false (length octets) 4 long.0;
@@ -128,7 +165,11 @@ client_takes kind octets u fits type e =
         interface = sees_once false kept.interface (data_of INTERFACE_ID all.0) adds.interface;
         ias = ias_of (data_of IA_PD all.0) kept.ias adds.ias;
         few = adds.ias.few none_yet;
+        requested = asks_spelled (data_of OPTION_REQUEST all.0) wishes.requested asks.requested;
+        addresses = asks.addresses;
+        temporaries = asks.temporaries;
       },
+      refl,
     )
 
 client_again : (octets : List ℕ) (u : UntestedMessage) → SpellsClient octets u
@@ -152,7 +193,19 @@ client_again octets u h =
     let all : folded client_option no_client_options (row_of (drop 4 octets)) ≡ Ok kept =
     ap (folded client_option no_client_options) (row_is (drop 4 octets) h.options h.spelled)
     ∙ client_options_again h.options no_client_options kept h.few adds in
-    rw (le-ltb (length octets) 4 h.whole, all) (ap (λ (x : List ℕ). Ok (record u { relays = []; xid = x })) (sym h.xid))
+    let asked = asks_of (data_of OPTION_REQUEST h.options) u.requested h.requested in
+    let wishes : Wishes = record {
+      requested = asked_in (data_of OPTION_REQUEST h.options) u.requested;
+      addresses = u.addresses;
+      temporaries = u.temporaries;
+    } in
+    let asks : AddsWishes no_wishes h.options wishes =
+    record { requested = asked.0; addresses = h.addresses; temporaries = h.temporaries } in
+    let more : folded wish_option no_wishes (row_of (drop 4 octets)) ≡ Ok wishes =
+    ap (folded wish_option no_wishes) (row_is (drop 4 octets) h.options h.spelled)
+    ∙ wishes_again h.options no_wishes wishes asks in
+    rw (le-ltb (length octets) 4 h.whole, all, more, asked.1)
+    (ap (λ (x : List ℕ). Ok (record u { relays = []; xid = x })) (sym h.xid))
 
 -- ---- a relay's message
 
@@ -261,24 +314,28 @@ relay_again parse octets r inside u h e =
 -- ---- the message and its relays
 
 -- a message of a type that no relay's has
-other_takes : (x : ℕ) (octets : List ℕ) (u : UntestedMessage) → AreOctets (x ∷ octets)
-    → or_ignored (kind_of x) (x ∷ octets) ≡ Ok u → (u.relays ≡ []) × SpellsClient (x ∷ octets) u
-other_takes x octets u fits e = by (kind_of x) refl e
+other_takes : (reads : Reads) (x : ℕ) (octets : List ℕ) (u : UntestedMessage) → AreOctets (x ∷ octets)
+    → or_ignored (kind_of reads x) (x ∷ octets) ≡ Ok u
+    → (u.relays ≡ []) × SpellsClient (x ∷ octets) u × IsRead reads u.kind
+other_takes reads x octets u fits e = by (kind_of reads x) refl e
   where
-    by : (o : Option ClientKind) → kind_of x ≡ o → or_ignored o (x ∷ octets) ≡ Ok u
-        → (u.relays ≡ []) × SpellsClient (x ∷ octets) u
+    by : (o : Option MessageKind) → kind_of reads x ≡ o → or_ignored o (x ∷ octets) ≡ Ok u
+        → (u.relays ≡ []) × SpellsClient (x ∷ octets) u × IsRead reads u.kind
     by None is e = absurd cc
-    by (Some kind) is e = client_takes kind (x ∷ octets) u fits (kind_takes x kind is) e
+    by (Some kind) is e =
+        let k = kind_takes reads x kind is in
+        let c = client_takes kind (x ∷ octets) u fits k.0 e in
+        (c.0, c.1, subst (IsRead reads) (sym c.2) k.1)
 
 -- what octets spell in at most so many relays
-abbrev SpellsIn : ℕ → List ℕ → UntestedMessage → Type 0
-SpellsIn left octets u = SpellsFrom octets u.relays u × (length u.relays ≤ left)
+abbrev SpellsIn : Reads → ℕ → List ℕ → UntestedMessage → Type 0
+SpellsIn reads left octets u = SpellsFrom octets u.relays u × (length u.relays ≤ left) × IsRead reads u.kind
 
-no_relay : (left : ℕ) (octets : List ℕ) (u : UntestedMessage) → (u.relays ≡ []) × SpellsClient octets u
-    → SpellsIn left octets u
-no_relay left octets u both =
-    let none : length u.relays ≡ 0 = ap length both.0 in
-    (subst (λ (rs : List Relay). SpellsFrom octets rs u) (sym both.0) both.1, omega (arith, none))
+no_relay : (reads : Reads) (left : ℕ) (octets : List ℕ) (u : UntestedMessage)
+    → (u.relays ≡ []) × SpellsClient octets u × IsRead reads u.kind → SpellsIn reads left octets u
+no_relay reads left octets u h =
+    let none : length u.relays ≡ 0 = ap length h.0 in
+    (subst (λ (rs : List Relay). SpellsFrom octets rs u) (sym h.0) h.1, omega (arith, none), h.2)
 
 -- which relays are written down does not matter inside them
 spells_by : (by : List Relay) (relays : List Relay) (octets : List ℕ) (u : UntestedMessage)
@@ -297,60 +354,67 @@ spells_by by [] octets u h = record {
   interface = h.interface;
   ias = h.ias;
   few = h.few;
+  requested = h.requested;
+  addresses = h.addresses;
+  temporaries = h.temporaries;
 }
 spells_by by (r ∷ relays) octets u h = (h.0, h.1, spells_by by relays h.0 u h.2)
 
-pub message_takes : (left : ℕ) (octets : List ℕ) (u : UntestedMessage) → AreOctets octets
-    → message_in left octets ≡ Ok u → SpellsIn left octets u
+pub message_takes : (reads : Reads) (left : ℕ) (octets : List ℕ) (u : UntestedMessage) → AreOctets octets
+    → message_in reads left octets ≡ Ok u → SpellsIn reads left octets u
 unfolding message_in
-message_takes zero [] u fits e = absurd cc
-message_takes (suc left) [] u fits e = absurd cc
-message_takes zero (x ∷ octets) u fits e = by (x == RELAY_FORWARD) e
+message_takes reads zero [] u fits e = absurd cc
+message_takes reads (suc left) [] u fits e = absurd cc
+message_takes reads zero (x ∷ octets) u fits e = by (x == RELAY_FORWARD) e
   where
-    by : (t : Bool) → (if t then Err TooDeep else or_ignored (kind_of x) (x ∷ octets)) ≡ Ok u
-        → SpellsIn 0 (x ∷ octets) u
+    by : (t : Bool) → (if t then Err TooDeep else or_ignored (kind_of reads x) (x ∷ octets)) ≡ Ok u
+        → SpellsIn reads 0 (x ∷ octets) u
     by true e = absurd cc
-    by false e = no_relay 0 (x ∷ octets) u (other_takes x octets u fits e)
-message_takes (suc left) (x ∷ octets) u fits e = by (x == RELAY_FORWARD) refl (message_takes left) e
+    by false e = no_relay reads 0 (x ∷ octets) u (other_takes reads x octets u fits e)
+message_takes reads (suc left) (x ∷ octets) u fits e = by (x == RELAY_FORWARD) refl (message_takes reads left) e
   where
     by : (t : Bool) → (x == RELAY_FORWARD) ≡ t
-        → ((inside : List ℕ) (v : UntestedMessage) → AreOctets inside → message_in left inside ≡ Ok v
-        → SpellsIn left inside v)
-        → (if t then relay_in (message_in left) (x ∷ octets) else or_ignored (kind_of x) (x ∷ octets)) ≡ Ok u
-        → SpellsIn (suc left) (x ∷ octets) u
+        → ((inside : List ℕ) (v : UntestedMessage) → AreOctets inside → message_in reads left inside ≡ Ok v
+        → SpellsIn reads left inside v)
+        → (if t then relay_in (message_in reads left) (x ∷ octets) else or_ignored (kind_of reads x) (x ∷ octets)) ≡ Ok u
+        → SpellsIn reads (suc left) (x ∷ octets) u
     by true test again e =
-        let r = relay_takes (message_in left) (x ∷ octets) u fits (eqb-true x RELAY_FORWARD test) e in
+        let r = relay_takes (message_in reads left) (x ∷ octets) u fits (eqb-true x RELAY_FORWARD test) e in
         let v = r.0 in
         let later = again r.2 v r.3 r.4 in
         let few : suc (length v.relays) ≤ suc left = omega (arith, later.1) in
-        subst (SpellsIn (suc left) (x ∷ octets)) r.6 (
+        subst (SpellsIn reads (suc left) (x ∷ octets)) r.6 (
           (r.2, r.5, spells_by (r.1 ∷ v.relays) v.relays r.2 v later.0),
           few,
+          later.2,
         )
-    by false test again e = no_relay (suc left) (x ∷ octets) u (other_takes x octets u fits e)
+    by false test again e = no_relay reads (suc left) (x ∷ octets) u (other_takes reads x octets u fits e)
 
-client_typed : (relay : List ℕ → Result UntestedMessage PdFault) (octets : List ℕ) (u : UntestedMessage)
-    → SpellsClient octets u → by_type relay octets ≡ Ok (record u { relays = [] })
-client_typed relay [] u h = absurd (let w = h.whole in omega (arith, w))
-client_typed relay (x ∷ octets) u h =
+client_typed : (reads : Reads) (relay : List ℕ → Result UntestedMessage PdFault) (octets : List ℕ) (u : UntestedMessage)
+    → IsRead reads u.kind → SpellsClient octets u → by_type reads relay octets ≡ Ok (record u { relays = [] })
+client_typed reads relay [] u read h = absurd (let w = h.whole in omega (arith, w))
+client_typed reads relay (x ∷ octets) u read h =
     let type : x ≡ type_of u.kind = h.kind in
-    let k = kind_again u.kind in
+    let k = kind_again reads u.kind read in
     let other : (x == RELAY_FORWARD) ≡ false = ap (λ (n : ℕ). n == RELAY_FORWARD) type ∙ k.0 in
-    let known : kind_of x ≡ Some u.kind = ap kind_of type ∙ k.1 in
+    let known : kind_of reads x ≡ Some u.kind = ap (kind_of reads) type ∙ k.1 in
     rw (other, known) (client_again (x ∷ octets) u h)
 
-pub relay_typed : (relay : List ℕ → Result UntestedMessage PdFault) (octets : List ℕ) → 34 ≤ length octets
-    → slice_index octets 0 ≡ RELAY_FORWARD → by_type relay octets ≡ relay octets
-relay_typed relay [] long type = absurd (omega (arith, long))
-relay_typed relay (x ∷ octets) long type = let this : x ≡ RELAY_FORWARD = type in rw (eq-eqb x RELAY_FORWARD this) refl
+pub relay_typed : (reads : Reads) (relay : List ℕ → Result UntestedMessage PdFault) (octets : List ℕ)
+    → 34 ≤ length octets → slice_index octets 0 ≡ RELAY_FORWARD → by_type reads relay octets ≡ relay octets
+relay_typed reads relay [] long type = absurd (omega (arith, long))
+relay_typed reads relay (x ∷ octets) long type =
+    let this : x ≡ RELAY_FORWARD = type in rw (eq-eqb x RELAY_FORWARD this) refl
 
-pub message_again : (relays : List Relay) (left : ℕ) (octets : List ℕ) (u : UntestedMessage)
-    → SpellsFrom octets relays u → length relays ≤ left → message_in left octets ≡ Ok (record u { relays = relays })
+pub message_again : (reads : Reads) (relays : List Relay) (left : ℕ) (octets : List ℕ) (u : UntestedMessage)
+    → IsRead reads u.kind → SpellsFrom octets relays u → length relays ≤ left
+    → message_in reads left octets ≡ Ok (record u { relays = relays })
 unfolding message_in
-message_again [] zero octets u h few = client_typed (λ _. Err TooDeep) octets u h
-message_again [] (suc left) octets u h few = client_typed (relay_in (message_in left)) octets u h
-message_again (r ∷ relays) zero octets u h few = absurd (omega arith)
-message_again (r ∷ relays) (suc left) octets u h few =
-    relay_typed (relay_in (message_in left)) octets h.1.whole h.1.kind
-    ∙ relay_again (message_in left) octets r h.0 (record u { relays = relays }) h.1
-    (message_again relays left h.0 u h.2 (omega (arith, few)))
+message_again reads [] zero octets u read h few = client_typed reads (λ _. Err TooDeep) octets u read h
+message_again reads [] (suc left) octets u read h few =
+    client_typed reads (relay_in (message_in reads left)) octets u read h
+message_again reads (r ∷ relays) zero octets u read h few = absurd (omega arith)
+message_again reads (r ∷ relays) (suc left) octets u read h few =
+    relay_typed reads (relay_in (message_in reads left)) octets h.1.whole h.1.kind
+    ∙ relay_again (message_in reads left) octets r h.0 (record u { relays = relays }) h.1
+    (message_again reads relays left h.0 u read h.2 (omega (arith, few)))

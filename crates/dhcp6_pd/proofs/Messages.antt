@@ -13,45 +13,50 @@ use Rattle.dhcp6_pd.specs.declared.error.PdError.TheVariants.{Fault, TooLong, Me
 use Rattle.dhcp6_pd.specs.declared.numbers.TheConstants.{RELAY_FORWARD}
 use Rattle.dhcp6_pd.specs.declared.message.Relay.{Relay}
 use Rattle.dhcp6_pd.specs.declared.relay_options.RelayOptions.{RelayOptions}
+use Rattle.dhcp6_pd.specs.declared.reads.Reads.{Reads}
+use Rattle.dhcp6_pd.specs.declared.reads.MessageKind.{MessageKind}
+use Rattle.dhcp6_pd.specs.declared.client_options.ClientOptions.{ClientOptions}
+use Rattle.dhcp6_pd.specs.declared.wishes.Wishes.{Wishes}
 use Rattle.dhcp6_pd.specs.declared.untested.UntestedMessage.{UntestedMessage}
 use Rattle.dhcp6_pd.specs.Rows.{Row, row_of, folded}
 use Rattle.dhcp6_pd.specs.Parsing.{found_in}
 use Rattle.dhcp6_pd.specs.Answers.{Gives}
 use Rattle.dhcp6_pd.specs.Faults.{kind_of, or_ignored, no_relay_options, relay_option, to_message, relay_of, by_relay}
-use Rattle.dhcp6_pd.specs.Faults.{behind, relay_in, message_in}
+use Rattle.dhcp6_pd.specs.Faults.{client_options_in, client_message, client_in, behind, relay_in, message_in}
+use Rattle.dhcp6_pd.specs.Wishes.{wishes_in, or_none}
 
 first_same : (x y : ℕ) (rest : List ℕ) → Some x ≡ slice_get (y ∷ rest) 0 → y ≡ x
 first_same x y rest e = cc
 
 -- a client's message, or one that is not parse
-pub type_other : (left : ℕ) (octets : List ℕ) (x : ℕ) → Some x ≡ slice_get octets 0 → x ≢ RELAY_FORWARD
-    → message_in left octets ≡ or_ignored (kind_of x) octets
+pub type_other : (reads : Reads) (left : ℕ) (octets : List ℕ) (x : ℕ) → Some x ≡ slice_get octets 0 → x ≢ RELAY_FORWARD
+    → message_in reads left octets ≡ or_ignored (kind_of reads x) octets
 unfolding message_in
-type_other zero [] x e ne = absurd cc
-type_other (suc left) [] x e ne = absurd cc
-type_other zero (y ∷ rest) x e ne =
+type_other reads zero [] x e ne = absurd cc
+type_other reads (suc left) [] x e ne = absurd cc
+type_other reads zero (y ∷ rest) x e ne =
     let same = first_same x y rest e in
-    rw (ne_eqb y RELAY_FORWARD (λ h. ne (sym same ∙ h))) (ap (λ (k : ℕ). or_ignored (kind_of k) (y ∷ rest)) same)
-type_other (suc left) (y ∷ rest) x e ne =
+    rw (ne_eqb y RELAY_FORWARD (λ h. ne (sym same ∙ h))) (ap (λ (k : ℕ). or_ignored (kind_of reads k) (y ∷ rest)) same)
+type_other reads (suc left) (y ∷ rest) x e ne =
     let same = first_same x y rest e in
-    rw (ne_eqb y RELAY_FORWARD (λ h. ne (sym same ∙ h))) (ap (λ (k : ℕ). or_ignored (kind_of k) (y ∷ rest)) same)
+    rw (ne_eqb y RELAY_FORWARD (λ h. ne (sym same ∙ h))) (ap (λ (k : ℕ). or_ignored (kind_of reads k) (y ∷ rest)) same)
 
 less_one : (n : ℕ) → n ≡ suc n - 1
 less_one n = omega arith
 
 -- a relay's message
-pub type_relay : (left : ℕ) (octets : List ℕ) (x : ℕ) (l : RelayOptions) (rest : List ℕ) → Some x ≡ slice_get octets 0
+pub type_relay : (reads : Reads) (left : ℕ) (octets : List ℕ) (x : ℕ) (l : RelayOptions) (rest : List ℕ) → Some x ≡ slice_get octets 0
     → x ≡ RELAY_FORWARD → left ≢ 0 → 34 ≤ length octets → l ≡ no_relay_options
-    → rest ≡ take (length octets - 34) (drop 34 octets) → message_in left octets
-    ≡ behind (message_in (left - 1)) octets (to_message l (row_of rest))
+    → rest ≡ take (length octets - 34) (drop 34 octets) → message_in reads left octets
+    ≡ behind (message_in reads (left - 1)) octets (to_message l (row_of rest))
 unfolding message_in relay_in
-type_relay zero octets x l rest e this some whole none is = absurd (some refl)
-type_relay (suc left) [] x l rest e this some whole none is = absurd (omega arith)
-type_relay (suc left) (y ∷ more) x l rest e this some whole none is =
+type_relay reads zero octets x l rest e this some whole none is = absurd (some refl)
+type_relay reads (suc left) [] x l rest e this some whole none is = absurd (omega arith)
+type_relay reads (suc left) (y ∷ more) x l rest e this some whole none is =
     let same = first_same x y more e in
     let octets = y ∷ more in
     rw (eq-eqb y RELAY_FORWARD (same ∙ this), le-ltb (length (y ∷ more)) 34 whole, none, is, take_rest (y ∷ more) 34)
-    (ap (λ (k : ℕ). behind (message_in k) (y ∷ more) (to_message no_relay_options (row_of (drop 34 (y ∷ more)))))
+    (ap (λ (k : ℕ). behind (message_in reads k) (y ∷ more) (to_message no_relay_options (row_of (drop 34 (y ∷ more)))))
     (less_one left))
 
 -- what was found, where the reader lends it
@@ -116,3 +121,17 @@ is_whole parse octets r l row inner u v relay last e is rest made all =
     inside parse octets r l row inner (Ok u) e is
     ∙ (ap (λ (x : Result RelayOptions PdFault). x >>! λ last. Ok (by_relay (relay_of octets last) u)) rest
     ∙ (ap (λ (x : Relay). Ok (by_relay x u)) (sym made) ∙ ap (λ (x : UntestedMessage). Ok x) (sym all)))
+
+-- a client's message by what its options say
+pub is_client : (kind : MessageKind) (octets : List ℕ) (kept : ClientOptions) (wishes : Wishes) (relays : List Relay)
+    (xid requested : List ℕ) → 4 ≤ length octets → client_options_in (take (length octets - 4) (drop 4 octets)) ≡ Ok kept
+    → wishes_in (take (length octets - 4) (drop 4 octets)) ≡ Ok wishes → xid ≡ take 3 (drop 1 octets)
+    → requested ≡ or_none wishes.requested → relays ≡ []
+    → client_in kind octets
+    ≡ Ok (record (client_message kind octets kept wishes) { relays = relays; xid = xid; requested = requested })
+unfolding client_in
+is_client kind octets kept wishes relays xid requested whole options more is asked none =
+    let rest = sym (take_rest octets 4) in
+    let first : client_options_in (drop 4 octets) ≡ Ok kept = ap client_options_in rest ∙ options in
+    let then : wishes_in (drop 4 octets) ≡ Ok wishes = ap wishes_in rest ∙ more in
+    rw (le-ltb (length octets) 4 whole, first, then, is, asked, none) refl

@@ -15,9 +15,12 @@ use Rattle.dhcp6_pd.specs.declared.error.PdError.TheVariants.{Fault, TooLong, Me
 use Rattle.dhcp6_pd.specs.declared.message.ClientKind.{ClientKind}
 use Rattle.dhcp6_pd.specs.declared.message.ClientKind.TheVariants.{Solicit, Request, Renew, Rebind, Release}
 use Rattle.dhcp6_pd.specs.declared.message.ClientMessage.{ClientMessage}
+use Rattle.dhcp6_pd.specs.declared.reads.Reads.TheVariants.{Leases}
+use Rattle.dhcp6_pd.specs.declared.reads.MessageKind.{MessageKind}
+use Rattle.dhcp6_pd.specs.declared.reads.MessageKind.TheVariants.{Lease, Information}
 use Rattle.dhcp6_pd.specs.declared.untested.UntestedMessage.{UntestedMessage}
 use Rattle.dhcp6_pd.specs.declared.numbers.TheConstants.{MAX_RELAYS}
-use Rattle.dhcp6_pd.specs.Refusals.{Refuses, IsOfForm, IsMalformed, IsDeeper, IsOfOtherType, SpellsOne, IsToAny}
+use Rattle.dhcp6_pd.specs.Refusals.{IsRead, Refuses, IsOfForm, IsMalformed, IsDeeper, IsOfOtherType, SpellsOne, IsToAny}
 use Rattle.dhcp6_pd.specs.Refusals.{NamesNoClient, NamesServerOfAny, NamesNoServer, NamesAnother}
 use Rattle.dhcp6_pd.specs.Faults.{message_in, for_server, identified, message_of}
 use Rattle.dhcp6_pd.specs.Answers.{Gives}
@@ -37,10 +40,10 @@ Says own u DuplicateId = ⊥
 Says own u TooManyIas = ⊥
 Says own u BadPrefixLength = ⊥
 Says own u TooDeep = ⊥
-Says own u Ignored = ⊥
+Says own u Ignored = u.kind ≡ Information
 
 -- a message with these identifiers
-abbrev identifying : UntestedMessage → Option (List ℕ) → ClientKind → Option (List ℕ) → UntestedMessage
+abbrev identifying : UntestedMessage → Option (List ℕ) → MessageKind → Option (List ℕ) → UntestedMessage
 identifying u client kind server = record u { client = client; kind = kind; server = server }
 
 err_is : (a b : PdFault) → (let r : Result ClientMessage PdFault = Err a in r) ≡ Err b → a ≡ b
@@ -61,117 +64,130 @@ says_takes : (own : List ℕ) (u : UntestedMessage) (fault : PdFault) → identi
 unfolding identified for_server
 says_takes own u fault e = by u.client u.kind u.server e
   where
-    to_one : (client : List ℕ) (kind : ClientKind) (server : Option (List ℕ)) → (IsToAny kind → ⊥) → (m : ClientMessage)
-        → (for_server own Request server >>! λ _. Ok m) ≡ Err fault
-        → Says own (identifying u (Some client) kind server) fault
-    to_one client kind None one m e = subst (Says own (identifying u (Some client) kind None)) (err_is _ _ e) (
-      refl,
-      one,
-      refl,
-    )
+    to_one : (client : List ℕ) (kind : ClientKind) (server : Option (List ℕ)) → (IsToAny (Lease kind) → ⊥)
+        → (m : ClientMessage) → (for_server own Request server >>! λ _. Ok m) ≡ Err fault
+        → Says own (identifying u (Some client) (Lease kind) server) fault
+    to_one client kind None one m e =
+        subst (Says own (identifying u (Some client) (Lease kind) None)) (err_is _ _ e) (refl, one, refl)
     to_one client kind (Some server) one m e = another (bytes_eq server own) refl e
       where
         another : (b : Bool) → bytes_eq server own ≡ b
             → ((let r : Result (Unit {0}) PdFault = if b then Ok tt else Err NotOurs in r) >>! λ _. Ok m) ≡ Err fault
-            → Says own (identifying u (Some client) kind (Some server)) fault
+            → Says own (identifying u (Some client) (Lease kind) (Some server)) fault
         another true is e = absurd cc
-        another false is e = subst (Says own (identifying u (Some client) kind (Some server))) (err_is _ _ e) (
-          refl,
-          one,
-          same_not own server is,
-        )
+        another false is e =
+            subst (Says own (identifying u (Some client) (Lease kind) (Some server))) (err_is _ _ e) (
+              refl,
+              one,
+              same_not own server is,
+            )
 
-    by : (client : Option (List ℕ)) (kind : ClientKind) (server : Option (List ℕ))
+    by : (client : Option (List ℕ)) (kind : MessageKind) (server : Option (List ℕ))
         → identified own (identifying u client kind server) ≡ Err fault
         → Says own (identifying u client kind server) fault
-    by None kind server e = subst (Says own (identifying u None kind server)) (err_is _ _ e) refl
-    by (Some client) Solicit None e = absurd cc
-    by (Some client) Solicit (Some server) e =
-        subst (Says own (identifying u (Some client) Solicit (Some server))) (err_is _ _ e) (refl, tt, refl)
-    by (Some client) Rebind None e = absurd cc
-    by (Some client) Rebind (Some server) e =
-        subst (Says own (identifying u (Some client) Rebind (Some server))) (err_is _ _ e) (refl, tt, refl)
-    by (Some client) Request server e = to_one client Request server (λ one. one) _ e
-    by (Some client) Renew server e = to_one client Renew server (λ one. one) _ e
-    by (Some client) Release server e = to_one client Release server (λ one. one) _ e
+    by client Information server e = subst (Says own (identifying u client Information server)) (err_is _ _ e) refl
+    by None (Lease kind) server e = subst (Says own (identifying u None (Lease kind) server)) (err_is _ _ e) refl
+    by (Some client) (Lease Solicit) None e = absurd cc
+    by (Some client) (Lease Solicit) (Some server) e =
+        subst (Says own (identifying u (Some client) (Lease Solicit) (Some server))) (err_is _ _ e) (refl, tt, refl)
+    by (Some client) (Lease Rebind) None e = absurd cc
+    by (Some client) (Lease Rebind) (Some server) e =
+        subst (Says own (identifying u (Some client) (Lease Rebind) (Some server))) (err_is _ _ e) (refl, tt, refl)
+    by (Some client) (Lease Request) server e = to_one client Request server (λ one. one) _ e
+    by (Some client) (Lease Renew) server e = to_one client Renew server (λ one. one) _ e
+    by (Some client) (Lease Release) server e = to_one client Release server (λ one. one) _ e
 
-present : (own : List ℕ) (u : UntestedMessage) (client : Option (List ℕ)) (kind : ClientKind)
+present : (own : List ℕ) (u : UntestedMessage) (client : Option (List ℕ)) (kind : MessageKind)
     (server : Option (List ℕ)) → IsSome client → IsToAny kind → IsSome server
     → identified own (identifying u client kind server) ≡ Err ServerIdPresent
 unfolding identified for_server
 present own u None kind server client any some = absurd (let e : false ≡ true = client in cc)
 present own u (Some client) kind None is any some = absurd (let e : false ≡ true = some in cc)
-present own u (Some client) Solicit (Some server) is any some = refl
-present own u (Some client) Rebind (Some server) is any some = refl
-present own u (Some client) Request (Some server) is any some = absurd any
-present own u (Some client) Renew (Some server) is any some = absurd any
-present own u (Some client) Release (Some server) is any some = absurd any
+present own u (Some client) (Lease Solicit) (Some server) is any some = refl
+present own u (Some client) (Lease Rebind) (Some server) is any some = refl
+present own u (Some client) (Lease Request) (Some server) is any some = absurd any
+present own u (Some client) (Lease Renew) (Some server) is any some = absurd any
+present own u (Some client) (Lease Release) (Some server) is any some = absurd any
+present own u (Some client) Information (Some server) is any some = absurd any
 
-missing : (own : List ℕ) (u : UntestedMessage) (client : Option (List ℕ)) (kind : ClientKind) → IsSome client
-    → (IsToAny kind → ⊥) → identified own (identifying u client kind None) ≡ Err ServerIdMissing
+missing : (own : List ℕ) (u : UntestedMessage) (client : Option (List ℕ)) (kind : MessageKind) → IsRead Leases kind
+    → IsSome client → (IsToAny kind → ⊥) → identified own (identifying u client kind None) ≡ Err ServerIdMissing
 unfolding identified for_server
-missing own u None kind is one = absurd (let e : false ≡ true = is in cc)
-missing own u (Some client) Solicit is one = absurd (one tt)
-missing own u (Some client) Rebind is one = absurd (one tt)
-missing own u (Some client) Request is one = refl
-missing own u (Some client) Renew is one = refl
-missing own u (Some client) Release is one = refl
+missing own u None kind read is one = absurd (let e : false ≡ true = is in cc)
+missing own u (Some client) (Lease Solicit) read is one = absurd (one tt)
+missing own u (Some client) (Lease Rebind) read is one = absurd (one tt)
+missing own u (Some client) (Lease Request) read is one = refl
+missing own u (Some client) (Lease Renew) read is one = refl
+missing own u (Some client) (Lease Release) read is one = refl
+missing own u (Some client) Information read is one = absurd read
 
-another : (own : List ℕ) (u : UntestedMessage) (client : Option (List ℕ)) (kind : ClientKind)
-    (server : Option (List ℕ)) → IsSome client → (IsToAny kind → ⊥) → IsSomeAnd server (λ s. s ≢ own)
-    → identified own (identifying u client kind server) ≡ Err NotOurs
+another : (own : List ℕ) (u : UntestedMessage) (client : Option (List ℕ)) (kind : MessageKind)
+    (server : Option (List ℕ)) → IsRead Leases kind → IsSome client → (IsToAny kind → ⊥)
+    → IsSomeAnd server (λ s. s ≢ own) → identified own (identifying u client kind server) ≡ Err NotOurs
 unfolding identified for_server
-another own u None kind server is one ne = absurd (let e : false ≡ true = is in cc)
-another own u (Some client) kind None is one ne = absurd ne
-another own u (Some client) Solicit (Some server) is one ne = absurd (one tt)
-another own u (Some client) Rebind (Some server) is one ne = absurd (one tt)
-another own u (Some client) Request (Some server) is one ne = rw (differs own server ne) refl
-another own u (Some client) Renew (Some server) is one ne = rw (differs own server ne) refl
-another own u (Some client) Release (Some server) is one ne = rw (differs own server ne) refl
+another own u None kind server read is one ne = absurd (let e : false ≡ true = is in cc)
+another own u (Some client) kind None read is one ne = absurd ne
+another own u (Some client) (Lease Solicit) (Some server) read is one ne = absurd (one tt)
+another own u (Some client) (Lease Rebind) (Some server) read is one ne = absurd (one tt)
+another own u (Some client) (Lease Request) (Some server) read is one ne = rw (differs own server ne) refl
+another own u (Some client) (Lease Renew) (Some server) read is one ne = rw (differs own server ne) refl
+another own u (Some client) (Lease Release) (Some server) read is one ne = rw (differs own server ne) refl
+another own u (Some client) Information (Some server) read is one ne = absurd read
 
-says_again : (own : List ℕ) (u : UntestedMessage) (fault : PdFault) → Says own u fault → identified own u ≡ Err fault
+nobody : (own : List ℕ) (u : UntestedMessage) (kind : MessageKind) (server : Option (List ℕ)) → IsRead Leases kind
+    → identified own (identifying u None kind server) ≡ Err NoClientId
 unfolding identified
-says_again own u NoClientId h = rw h refl
-says_again own u ServerIdPresent h = present own u u.client u.kind u.server h.0 h.1 h.2
-says_again own u ServerIdMissing h = rw h.2 (missing own u u.client u.kind h.0 h.1)
-says_again own u NotOurs h = another own u u.client u.kind u.server h.0 h.1 h.2
-says_again own u Short h = absurd h
-says_again own u OptionLength h = absurd h
-says_again own u DuplicateId h = absurd h
-says_again own u TooManyIas h = absurd h
-says_again own u BadPrefixLength h = absurd h
-says_again own u TooDeep h = absurd h
-says_again own u Ignored h = absurd h
+nobody own u (Lease kind) server read = refl
+nobody own u Information server read = absurd read
+
+says_again : (own : List ℕ) (u : UntestedMessage) (fault : PdFault) → IsRead Leases u.kind → Says own u fault
+    → identified own u ≡ Err fault
+unfolding identified
+says_again own u NoClientId read h = rw h (nobody own u u.kind u.server read)
+says_again own u ServerIdPresent read h = present own u u.client u.kind u.server h.0 h.1 h.2
+says_again own u ServerIdMissing read h = rw h.2 (missing own u u.client u.kind read h.0 h.1)
+says_again own u NotOurs read h = another own u u.client u.kind u.server read h.0 h.1 h.2
+says_again own u Short read h = absurd h
+says_again own u OptionLength read h = absurd h
+says_again own u DuplicateId read h = absurd h
+says_again own u TooManyIas read h = absurd h
+says_again own u BadPrefixLength read h = absurd h
+says_again own u TooDeep read h = absurd h
+says_again own u Ignored read h = rw h refl
 
 message_fails : (own octets : List ℕ) (fault : PdFault) → AreOctets octets → (OfOctets fault → ⊥)
     → message_of own octets ≡ Err fault → SpellsOne octets (λ u. Says own u fault)
-message_fails own octets fault fits last e = by (message_in MAX_RELAYS octets) refl (message_faults MAX_RELAYS octets) e
+message_fails own octets fault fits last e =
+    by (message_in Leases MAX_RELAYS octets) refl (message_faults Leases MAX_RELAYS octets) e
   where
-    by : (r : Result UntestedMessage PdFault) → message_in MAX_RELAYS octets ≡ r → Faults OfOctets r
+    by : (r : Result UntestedMessage PdFault) → message_in Leases MAX_RELAYS octets ≡ r → Faults OfOctets r
         → (r >>! identified own) ≡ Err fault → SpellsOne octets (λ u. Says own u fault)
-    by (Ok u) is h e = (u, untested_takes octets u fits is, says_takes own u fault e)
+    by (Ok u) is h e =
+        let t = untested_takes Leases octets u fits is in (u, t.0, t.1, says_takes own u fault e)
     by (Err other) is h e = absurd (let same : other ≡ fault = cc in last (subst OfOctets same h))
 
 fails_message : (own octets : List ℕ) (fault : PdFault) → SpellsOne octets (λ u. Says own u fault)
     → message_of own octets ≡ Err fault
-fails_message own octets fault h = rw (untested_again octets h.0 h.1) (says_again own h.0 fault h.2)
+fails_message own octets fault h =
+    rw (untested_again Leases octets h.0 h.2 h.1) (says_again own h.0 fault h.2 h.3)
 
 pub deeper_fails : (own octets : List ℕ) → AreOctets octets → message_of own octets ≡ Err TooDeep
     → IsDeeper MAX_RELAYS octets
-deeper_fails own octets fits e = by (message_in MAX_RELAYS octets) refl e
+deeper_fails own octets fits e = by (message_in Leases MAX_RELAYS octets) refl e
   where
-    by : (r : Result UntestedMessage PdFault) → message_in MAX_RELAYS octets ≡ r → (r >>! identified own) ≡ Err TooDeep
-        → IsDeeper MAX_RELAYS octets
+    by : (r : Result UntestedMessage PdFault) → message_in Leases MAX_RELAYS octets ≡ r
+        → (r >>! identified own) ≡ Err TooDeep → IsDeeper MAX_RELAYS octets
     by (Ok u) is e = absurd (says_takes own u TooDeep e)
     by (Err fault) is e = deep_takes MAX_RELAYS octets fits (is ∙ cc)
 
 pub other_fails : (own octets : List ℕ) → AreOctets octets → message_of own octets ≡ Err Ignored
     → IsOfOtherType MAX_RELAYS octets
-other_fails own octets fits e = by (message_in MAX_RELAYS octets) refl e
+other_fails own octets fits e = by (message_in Leases MAX_RELAYS octets) refl e
   where
-    by : (r : Result UntestedMessage PdFault) → message_in MAX_RELAYS octets ≡ r → (r >>! identified own) ≡ Err Ignored
-        → IsOfOtherType MAX_RELAYS octets
-    by (Ok u) is e = absurd (says_takes own u Ignored e)
+    by : (r : Result UntestedMessage PdFault) → message_in Leases MAX_RELAYS octets ≡ r
+        → (r >>! identified own) ≡ Err Ignored → IsOfOtherType MAX_RELAYS octets
+    by (Ok u) is e =
+        absurd (subst (IsRead Leases) (says_takes own u Ignored e) (untested_takes Leases octets u fits is).1)
     by (Err fault) is e = other_takes MAX_RELAYS octets fits (is ∙ cc)
 
 pub fails_deeper : (own octets : List ℕ) → IsDeeper MAX_RELAYS octets → message_of own octets ≡ Err TooDeep
@@ -210,9 +226,9 @@ no_form own u Ignored form says = form
 
 malformed : (own octets : List ℕ) (fault : PdFault) → IsOfForm fault → message_of own octets ≡ Err fault
     → IsMalformed octets
-malformed own octets fault form e u h =
+malformed own octets fault form e u read h =
     no_form own u fault form (says_takes own u fault
-    (sym (ap (λ (r : Result UntestedMessage PdFault). r >>! identified own) (untested_again octets u h)) ∙ e))
+    (sym (ap (λ (r : Result UntestedMessage PdFault). r >>! identified own) (untested_again Leases octets u read h)) ∙ e))
 
 -- each refusal of a function whose answer is what parsing gives
 pub record RefusesEach (own octets : List ℕ) (r : Result ClientMessage PdError) : Type 0 where

@@ -11,7 +11,7 @@ use Rattle.dhcp6_pd.specs.declared.message.Relay.{Relay}
 use Rattle.dhcp6_pd.specs.declared.message.ServerMessage.{ServerMessage}
 use Rattle.std.specs.List.{flat_map}
 use Rattle.dhcp6_pd.specs.Layout.{relay_head, relayed, option_octets, ia_octets, head_octets, server_octets}
-use Rattle.dhcp6_pd.specs.Layout.{message_octets}
+use Rattle.dhcp6_pd.specs.Layout.{success_octets, ready_octets, no_address_octets, message_octets}
 use Rattle.dhcp6_pd.specs.Size.{fitting, relay_size}
 
 -- relays add their sizes to the message that they hold
@@ -36,11 +36,22 @@ fitting_is n size e = by (nat_lt 65535 n) e
 pub fitting_more : (n more : ℕ) (e : PdError) → n ≤ more → fitting n ≡ Err e → fitting more ≡ Err e
 fitting_more n more e le h = grind (arith, nat_tests)
 
--- an answer's octets: its relays', its head's and its IA_PDs'
-pub message_length : (m : ServerMessage) → length (message_octets m)
-    ≡ sum_by relay_size m.relays + (length (head_octets m) + length (flat_map ia_octets m.ias))
-message_length m = relayed_length m.relays (server_octets m)
-    ∙ ap (λ (n : ℕ). sum_by relay_size m.relays + n) (length-append (head_octets m) (flat_map ia_octets m.ias))
+-- an answer's octets without its relays: its head's, and what stands behind that
+pub server_length : (m : ServerMessage) → length (server_octets m)
+    ≡ length (head_octets m) + length (success_octets m.success) + length (flat_map ready_octets m.options)
+    + length (flat_map no_address_octets m.no_addresses) + length (flat_map ia_octets m.ias)
+server_length m =
+    let options = flat_map ready_octets m.options in
+    let success = success_octets m.success in
+    let addresses = flat_map no_address_octets m.no_addresses in
+    let ias = flat_map ia_octets m.ias in
+    omega (
+      arith,
+      length-append (head_octets m) (options ++ (success ++ (addresses ++ ias))),
+      length-append options (success ++ (addresses ++ ias)),
+      length-append success (addresses ++ ias),
+      length-append addresses ias,
+    )
 
 -- the size that was found leaves room for the relays
 pub relays_fit : (m : ServerMessage) (size : ℕ) → fitting (length (message_octets m)) ≡ Ok size

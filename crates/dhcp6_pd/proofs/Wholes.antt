@@ -46,7 +46,7 @@ octets_drop zero octets h = h
 octets_drop (suc n) [] h = tt
 octets_drop (suc n) (x ∷ octets) h = octets_drop n octets h.1
 
-two_octets : (a b : ℕ) → a < 256 → b < 256 → big_bytes 2 (a * 256 + (b * 1 + 0)) ≡ a ∷ b ∷ []
+pub two_octets : (a b : ℕ) → a < 256 → b < 256 → big_bytes 2 (a * 256 + (b * 1 + 0)) ≡ a ∷ b ∷ []
 two_octets a b ha hb =
     let high : (a * 256 + (b * 1 + 0)) / 256 % 256 ≡ a = omega (arith, ha, hb) in
     let low : (a * 256 + (b * 1 + 0)) % 256 ≡ b = omega (arith, ha, hb) in

@@ -1,5 +1,5 @@
 -- What any octets are as a client's message, or their first fault from the front.
-use Rattle.std.specs.Prelude.{ℕ, zero, suc, ◌==◌, Bool, true, false, List, [], ◌∷◌, ◌++◌, length, take, drop}
+use Rattle.std.specs.Prelude.{ℕ, zero, suc, ◌==◌, ◌&&◌, option_map, Bool, true, false, List, [], ◌∷◌, ◌++◌, length, take, drop}
 use Rattle.std.specs.Prelude.{slice_index, Option, Some, None, Result, Ok, Err, nat_lt, if◌then◌else◌}
 use Rattle.std.specs.Str.{bytes_eq}
 use Rattle.byteorder.specs.Endian.{big_number}
@@ -16,16 +16,25 @@ use Rattle.dhcp6_pd.specs.declared.option_code.OptionCode.TheVariants as codes
 use Rattle.dhcp6_pd.specs.declared.message.ClientKind.{ClientKind}
 use Rattle.dhcp6_pd.specs.declared.message.ClientKind.TheVariants.{Solicit, Request, Renew, Rebind, Release}
 use Rattle.dhcp6_pd.specs.declared.message.ClientMessage.{ClientMessage}
+use Rattle.dhcp6_pd.specs.declared.message.InformationRequest.{InformationRequest}
+use Rattle.dhcp6_pd.specs.declared.reads.Reads.{Reads}
+use Rattle.dhcp6_pd.specs.declared.reads.Reads.TheVariants.{Leases}
+use Rattle.dhcp6_pd.specs.declared.reads.Reads.TheVariants as reads
+use Rattle.dhcp6_pd.specs.declared.reads.MessageKind.{MessageKind}
+use Rattle.dhcp6_pd.specs.declared.reads.MessageKind.TheVariants.{Lease, Information}
+use Rattle.dhcp6_pd.specs.declared.wishes.Wishes.{Wishes}
 use Rattle.dhcp6_pd.specs.declared.message.IaPd.{IaPd}
 use Rattle.dhcp6_pd.specs.declared.message.Relay.{Relay}
 use Rattle.dhcp6_pd.specs.declared.client_options.ClientOptions.{ClientOptions}
 use Rattle.dhcp6_pd.specs.declared.relay_options.RelayOptions.{RelayOptions}
 use Rattle.dhcp6_pd.specs.declared.untested.UntestedMessage.{UntestedMessage}
 use Rattle.dhcp6_pd.specs.declared.numbers.TheConstants.{IA_PREFIX, RELAY_MESSAGE, SOLICIT, REQUEST, RENEW, REBIND}
-use Rattle.dhcp6_pd.specs.declared.numbers.TheConstants.{RELEASE, RELAY_FORWARD, MAX_IAS, MAX_RELAYS}
+use Rattle.dhcp6_pd.specs.declared.numbers.TheConstants.{RELEASE, INFORMATION_REQUEST, RELAY_FORWARD, MAX_IAS}
+use Rattle.dhcp6_pd.specs.declared.numbers.TheConstants.{MAX_RELAYS}
 use Rattle.dhcp6_pd.specs.Options.{DhcpOption}
 use Rattle.dhcp6_pd.specs.Rows.{Row, Done, Broken, Next, row_of, code_of, folded}
 use Rattle.dhcp6_pd.specs.Grammar.{cleared, address_of}
+use Rattle.dhcp6_pd.specs.Wishes.{wishes_in, or_none}
 
 -- ---- IA_PD (sections 21.21 and 21.22)
 
@@ -94,8 +103,8 @@ client_options_in octets = folded client_option no_client_options (row_of octets
 -- ---- the messages (sections 8 and 9)
 
 -- section 7.3
-unfoldable pub kind_of : ℕ → Option ClientKind
-kind_of octet =
+unfoldable pub lease_kind : ℕ → Option ClientKind
+lease_kind octet =
     if octet == SOLICIT then Some Solicit
     else if octet == REQUEST then Some Request
     else if octet == RENEW then Some Renew
@@ -103,9 +112,14 @@ kind_of octet =
     else if octet == RELEASE then Some Release
     else None
 
+-- a message's type, where such messages are read
+unfoldable pub kind_of : Reads → ℕ → Option MessageKind
+kind_of Leases octet = option_map (λ kind. Lease kind) (lease_kind octet)
+kind_of reads.Information octet = if octet == INFORMATION_REQUEST then Some Information else None
+
 -- a message's type, transaction identifier, and what its options say
-abbrev pub client_message : ClientKind → List ℕ → ClientOptions → UntestedMessage
-client_message kind octets kept =
+abbrev pub client_message : MessageKind → List ℕ → ClientOptions → Wishes → UntestedMessage
+client_message kind octets kept wishes =
     record {
       relays = [];
       kind = kind;
@@ -113,13 +127,17 @@ client_message kind octets kept =
       client = kept.client;
       server = kept.server;
       ias = kept.ias;
+      requested = or_none wishes.requested;
+      addresses = wishes.addresses;
+      temporaries = wishes.temporaries;
     }
 
--- type, transaction identifier of three octets, options
-unfoldable pub client_in : ClientKind → List ℕ → Result UntestedMessage PdFault
+-- Type, transaction identifier of three octets, options. Faults of what is asked for beside prefixes come last.
+unfoldable pub client_in : MessageKind → List ℕ → Result UntestedMessage PdFault
 client_in kind octets =
     if nat_lt (length octets) 4 then Err Short
-    else (client_options_in (drop 4 octets) >>! λ kept. Ok (client_message kind octets kept))
+    else (client_options_in (drop 4 octets) >>! λ kept. wishes_in (drop 4 octets) >>! λ wishes.
+    Ok (client_message kind octets kept wishes))
 
 -- ---- the options of a relay's message
 
@@ -187,20 +205,20 @@ relay_in parse octets =
     if nat_lt (length octets) 34 then Err Short
     else behind parse octets (to_message no_relay_options (row_of (drop 34 octets)))
 
-abbrev pub or_ignored : Option ClientKind → List ℕ → Result UntestedMessage PdFault
+abbrev pub or_ignored : Option MessageKind → List ℕ → Result UntestedMessage PdFault
 or_ignored None octets = Err Ignored
 or_ignored (Some kind) octets = client_in kind octets
 
 -- a message by its type, which its first octet is: a relay's is RELAY-FORW
-abbrev pub by_type : (List ℕ → Result UntestedMessage PdFault) → List ℕ → Result UntestedMessage PdFault
-by_type relay [] = Err Short
-by_type relay (x ∷ octets) =
-    if x == RELAY_FORWARD then relay (x ∷ octets) else or_ignored (kind_of x) (x ∷ octets)
+abbrev pub by_type : Reads → (List ℕ → Result UntestedMessage PdFault) → List ℕ → Result UntestedMessage PdFault
+by_type which relay [] = Err Short
+by_type which relay (x ∷ octets) =
+    if x == RELAY_FORWARD then relay (x ∷ octets) else or_ignored (kind_of which x) (x ∷ octets)
 
 -- a message that at most so many relays hold
-unfoldable pub message_in : ℕ → List ℕ → Result UntestedMessage PdFault
-message_in zero octets = by_type (λ _. Err TooDeep) octets
-message_in (suc left) octets = by_type (relay_in (message_in left)) octets
+unfoldable pub message_in : Reads → ℕ → List ℕ → Result UntestedMessage PdFault
+message_in which zero octets = by_type which (λ _. Err TooDeep) octets
+message_in which (suc left) octets = by_type which (relay_in (message_in which left)) octets
 
 -- ---- the identifiers (section 16)
 
@@ -217,12 +235,53 @@ abbrev pub or_no_client : Option (List ℕ) → Result (List ℕ) PdFault
 or_no_client None = Err NoClientId
 or_no_client (Some client) = Ok client
 
+-- the type of a message about prefixes
+abbrev pub lease_or_ignored : MessageKind → Result ClientKind PdFault
+lease_or_ignored (Lease kind) = Ok kind
+lease_or_ignored Information = Err Ignored
+
 unfoldable pub identified : List ℕ → UntestedMessage → Result ClientMessage PdFault
 identified own u =
+    lease_or_ignored u.kind >>! λ kind.
     or_no_client u.client >>! λ client.
-    for_server own u.kind u.server >>! λ _.
-    Ok (record { relays = u.relays; kind = u.kind; xid = u.xid; client = client; ias = u.ias })
+    for_server own kind u.server >>! λ _.
+    Ok (record {
+      relays = u.relays;
+      kind = kind;
+      xid = u.xid;
+      client = client;
+      ias = u.ias;
+      requested = u.requested;
+      addresses = u.addresses;
+      temporaries = u.temporaries;
+    })
 
 -- what octets are as a message for the server with this identifier: at most 32 relays, and identifiers last
 abbrev pub message_of : List ℕ → List ℕ → Result ClientMessage PdFault
-message_of own octets = message_in MAX_RELAYS octets >>! identified own
+message_of own octets = message_in Leases MAX_RELAYS octets >>! identified own
+
+-- ---- requests for options alone (section 16.12)
+
+-- the server identifier, where one stands, is this server's
+unfoldable pub for_any : List ℕ → Option (List ℕ) → Result (Unit {0}) PdFault
+for_any own None = Ok tt
+for_any own (Some server) = if bytes_eq server own then Ok tt else Err NotOurs
+
+abbrev pub is_none : {A : Type 0} → List A → Bool
+is_none [] = true
+is_none (x ∷ xs) = false
+
+-- no identity association stands there
+abbrev pub has_no_ia : UntestedMessage → Bool
+has_no_ia u = is_none u.ias && (is_none u.addresses && is_none u.temporaries)
+
+unfoldable pub inquired : List ℕ → UntestedMessage → Result InformationRequest PdFault
+inquired own u =
+    for_any own u.server >>! λ _.
+    if has_no_ia u
+    then Ok (record { relays = u.relays; xid = u.xid; client = u.client; requested = u.requested })
+    else Err Ignored
+
+-- what octets are as a request for options alone
+abbrev pub information_of : List ℕ → List ℕ → Result InformationRequest PdFault
+information_of own octets = message_in reads.Information MAX_RELAYS octets >>! inquired own

@@ -1,16 +1,21 @@
 -- Which octets are which client's message (RFC 8415).
-use Rattle.std.specs.Prelude.{◌≡◌, ℕ, ◌-◌, ◌%◌, ◌≤◌, List, [], ◌∷◌, length, take, drop, slice_index, Option, Some, None}
-use Rattle.std.specs.List.{AllByRecursion}
-use Rattle.byteorder.specs.Endian.{big_number}
+use Rattle.std.specs.Prelude.{◌≡◌, ℕ, ◌-◌, ◌%◌, ◌^◌, ◌<◌, ◌≤◌, nat_lt, if◌then◌else◌}
+use Rattle.std.specs.Prelude.{List, [], ◌∷◌, length, take, drop, slice_index, Option, Some, None}
+use Rattle.std.specs.List.{AllByRecursion, flat_map}
+use Rattle.byteorder.specs.Endian.{big_number, big_bytes}
 use Rattle.prefix_range.specs.Prefix.{Prefix, size_of}
 use Rattle.client_id.specs.Duid.{IsDuid}
 use Rattle.dhcp6_pd.specs.declared.message.ClientKind.{ClientKind}
 use Rattle.dhcp6_pd.specs.declared.message.ClientKind.TheVariants.{Solicit, Request, Renew, Rebind, Release}
 use Rattle.dhcp6_pd.specs.declared.message.ClientMessage.{ClientMessage}
+use Rattle.dhcp6_pd.specs.declared.message.InformationRequest.{InformationRequest}
+use Rattle.dhcp6_pd.specs.declared.reads.MessageKind.{MessageKind}
+use Rattle.dhcp6_pd.specs.declared.reads.MessageKind.TheVariants.{Lease, Information}
 use Rattle.dhcp6_pd.specs.declared.untested.UntestedMessage.{UntestedMessage}
 use Rattle.dhcp6_pd.specs.declared.numbers.TheConstants.{CLIENT_ID, SERVER_ID, RELAY_MESSAGE, INTERFACE_ID, IA_PD}
 use Rattle.dhcp6_pd.specs.declared.numbers.TheConstants.{IA_PREFIX, SOLICIT, REQUEST, RENEW, REBIND, RELEASE}
-use Rattle.dhcp6_pd.specs.declared.numbers.TheConstants.{REMOTE_ID, RELAY_FORWARD, MAX_IAS, MAX_RELAYS}
+use Rattle.dhcp6_pd.specs.declared.numbers.TheConstants.{REMOTE_ID, RELAY_FORWARD, MAX_IAS, MAX_RELAYS, IA_NA}
+use Rattle.dhcp6_pd.specs.declared.numbers.TheConstants.{IA_TA, OPTION_REQUEST, INFORMATION_REQUEST}
 use Rattle.dhcp6_pd.specs.declared.message.IaPd.{IaPd}
 use Rattle.dhcp6_pd.specs.declared.message.Relay.{Relay}
 use Rattle.dhcp6_pd.specs.Options.{DhcpOption, AreOptions, data_of}
@@ -54,17 +59,43 @@ SpellIas (octets ∷ more) (ia ∷ ias) = SpellsIa octets ia × SpellIas more ia
 -- ---- a client's message (section 8)
 
 -- section 7.3
-abbrev pub type_of : ClientKind → ℕ
-type_of Solicit = SOLICIT
-type_of Request = REQUEST
-type_of Renew = RENEW
-type_of Rebind = REBIND
-type_of Release = RELEASE
+abbrev pub lease_type : ClientKind → ℕ
+lease_type Solicit = SOLICIT
+lease_type Request = REQUEST
+lease_type Renew = RENEW
+lease_type Rebind = REBIND
+lease_type Release = RELEASE
+
+abbrev pub type_of : MessageKind → ℕ
+type_of (Lease kind) = lease_type kind
+type_of Information = INFORMATION_REQUEST
 
 -- an option that stands once or not at all
 abbrev pub listed : Option (List ℕ) → List (List ℕ)
 listed None = []
 listed (Some octets) = octets ∷ []
+
+-- ---- what it asks for beside prefixes (sections 21.4, 21.5 and 21.7)
+
+-- the data of an option request: codes of two octets each
+pub record AreCodes (octets codes : List ℕ) : Type 0 where
+  pub each : AllByRecursion (λ code. code < 2 ^ 16) codes
+  pub spelled : octets ≡ flat_map (big_bytes 2) codes
+
+-- it stands once or not at all, which asks for nothing
+abbrev pub SpellsRequest : List (List ℕ) → List ℕ → Type 0
+SpellsRequest [] codes = codes ≡ []
+SpellsRequest (octets ∷ []) codes = AreCodes octets codes
+SpellsRequest (octets ∷ more ∷ later) codes = ⊥
+
+-- the identifiers of identity associations, each before other octets of its fixed part, which has so many; a shorter
+-- one is none
+abbrev pub iaids_in : ℕ → List (List ℕ) → List ℕ
+iaids_in least [] = []
+iaids_in least (octets ∷ all) =
+    if nat_lt (length octets) least then iaids_in least all else big_number 4 octets ∷ iaids_in least all
+
+-- ---- a client's message
 
 -- The type, three octets of transaction identifier, options. What may stand once stands once, IA_PDs at most 16 times.
 -- Whom the identifiers name isn't asked.
@@ -82,6 +113,9 @@ pub record SpellsClient (octets : List ℕ) (u : UntestedMessage) : Type 0 where
   pub interface : length (data_of INTERFACE_ID options) ≤ 1
   pub ias : SpellIas (data_of IA_PD options) u.ias
   pub few : length u.ias ≤ MAX_IAS
+  pub requested : SpellsRequest (data_of OPTION_REQUEST options) u.requested
+  pub addresses : u.addresses ≡ iaids_in 12 (data_of IA_NA options)
+  pub temporaries : u.temporaries ≡ iaids_in 4 (data_of IA_TA options)
 
 -- ---- a relay's message (section 9)
 
@@ -126,13 +160,42 @@ server_for own Release = Some own
 abbrev pub addressed : List ℕ → ClientMessage → UntestedMessage
 addressed own m = record {
   relays = m.relays;
-  kind = m.kind;
+  kind = Lease m.kind;
   xid = m.xid;
   client = Some m.client;
   server = server_for own m.kind;
   ias = m.ias;
+  requested = m.requested;
+  addresses = m.addresses;
+  temporaries = m.temporaries;
 }
 
 -- the octets are this message for the server with this identifier
 abbrev pub Spells : List ℕ → List ℕ → ClientMessage → Type 0
 Spells own octets m = SpellsUntested octets (addressed own m)
+
+-- ---- requests for options alone (section 16.12)
+
+-- a request with this server identifier, or none, and without identity associations
+abbrev pub inquiry : Option (List ℕ) → InformationRequest → UntestedMessage
+inquiry server i = record {
+  relays = i.relays;
+  kind = Information;
+  xid = i.xid;
+  client = i.client;
+  server = server;
+  ias = [];
+  requested = i.requested;
+  addresses = [];
+  temporaries = [];
+}
+
+-- it names this server, or none
+abbrev pub NamesOnly : List ℕ → Option (List ℕ) → Type 0
+NamesOnly own None = Unit {0}
+NamesOnly own (Some server) = server ≡ own
+
+-- the octets are this request to the server with this identifier, or to any
+abbrev pub SpellsInformation : List ℕ → List ℕ → InformationRequest → Type 0
+SpellsInformation own octets i =
+    (server : Option (List ℕ)) × NamesOnly own server × SpellsUntested octets (inquiry server i)

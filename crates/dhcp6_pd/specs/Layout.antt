@@ -3,6 +3,7 @@ use Rattle.std.specs.Prelude.{Bool, ℕ, ◌*◌, ◌/◌, List, [], ◌∷◌, 
 use Rattle.std.specs.List.{flat_map}
 use Rattle.byteorder.specs.Endian.{big_bytes}
 use Rattle.prefix_range.specs.Prefix.{Prefix}
+use Rattle.router_options.specs.Ready.{Ready}
 use Rattle.dhcp6_pd.specs.declared.message.Relay.{Relay}
 use Rattle.dhcp6_pd.specs.declared.message.IaReply.{IaReply}
 use Rattle.dhcp6_pd.specs.declared.message.IaReplyAnswer.{IaReplyAnswer}
@@ -10,9 +11,10 @@ use Rattle.dhcp6_pd.specs.declared.message.IaReplyAnswer.TheVariants.{Given, NoP
 use Rattle.dhcp6_pd.specs.declared.message.ServerKind.{ServerKind}
 use Rattle.dhcp6_pd.specs.declared.message.ServerKind.TheVariants.{Advertise, Reply}
 use Rattle.dhcp6_pd.specs.declared.message.ServerMessage.{ServerMessage}
-use Rattle.dhcp6_pd.specs.declared.numbers.TheConstants.{CLIENT_ID, SERVER_ID, RELAY_MESSAGE, STATUS_CODE}
+use Rattle.dhcp6_pd.specs.declared.numbers.TheConstants.{CLIENT_ID, SERVER_ID, IA_NA, RELAY_MESSAGE, STATUS_CODE}
 use Rattle.dhcp6_pd.specs.declared.numbers.TheConstants.{INTERFACE_ID, IA_PD, IA_PREFIX, SUCCESS, NO_BINDING}
-use Rattle.dhcp6_pd.specs.declared.numbers.TheConstants.{NO_PREFIX_AVAILABLE, ADVERTISE, REPLY, RELAY_REPLY}
+use Rattle.dhcp6_pd.specs.declared.numbers.TheConstants.{NO_PREFIX_AVAILABLE, NO_ADDRESSES, ADVERTISE, REPLY}
+use Rattle.dhcp6_pd.specs.declared.numbers.TheConstants.{RELAY_REPLY}
 
 -- section 21.1: an option's code and the length of its data, in two octets each, and the data
 abbrev pub option_octets : ℕ → List ℕ → List ℕ
@@ -50,15 +52,30 @@ kind_octet Reply = REPLY
 abbrev pub success_octets : Bool → List ℕ
 success_octets success = if success then status_octets SUCCESS else []
 
--- section 8: type, transaction identifier, and here the identifiers and the status
-abbrev pub head_octets : ServerMessage → List ℕ
-head_octets m =
-    kind_octet m.kind
-    ∷ (m.xid ++ (option_octets CLIENT_ID m.client ++ (option_octets SERVER_ID m.server ++ success_octets m.success)))
+-- the client's identifier, where it gave one
+abbrev pub client_octets : Option (List ℕ) → List ℕ
+client_octets None = []
+client_octets (Some client) = option_octets CLIENT_ID client
 
--- and the IA_PDs
+-- section 8: type, transaction identifier, and here the identifiers
+abbrev pub head_octets : ServerMessage → List ℕ
+head_octets m = kind_octet m.kind ∷ (m.xid ++ (client_octets m.client ++ option_octets SERVER_ID m.server))
+
+-- an option that is handed out beside prefixes
+abbrev pub ready_octets : Ready → List ℕ
+ready_octets o = option_octets o.code o.octets
+
+-- section 21.4: the IAID of an IA_NA, T1, T2, and the status that no address is available
+abbrev pub no_address_octets : ℕ → List ℕ
+no_address_octets iaid = option_octets IA_NA (big_bytes 4 iaid ++ (times_octets 0 ++ status_octets NO_ADDRESSES))
+
+-- behind the identifiers: what is handed out beside prefixes, the status, IA_NAs and IA_PDs
+abbrev pub body_octets : ServerMessage → List ℕ
+body_octets m = flat_map ready_octets m.options
+    ++ (success_octets m.success ++ (flat_map no_address_octets m.no_addresses ++ flat_map ia_octets m.ias))
+
 abbrev pub server_octets : ServerMessage → List ℕ
-server_octets m = head_octets m ++ flat_map ia_octets m.ias
+server_octets m = head_octets m ++ body_octets m
 
 -- section 21.18: the interface identifier goes back as it came; the remote one need not (RFC 4649), and does not
 abbrev pub interface_octets : Option (List ℕ) → List ℕ

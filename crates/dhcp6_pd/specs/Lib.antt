@@ -4,6 +4,7 @@ pub mod Options
 pub mod Grammar
 pub mod Rows
 pub mod Refusals
+pub mod Wishes
 pub mod Faults
 pub mod Answers
 pub mod Parsing

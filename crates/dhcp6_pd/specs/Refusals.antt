@@ -14,7 +14,12 @@ use Rattle.dhcp6_pd.specs.declared.numbers.TheConstants.{CLIENT_ID, SERVER_ID, R
 use Rattle.dhcp6_pd.specs.declared.numbers.TheConstants.{REMOTE_ID, RELAY_FORWARD}
 use Rattle.dhcp6_pd.specs.Layout.{option_octets}
 use Rattle.dhcp6_pd.specs.Options.{DhcpOption, IsOption, octets_of, data_of}
-use Rattle.dhcp6_pd.specs.Grammar.{type_of, SpellsUntested}
+use Rattle.dhcp6_pd.specs.declared.reads.Reads.{Reads}
+use Rattle.dhcp6_pd.specs.declared.reads.Reads.TheVariants.{Leases}
+use Rattle.dhcp6_pd.specs.declared.reads.Reads.TheVariants as reads
+use Rattle.dhcp6_pd.specs.declared.reads.MessageKind.{MessageKind}
+use Rattle.dhcp6_pd.specs.declared.reads.MessageKind.TheVariants.{Lease, Information}
+use Rattle.dhcp6_pd.specs.Grammar.{lease_type, SpellsUntested}
 
 -- the answer is this fault exactly where that holds, unless a growth was refused
 abbrev pub Refuses : {X : Type 0} → Result X PdError → PdFault → Type 0 → Type 0
@@ -31,9 +36,16 @@ IsOfForm TooManyIas = Unit {0}
 IsOfForm BadPrefixLength = Unit {0}
 IsOfForm other = ⊥
 
--- the octets are no message, whatever its identifiers would be
+-- messages of this type are read
+abbrev pub IsRead : Reads → MessageKind → Type 0
+IsRead Leases (Lease kind) = Unit {0}
+IsRead Leases Information = ⊥
+IsRead reads.Information (Lease kind) = ⊥
+IsRead reads.Information Information = Unit {0}
+
+-- the octets are no message about prefixes, whatever its identifiers would be
 abbrev pub IsMalformed : List ℕ → Type 0
-IsMalformed octets = (u : UntestedMessage) → ¬ (SpellsUntested octets u)
+IsMalformed octets = (u : UntestedMessage) → IsRead Leases u.kind → ¬ (SpellsUntested octets u)
 
 -- ---- the innermost message
 
@@ -76,21 +88,22 @@ pub record IsOfOtherType (most : ℕ) (octets : List ℕ) : Type 0 where
   pub carried : Carried relays octets inside
   pub some : 0 < length inside
   pub relay : slice_index inside 0 ≢ RELAY_FORWARD
-  pub other : (kind : ClientKind) → slice_index inside 0 ≢ type_of kind
+  pub other : (kind : ClientKind) → slice_index inside 0 ≢ lease_type kind
 
 -- ---- the identifiers
 
--- the octets are a message, whatever its identifiers are, of which this holds
+-- the octets are a message about prefixes, whatever its identifiers are, of which this holds
 abbrev pub SpellsOne : List ℕ → (UntestedMessage → Type 0) → Type 0
-SpellsOne octets P = (u : UntestedMessage) × SpellsUntested octets u × P u
+SpellsOne octets P = (u : UntestedMessage) × SpellsUntested octets u × IsRead Leases u.kind × P u
 
 -- types of messages to any server; all others are to one
-abbrev pub IsToAny : ClientKind → Type 0
-IsToAny Solicit = Unit {0}
-IsToAny Rebind = Unit {0}
-IsToAny Request = ⊥
-IsToAny Renew = ⊥
-IsToAny Release = ⊥
+abbrev pub IsToAny : MessageKind → Type 0
+IsToAny (Lease Solicit) = Unit {0}
+IsToAny (Lease Rebind) = Unit {0}
+IsToAny (Lease Request) = ⊥
+IsToAny (Lease Renew) = ⊥
+IsToAny (Lease Release) = ⊥
+IsToAny Information = ⊥
 
 -- it has no client identifier
 abbrev pub NamesNoClient : UntestedMessage → Type 0

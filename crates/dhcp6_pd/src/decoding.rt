@@ -13,6 +13,7 @@ ghost use Rattle.dhcp6_pd.specs.declared.message.ClientMessage.{ClientMessage as
 use crate::error::{PdError, PdFault};
 use crate::message::{ClientKind, ClientMessage};
 use crate::numbers::MAX_RELAYS;
+use crate::reads::{MessageKind, Reads};
 use crate::untested::{UntestedMessage, message_in};
 use client_id::Duid;
 use std::alloc::Global;
@@ -36,7 +37,7 @@ fn for_server(own: &Duid, kind: ClientKind, server: &Option<Duid>) -> Result<(),
     }
 }
 
-/// A message whose identifiers are as its type asks for.
+/// A message about prefixes whose identifiers are as its type asks for.
 #[tactic(auto, unfolding(crate::specs::Faults::identified))]
 fn identified(message: UntestedMessage, own: &Duid) -> Result<ClientMessage, PdFault>
     ensures { result ≡ identified own.now message }
@@ -48,7 +49,13 @@ fn identified(message: UntestedMessage, own: &Duid) -> Result<ClientMessage, PdF
         client,
         server,
         ias,
+        requested,
+        addresses,
+        temporaries,
     } = message;
+    let MessageKind::Lease(kind) = kind else {
+        return Err(PdFault::Ignored);
+    };
     let client = client.ok_or(PdFault::NoClientId)?;
     for_server(own, kind, &server)?;
     Ok(ClientMessage {
@@ -57,13 +64,16 @@ fn identified(message: UntestedMessage, own: &Duid) -> Result<ClientMessage, PdF
         xid,
         client,
         ias,
+        requested,
+        addresses,
+        temporaries,
     })
 }
 
 fn decoded(alloc: Global, octets: &[u8], own: &Duid) -> Result<ClientMessage, PdError>
     ensures { Gives (λ m. m) result (message_of own.now octets.now) }
 {
-    let untested = message_in(alloc, octets, MAX_RELAYS)?;
+    let untested = message_in(alloc, Reads::Leases, octets, MAX_RELAYS)?;
     let message = identified(untested, own)?;
     Ok(message)
 }

@@ -1,7 +1,8 @@
 //! DHCPv6 messages with prefix delegation (RFC 8415): what clients send, by relays or not, and a server's answers.
 //!
-//! `decode` takes a datagram to a `ClientMessage` for this server, or names the first fault from the front; `encode`
-//! takes a `ServerMessage` to the octets that go back by the same relays. Neither decides anything.
+//! `decode` takes a datagram to a `ClientMessage` for this server, or names the first fault from the front;
+//! `decode_information` takes one to a request for options alone; `encode` takes a `ServerMessage` to the octets that go
+//! back by the same relays. None of them decides anything.
 //!
 //! What they promise stands at their calls: which octets are which message in specs/Grammar, why a message is refused
 //! for its type, its relays or its identifiers in specs/Refusals, the first fault of any octets in specs/Faults, the
@@ -20,21 +21,28 @@ mod client_options;
 mod decoding;
 mod error;
 mod ia;
+mod information;
 mod keeping;
 mod message;
 mod message_lists;
 mod numbers;
 mod option_code;
 mod options;
+mod reads;
 mod relay_options;
 mod size;
 mod untested;
+mod wishes;
 mod writing;
 
 pub use decoding::decode;
 pub use error::{PdError, PdFault};
+pub use information::decode_information;
 pub use message::{
-    ClientKind, ClientMessage, IaPd, IaReply, IaReplyAnswer, Relay, ServerKind, ServerMessage,
+    ClientKind, ClientMessage, IaPd, IaReply, IaReplyAnswer, InformationRequest, Relay, ServerKind,
+    ServerMessage,
 };
-pub use message_lists::{IaPdList, IaReplyList, InterfaceId, RelayId, RelayList, RemoteId};
+pub use message_lists::{
+    IaPdList, IaReplyList, IaidList, InterfaceId, RelayId, RelayList, RemoteId, RequestList,
+};
 pub use writing::encode;

@@ -1,8 +1,11 @@
 //! What messages say (RFC 8415): those of clients that are read, and those of the server that are written.
 
-use crate::message_lists::{IaPdList, IaReplyList, InterfaceId, RelayList, RemoteId};
+use crate::message_lists::{
+    IaPdList, IaReplyList, IaidList, InterfaceId, RelayList, RemoteId, RequestList,
+};
 use client_id::{Duid, Iaid};
 use prefix_range::Prefix;
+use router_options::OptionList;
 
 /// The types of clients' messages that are read (RFC 8415, section 7.3).
 #[derive(Clone, Copy, Debug, PartialEq, Eq)]
@@ -24,6 +27,25 @@ pub struct ClientMessage {
     pub xid: [u8; 3],
     pub client: Duid,
     pub ias: IaPdList,
+    /// The codes of the options that it asks for (RFC 8415, section 21.7), in its order.
+    pub requested: RequestList,
+    /// The IA_NAs by which it asks for addresses (RFC 8415, section 21.4), in its order.
+    pub addresses: IaidList,
+    /// The IA_TAs by which it does (RFC 8415, section 21.5).
+    pub temporaries: IaidList,
+}
+
+/// A client's request for options alone, and the relays that it came by (RFC 8415, section 18.2.6).
+#[derive(Drop)]
+pub struct InformationRequest {
+    /// The relay nearest to the server first; none for a client on the link.
+    pub relays: RelayList,
+    /// The transaction identifier.
+    pub xid: [u8; 3],
+    /// Who asks, where it says so.
+    pub client: Option<Duid>,
+    /// The codes of the options that it asks for, in its order.
+    pub requested: RequestList,
 }
 
 /// A relay agent that forwarded a message (RFC 8415, section 9). All but the remote identifier goes back to it.
@@ -62,10 +84,15 @@ pub struct ServerMessage {
     pub kind: ServerKind,
     /// The transaction identifier of the client's message.
     pub xid: [u8; 3],
-    pub client: Duid,
+    /// The identifier of the client, where it gave one.
+    pub client: Option<Duid>,
     pub server: Duid,
+    /// What it hands out beside prefixes, in the order in which that is written.
+    pub options: OptionList,
     /// Whether a status option says Success, as in the answer to a RELEASE.
     pub success: bool,
+    /// The IA_NAs that are told NoAddrsAvail.
+    pub no_addresses: IaidList,
     pub ias: IaReplyList,
 }
 

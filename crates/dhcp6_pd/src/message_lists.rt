@@ -3,6 +3,7 @@
 ghost use Rattle.std.specs.Prelude.{◌≡◌, ◌∷◌, [], OnOk, IfOk};
 
 use crate::message::{IaPd, IaReply, Relay};
+use client_id::Iaid;
 use lists::Listed;
 use std::alloc::{AllocError, Global};
 use std::marker::Model;
@@ -12,6 +13,12 @@ pub type RelayList = Listed<Relay>;
 
 /// The IA_PDs of a client's message, in its order.
 pub type IaPdList = Listed<IaPd>;
+
+/// The codes of the options that a client asks for, in its order.
+pub type RequestList = Listed<u16>;
+
+/// Identity associations, by their identifiers alone.
+pub type IaidList = Listed<Iaid>;
 
 /// The IA_PDs of an answer, in its order.
 pub type IaReplyList = Listed<IaReply>;

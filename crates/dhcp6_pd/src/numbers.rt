@@ -5,6 +5,12 @@ pub const CLIENT_ID: u16 = 1;
 
 pub const SERVER_ID: u16 = 2;
 
+pub const IA_NA: u16 = 3;
+
+pub const IA_TA: u16 = 4;
+
+pub const OPTION_REQUEST: u16 = 6;
+
 pub const RELAY_MESSAGE: u16 = 9;
 
 pub const STATUS_CODE: u16 = 13;
@@ -21,6 +27,8 @@ pub const REMOTE_ID: u16 = 37;
 /// Status codes (section 21.13).
 pub const SUCCESS: u16 = 0;
 
+pub const NO_ADDRESSES: u16 = 2;
+
 pub const NO_BINDING: u16 = 3;
 
 pub const NO_PREFIX_AVAILABLE: u16 = 6;
@@ -36,6 +44,8 @@ pub const REBIND: u8 = 6;
 
 pub const RELEASE: u8 = 8;
 
+pub const INFORMATION_REQUEST: u8 = 11;
+
 /// The types of the server's messages (section 7.3).
 pub const ADVERTISE: u8 = 2;
 
@@ -48,6 +58,9 @@ pub const RELAY_REPLY: u8 = 13;
 
 /// The octets of an option before its data: code and length (section 21.1).
 pub const OPTION_HEAD: usize = 4;
+
+/// The octets of an IA_NA that is told NoAddrsAvail: its head, IAID, T1, T2, and a status.
+pub const NO_ADDRESS_SIZE: usize = 22;
 
 /// The most octets of a datagram.
 pub const MAX_OCTETS: usize = 65535;

@@ -2,16 +2,17 @@
 
 ghost use Rattle.std.specs.Prelude.{◌≡◌, ◌≤◌, Some, None};
 ghost use Rattle.dhcp6_pd.specs.Answers.{Gives};
-ghost use Rattle.dhcp6_pd.specs.Faults.{kind_of, client_in, message_in};
+ghost use Rattle.dhcp6_pd.specs.Faults.{client_in, message_in};
 
 use crate::client_options::ClientOptions;
 use crate::error::{PdError, PdFault};
 use crate::keeping::keep_all;
-use crate::message::ClientKind;
-use crate::message_lists::{IaPdList, RelayStack};
-use crate::numbers::{MAX_RELAYS, REBIND, RELAY_FORWARD, RELEASE, RENEW, REQUEST, SOLICIT};
+use crate::message_lists::{IaPdList, IaidList, RelayStack, RequestList};
+use crate::numbers::{MAX_RELAYS, RELAY_FORWARD};
 use crate::options::Options;
+use crate::reads::{MessageKind, Reads, kind_of};
 use crate::relay_options::RelayOptions;
+use crate::wishes::{Wishes, or_none};
 use client_id::Duid;
 use std::alloc::Global;
 
@@ -20,33 +21,21 @@ use std::alloc::Global;
 #[derive(Drop)]
 pub struct UntestedMessage {
     pub relays: RelayStack,
-    pub kind: ClientKind,
+    pub kind: MessageKind,
     pub xid: [u8; 3],
     pub client: Option<Duid>,
     pub server: Option<Duid>,
     pub ias: IaPdList,
-}
-
-/// The type of a client's message (RFC 8415, section 7.3), if it is read.
-#[tactic(auto, unfolding(crate::specs::Faults::kind_of))]
-fn kind_of(octet: u8) -> Option<ClientKind>
-    ensures { result ≡ kind_of octet }
-{
-    match octet {
-        SOLICIT => Some(ClientKind::Solicit),
-        REQUEST => Some(ClientKind::Request),
-        RENEW => Some(ClientKind::Renew),
-        REBIND => Some(ClientKind::Rebind),
-        RELEASE => Some(ClientKind::Release),
-        _ => None,
-    }
+    pub requested: RequestList,
+    pub addresses: IaidList,
+    pub temporaries: IaidList,
 }
 
 /// The message of a client (RFC 8415, section 8), with room for so many relays.
 #[tactic(auto, unfolding(crate::specs::Faults::client_in))]
 fn client_in(
     alloc: Global,
-    kind: ClientKind,
+    kind: MessageKind,
     octets: &[u8],
     relays: usize,
 ) -> Result<UntestedMessage, PdError>
@@ -62,6 +51,11 @@ fn client_in(
         interface: _,
         ias,
     } = ClientOptions::of(alloc, &octets[4..])?;
+    let Wishes {
+        requested,
+        addresses,
+        temporaries,
+    } = Wishes::of(alloc, &octets[4..])?;
     let mut xid = [0u8; 3];
     xid.copy_from_slice(&octets[1..4]);
     Ok(UntestedMessage {
@@ -71,20 +65,28 @@ fn client_in(
         client,
         server,
         ias,
+        requested: or_none(alloc, requested),
+        addresses,
+        temporaries,
     })
 }
 
-/// The message in these octets, which at most `left` relays hold (RFC 8415, section 9).
+/// The message in these octets, of a type that is read, which at most `left` relays hold (RFC 8415, section 9).
 #[tactic(auto, unfolding(crate::specs::Faults::message_in, crate::specs::Faults::relay_in))]
-pub fn message_in(alloc: Global, octets: &[u8], left: usize) -> Result<UntestedMessage, PdError>
+pub fn message_in(
+    alloc: Global,
+    reads: Reads,
+    octets: &[u8],
+    left: usize,
+) -> Result<UntestedMessage, PdError>
     requires { left ≤ MAX_RELAYS }
-    ensures { Gives (λ u. u) result (message_in left octets.now) }
+    ensures { Gives (λ u. u) result (message_in reads left octets.now) }
 {
     let Some(first) = octets.first() else {
         return Err(PdError::Fault(PdFault::Short));
     };
     if *first != RELAY_FORWARD {
-        return match kind_of(*first) {
+        return match kind_of(reads, *first) {
             Some(kind) => client_in(alloc, kind, octets, MAX_RELAYS - left),
             None => Err(PdError::Fault(PdFault::Ignored)),
         };
@@ -100,7 +102,7 @@ pub fn message_in(alloc: Global, octets: &[u8], left: usize) -> Result<UntestedM
     let Some(inner) = kept.to_message(alloc, &mut options)? else {
         return Err(PdError::Fault(PdFault::Short));
     };
-    let mut message = message_in(alloc, inner, left - 1)?;
+    let mut message = message_in(alloc, reads, inner, left - 1)?;
     keep_all(&mut kept, alloc, options)?;
     message.relays.push(kept.into_relay(octets))?;
     Ok(message)

@@ -6,6 +6,8 @@ ghost use Rattle.byteorder.specs.Endian.{big_bytes};
 ghost use Rattle.dhcp6_pd.specs.Layout.{option_octets, status_octets, prefix_octets, times_octets, answer_octets};
 ghost use Rattle.dhcp6_pd.specs.Layout.{ia_octets};
 ghost use Rattle.dhcp6_pd.specs.Layout.{head_octets, interface_octets, relay_head, relayed, server_octets};
+ghost use Rattle.dhcp6_pd.specs.Layout.{client_octets, ready_octets, no_address_octets};
+ghost use Rattle.std.specs.List.{flat_map};
 ghost use Rattle.dhcp6_pd.specs.Layout.{message_octets};
 ghost use Rattle.dhcp6_pd.specs.Size.{relay_size, relay_front};
 
@@ -13,13 +15,15 @@ use crate::error::PdError;
 use crate::message::{IaReply, IaReplyAnswer, Relay, ServerKind, ServerMessage};
 use crate::message_lists::InterfaceId;
 use crate::numbers::{
-    ADVERTISE, CLIENT_ID, IA_PD, IA_PREFIX, INTERFACE_ID, MAX_OCTETS, NO_BINDING,
-    NO_PREFIX_AVAILABLE, OPTION_HEAD, RELAY_MESSAGE, RELAY_REPLY, REPLY, SERVER_ID, STATUS_CODE,
-    SUCCESS,
+    ADVERTISE, CLIENT_ID, IA_NA, IA_PD, IA_PREFIX, INTERFACE_ID, MAX_OCTETS, NO_ADDRESS_SIZE,
+    NO_ADDRESSES, NO_BINDING, NO_PREFIX_AVAILABLE, OPTION_HEAD, RELAY_MESSAGE, RELAY_REPLY, REPLY,
+    SERVER_ID, STATUS_CODE, SUCCESS,
 };
 use crate::size::{ia_size, size_of};
 use byteorder::{BigEndian, ByteOrder};
+use client_id::{Duid, Iaid};
 use prefix_range::Prefix;
+use router_options::ReadyOption;
 use std::alloc::{AllocError, Global};
 
 fn push_u16(out: &mut Vec<u8>, number: u16) -> Result<(), AllocError>
@@ -130,7 +134,16 @@ fn push_ia(out: &mut Vec<u8>, reply: &IaReply) -> Result<(), AllocError>
     push_answer(out, &reply.answer)
 }
 
-/// Appends the type, the transaction identifier, the identifiers and the status of an answer.
+fn push_client(out: &mut Vec<u8>, client: &Option<Duid>) -> Result<(), AllocError>
+    ensures { OnOk result (out.new.items ≡ out.old.items ++ client_octets client.now) }
+{
+    match client {
+        None => Ok(()),
+        Some(client) => push_option(out, CLIENT_ID, client.as_bytes()),
+    }
+}
+
+/// Appends the type, the transaction identifier and the identifiers of an answer.
 fn push_head(out: &mut Vec<u8>, message: &ServerMessage) -> Result<(), AllocError>
     ensures { OnOk result (out.new.items ≡ out.old.items ++ head_octets message.now) }
 {
@@ -140,10 +153,44 @@ fn push_head(out: &mut Vec<u8>, message: &ServerMessage) -> Result<(), AllocErro
     };
     out.push(kind)?;
     out.extend_from_slice(&message.xid)?;
-    push_option(out, CLIENT_ID, message.client.as_bytes())?;
-    push_option(out, SERVER_ID, message.server.as_bytes())?;
-    if message.success {
-        push_status(out, SUCCESS)?;
+    push_client(out, &message.client)?;
+    push_option(out, SERVER_ID, message.server.as_bytes())
+}
+
+/// Appends options that are handed out beside prefixes.
+fn push_options(out: &mut Vec<u8>, options: &[ReadyOption]) -> Result<(), AllocError>
+    ensures { OnOk result (out.new.items ≡ out.old.items ++ flat_map ready_octets options.now) }
+{
+    for option in options {
+        push_option(out, option.code(), option.as_bytes())?;
+    }
+    Ok(())
+}
+
+/// Appends an IA_NA that is told NoAddrsAvail.
+fn push_no_address(out: &mut Vec<u8>, iaid: Iaid) -> Result<(), AllocError>
+    ensures { OnOk result (out.new.items ≡ out.old.items ++ no_address_octets iaid) }
+{
+    push_option_head(out, IA_NA, (NO_ADDRESS_SIZE - OPTION_HEAD) as u16)?;
+    push_u32(out, iaid.0)?;
+    push_times(out, 0)?;
+    push_status(out, NO_ADDRESSES)
+}
+
+fn push_no_addresses(out: &mut Vec<u8>, iaids: &[Iaid]) -> Result<(), AllocError>
+    ensures { OnOk result (out.new.items ≡ out.old.items ++ flat_map no_address_octets iaids.now) }
+{
+    for iaid in iaids {
+        push_no_address(out, *iaid)?;
+    }
+    Ok(())
+}
+
+fn push_ias(out: &mut Vec<u8>, ias: &[IaReply]) -> Result<(), AllocError>
+    ensures { OnOk result (out.new.items ≡ out.old.items ++ flat_map ia_octets ias.now) }
+{
+    for reply in ias {
+        push_ia(out, reply)?;
     }
     Ok(())
 }
@@ -153,10 +200,12 @@ fn push_server(out: &mut Vec<u8>, message: &ServerMessage) -> Result<(), AllocEr
     ensures { OnOk result (out.new.items ≡ out.old.items ++ server_octets message.now) }
 {
     push_head(out, message)?;
-    for reply in message.ias.as_slice() {
-        push_ia(out, reply)?;
+    push_options(out, message.options.as_slice())?;
+    if message.success {
+        push_status(out, SUCCESS)?;
     }
-    Ok(())
+    push_no_addresses(out, message.no_addresses.as_slice())?;
+    push_ias(out, message.ias.as_slice())
 }
 
 fn push_interface(out: &mut Vec<u8>, interface: &Option<InterfaceId>) -> Result<(), AllocError>

@@ -306,6 +306,7 @@ fn daemon_of<'a, R: Net + RandomSource + Handle, L: Print>(
     Ok(Daemon {
         alloc,
         settings: server,
+        manner: &settings.manner,
         upkeep: settings.upkeep,
         clients: Clients::new(alloc, sockets.datagrams, server.transit(), limiter)?,
         partner: Partner::new(alloc, sockets.door, keeper_of(server.role(), key))?,

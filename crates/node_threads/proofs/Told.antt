@@ -15,13 +15,14 @@ use Rattle.order_book.specs.declared.reply.Reply.TheVariants.{Granted, Released 
 use Rattle.order_book.specs.Replayed.{state_of}
 use Rattle.server_book.specs.declared.messages.IaAnswer.{IaAnswer}
 use Rattle.server_book.specs.declared.messages.IaAnswer.TheVariants.{Given, NoPrefix, NoBinding, Released}
+use Rattle.server_book.specs.declared.manner.Manner.{Manner}
 use Rattle.server_book.specs.Messages.{asked_in}
 use Rattle.locked_book.specs.declared.error.ServeError.{ServeError}
 use Rattle.locked_book.specs.declared.receipt.Receipt.{Receipt}
 use Rattle.client_service.specs.declared.partner.Partner.{Partner}
 use Rattle.client_service.specs.declared.partner.Partner.TheVariants.{Up, Down}
 use Rattle.client_service.specs.declared.silence.Silence.{Silence}
-use Rattle.client_service.specs.declared.silence.Silence.TheVariants.{NothingAsked, Refused, TooLong, Memory}
+use Rattle.client_service.specs.declared.silence.Silence.TheVariants.{NothingAsked, Refused, Elsewhere, TooLong, Memory}
 use Rattle.client_service.specs.Serving.{IsOrderServed}
 use Rattle.client_service.specs.Telling.{ByLine, IsServedAs, IsOfferedAs, EndsAtOnce, Ends}
 use Rattle.client_service.specs.Answering.{order_for, AreTold, IsTold, IsSilent}
@@ -98,17 +99,17 @@ module _ (MayHave : List Receipt → Journal → Type 0) (now : ℕ) where
         (goes_on had (had ++ h.0) ((had ++ h.0) ++ h.1) first then)
 
     -- what is told of a message
-    pub told_goes : (own : List ℕ) (had has : List Receipt) (octets : List ℕ) (line : Option ℕ)
-        → IsTold MayHave partner own m [] now had has octets line → Goes had has
-    told_goes own had has octets line h =
+    pub told_goes : (own : List ℕ) (manner : Manner) (had has : List Receipt) (octets : List ℕ) (line : Option ℕ)
+        → IsTold MayHave partner own manner m [] now had has octets line → Goes had has
+    told_goes own manner had has octets line h =
         subst (λ rs. Goes had rs) (sym h.all) (all_go had m.ias h.answers h.added h.told)
 
     -- why it is told nothing
-    pub silent_goes : (own : List ℕ) (had has : List Receipt) (why : Silence)
-        → IsSilent MayHave partner own m [] now had has why → Goes had has
-    silent_goes own had has NothingAsked h =
+    pub silent_goes : (own : List ℕ) (manner : Manner) (had has : List Receipt) (why : Silence)
+        → IsSilent MayHave partner own manner m [] now had has why → Goes had has
+    silent_goes own manner had has NothingAsked h =
         subst (λ rs. Goes had rs) (sym h.1) (none_more had h.0 h.2.1)
-    silent_goes own had has (Refused e) h =
+    silent_goes own manner had has (Refused e) h =
         let t = h.2 in
         let first = all_go had (take t.0 m.ias) t.2 t.3 t.7 in
         let then = ends_goes partner m.kind (had ++ t.3) (order_for m t.1) t.4 (Err e)
@@ -116,7 +117,9 @@ module _ (MayHave : List Receipt → Journal → Type 0) (now : ℕ) where
         subst (λ rs. Goes had rs)
         (append_assoc had t.3 t.4 ∙ (ap (λ rs. had ++ rs) (sym t.6) ∙ sym h.1))
         (goes_on had (had ++ t.3) ((had ++ t.3) ++ t.4) first then)
-    silent_goes own had has TooLong h =
+    silent_goes own manner had has Elsewhere h =
         subst (λ rs. Goes had rs) (sym h.1) (all_go had m.ias h.2.0 h.0 h.2.1)
-    silent_goes own had has Memory h =
+    silent_goes own manner had has TooLong h =
+        subst (λ rs. Goes had rs) (sym h.1) (all_go had m.ias h.2.0 h.0 h.2.1)
+    silent_goes own manner had has Memory h =
         subst (λ rs. Goes had rs) (sym h.1) (all_go had (take h.2.0 m.ias) h.2.1 h.0 h.2.2)

@@ -4,9 +4,10 @@ use Rattle.dhcp6_pd.specs.declared.message.ClientMessage.{ClientMessage}
 use Rattle.locked_book.specs.declared.receipt.Receipt.{Receipt}
 use Rattle.locked_book.specs.declared.error.ServeError.{ServeError}
 use Rattle.locked_book.specs.declared.error.ServeError.TheVariants.{Book, Stranger, Memory as NoRoom}
+use Rattle.server_book.specs.Manner.{plain}
 use Rattle.client_service.specs.declared.partner.Partner.{Partner}
 use Rattle.client_service.specs.declared.silence.Silence.{Silence}
-use Rattle.client_service.specs.declared.silence.Silence.TheVariants.{NothingAsked, Refused, TooLong, Memory}
+use Rattle.client_service.specs.declared.silence.Silence.TheVariants.{NothingAsked, Refused, Elsewhere, TooLong, Memory}
 use Rattle.client_service.specs.Telling.{IsStranger}
 use Rattle.client_service.specs.Answering.{AnswerTo, IsTold, IsSilent}
 use Rattle.node_threads.specs.declared.error.NodeError.{NodeError}
@@ -25,6 +26,7 @@ refused NoRoom = Ok (Unanswered (Refused NoRoom))
 abbrev pub unanswered : Silence → Result Heard NodeError
 unanswered (Refused e) = refused e
 unanswered NothingAsked = Ok (Unanswered NothingAsked)
+unanswered Elsewhere = Ok (Unanswered Elsewhere)
 unanswered TooLong = Ok (Unanswered TooLong)
 unanswered Memory = Ok (Unanswered Memory)
 
@@ -39,12 +41,12 @@ module _ {Mail Peer : Type 0} (Sends : Mail → Peer → List ℕ → Mail → T
   abbrev pub IsReplied : Partner → List ℕ → Peer → ℕ → ClientMessage → Mail → Mail → List Receipt → List Receipt
       → Result Heard NodeError → Type 0
   IsReplied partner own peer now m old new had has (Ok Answered) =
-      (octets : List ℕ) × (line : Option ℕ) × IsTold AnyJournal partner own m [] now had has octets line
+      (octets : List ℕ) × (line : Option ℕ) × IsTold AnyJournal partner own plain m [] now had has octets line
       × Sends old peer octets new
   IsReplied partner own peer now m old new had has (Ok (Unanswered why)) =
-      (new ≡ old) × MayGoOn why × IsSilent AnyJournal partner own m [] now had has why
+      (new ≡ old) × MayGoOn why × IsSilent AnyJournal partner own plain m [] now had has why
   IsReplied partner own peer now m old new had has (Err Net) =
-      (octets : List ℕ) × (line : Option ℕ) × IsTold AnyJournal partner own m [] now had has octets line × Fails old new
+      (octets : List ℕ) × (line : Option ℕ) × IsTold AnyJournal partner own plain m [] now had has octets line × Fails old new
   IsReplied partner own peer now m old new had has (Err (Serve e)) =
-      (new ≡ old) × IsStranger e × IsSilent AnyJournal partner own m [] now had has (Refused e)
+      (new ≡ old) × IsStranger e × IsSilent AnyJournal partner own plain m [] now had has (Refused e)
   IsReplied partner own peer now m old new had has result = ⊥

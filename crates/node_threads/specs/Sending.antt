@@ -6,6 +6,7 @@ use Rattle.dhcp6_pd.specs.Answers.{Gives}
 use Rattle.dhcp6_pd.specs.Faults.{message_of}
 use Rattle.journal_lines.specs.declared.line.Journal.{Journal}
 use Rattle.locked_book.specs.declared.receipt.Receipt.{Receipt}
+use Rattle.server_book.specs.Manner.{plain}
 use Rattle.client_service.specs.declared.partner.Partner.{Partner}
 use Rattle.client_service.specs.declared.silence.Silence.{Silence}
 use Rattle.client_service.specs.declared.silence.Silence.TheVariants.{Refused}
@@ -27,14 +28,14 @@ pub record Tells (partner : Partner) (own datagram : List ℕ) (had has : List R
   pub now : ℕ
   pub line : Option ℕ
   pub spelled : Spells own datagram message
-  pub told : IsTold AnyJournal partner own message [] now had has octets line
+  pub told : IsTold AnyJournal partner own plain message [] now had has octets line
 
 -- the datagram is a message to the server, and this is why it has no answer
 pub record Lacks (partner : Partner) (own datagram : List ℕ) (had has : List Receipt) (why : Silence) : Type 0 where
   pub message : ClientMessage
   pub now : ℕ
   pub spelled : Spells own datagram message
-  pub silent : IsSilent AnyJournal partner own message [] now had has why
+  pub silent : IsSilent AnyJournal partner own plain message [] now had has why
 
 -- a pass that the book doesn't know ends the worker
 abbrev pub MayGoOn : Silence → Type 0

@@ -16,6 +16,7 @@ use client_service::{Answer, Partner, Shared, Silence, answer_to};
 use dhcp6_pd::{ClientMessage, decode};
 use lead_time::Reading;
 use locked_book::{BookName, Pass, ServeError, SharedBook};
+use server_book::Manner;
 use std::alloc::Global;
 use std::sync::Wait;
 
@@ -39,6 +40,7 @@ fn unanswered(why: Silence) -> Result<Heard, NodeError>
 {
     match why {
         Silence::NothingAsked => Ok(Heard::Unanswered(Silence::NothingAsked)),
+        Silence::Elsewhere => Ok(Heard::Unanswered(Silence::Elsewhere)),
         Silence::TooLong => Ok(Heard::Unanswered(Silence::TooLong)),
         Silence::Memory => Ok(Heard::Unanswered(Silence::Memory)),
         Silence::Refused(refusal) => refused(refusal),
@@ -85,11 +87,13 @@ impl<'a, N: BookName, R: Wait, C: Clock> Worker<'a, N, R, C> {
             rt: self.rt,
             book: self.shared,
         };
+        let manner = Manner::plain(self.alloc);
         match answer_to(
             self.alloc,
             &service,
             pass,
             self.own,
+            &manner,
             self.partner,
             &[],
             now,

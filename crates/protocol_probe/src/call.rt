@@ -37,10 +37,14 @@ pub enum Call {
     Answer,
     Fronts,
     Altered,
+    Wishes,
+    Information,
+    Informed,
+    Advertised,
 }
 
 /// Each call by its name.
-const NAMES: [(&[u8], Call); 34] = [
+const NAMES: [(&[u8], Call); 38] = [
     (b"cuts", Call::Cuts),
     (b"number", Call::Number),
     (b"octets", Call::Octets),
@@ -75,6 +79,10 @@ const NAMES: [(&[u8], Call); 34] = [
     (b"answer", Call::Answer),
     (b"fronts", Call::Fronts),
     (b"altered", Call::Altered),
+    (b"wishes", Call::Wishes),
+    (b"information", Call::Information),
+    (b"informed", Call::Informed),
+    (b"advertised", Call::Advertised),
 ];
 
 impl Call {

@@ -17,6 +17,7 @@ mod frames;
 mod messages;
 mod octets;
 mod prefixes;
+mod router;
 mod table;
 mod texts;
 mod times;
@@ -70,6 +71,10 @@ fn ask(
         Call::Answer => messages::answer(alloc, arguments, out),
         Call::Fronts => messages::fronts(alloc, arguments, out),
         Call::Altered => messages::altered(alloc, arguments, out),
+        Call::Wishes => router::wishes(alloc, arguments, out),
+        Call::Information => router::information(alloc, arguments, out),
+        Call::Informed => router::informed(alloc, arguments, out),
+        Call::Advertised => router::advertised(alloc, arguments, out),
     }
 }
 

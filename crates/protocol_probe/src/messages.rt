@@ -9,6 +9,7 @@ use dhcp6_pd::{
     RelayId, ServerKind, ServerMessage, decode, encode,
 };
 use line_words::{add_duid, add_number, add_word};
+use lists::Listed;
 use prefix_range::{Prefix, push_prefix};
 use std::alloc::{AllocError, Global};
 use text_fields::{push_number, push_octets};
@@ -52,7 +53,7 @@ fn place(error: &PdError) -> usize
     }
 }
 
-fn add_fault(out: &mut Vec<u8>, error: &PdError) -> Result<(), AllocError> {
+pub fn add_fault(out: &mut Vec<u8>, error: &PdError) -> Result<(), AllocError> {
     add_word(out, NAMES[place(error)])
 }
 
@@ -74,7 +75,7 @@ fn push_relay_id(out: &mut Vec<u8>, id: &RelayId) -> Result<(), AllocError> {
 
 /// `relay(HOPS,LINK,PEER,INTERFACE)`, with `-` for no interface identifier, and `,REMOTE` before the end where there
 /// is a remote identifier.
-fn add_relay(out: &mut Vec<u8>, relay: &Relay) -> Result<(), AllocError> {
+pub fn add_relay(out: &mut Vec<u8>, relay: &Relay) -> Result<(), AllocError> {
     add_word(out, b"relay(")?;
     push_number(out, u64::from(relay.hops))?;
     out.push(b',')?;
@@ -195,9 +196,11 @@ fn answer_to(
         relays: message.relays,
         kind,
         xid,
-        client,
+        client: Some(client),
         server: own,
+        options: Listed::new(Vec::new(alloc)),
         success,
+        no_addresses: Listed::new(Vec::new(alloc)),
         ias,
     })
 }

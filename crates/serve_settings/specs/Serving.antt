@@ -13,6 +13,8 @@ use Rattle.serve_settings.specs.declared.error.ServeSettingsError.{ServeSettings
 use Rattle.serve_settings.specs.declared.error.ServeSettingsError.TheVariants.{Node, Heartbeat, VolumeLines, VolumeHours}
 use Rattle.serve_settings.specs.declared.error.ServeSettingsError.TheVariants.{Alone, NoPartner, PartnerOfAlone, NoLinkKey, LinkKey, RenewFloor}
 use Rattle.serve_settings.specs.declared.error.ServeSettingsError.TheVariants.{IasPerMessage, UnitsPerClient, UnitsPerPort, ClientRate, BindToPort}
+use Rattle.serve_settings.specs.declared.error.ServeSettingsError.TheVariants.{Manner}
+use Rattle.manner_settings.specs.Keys.{IsMannerFault}
 use Rattle.client_limits.specs.declared.limits.Limits.{Limits as Quotas}
 use Rattle.client_limits.specs.declared.limits.PortRule.{PortRule}
 use Rattle.client_limits.specs.declared.limits.PortRule.TheVariants.{Free, Bound}
@@ -217,6 +219,10 @@ abbrev pub IsProtected : Members → Option LinkProtection → Type 0
 IsProtected members None = alone_in members ≡ Some true
 IsProtected members (Some protection) = (alone_in members ≡ Some false) × IsProtection members protection
 
+abbrev pub has_none : Option LinkProtection → Bool
+has_none None = true
+has_none (Some protection) = false
+
 -- ---- the document
 
 -- a server runs by what a document says
@@ -252,3 +258,5 @@ IsRefusal text NoPartner = (members : Members) × IsDocument text members × IsP
 IsRefusal text PartnerOfAlone = (members : Members) × IsDocument text members × IsPartnerFault members PartnerOfAlone
 IsRefusal text NoLinkKey = (members : Members) × IsDocument text members × IsKeyFault members NoLinkKey
 IsRefusal text LinkKey = (members : Members) × IsDocument text members × IsKeyFault members LinkKey
+IsRefusal text (Manner e) =
+    (members : Members) × IsDocument text members × ((is_alone : Bool) × IsMannerFault is_alone members e)

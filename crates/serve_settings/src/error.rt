@@ -1,5 +1,6 @@
 //! Why settings are refused.
 
+use manner_settings::MannerError;
 use server_settings::OpenError;
 use thiserror::Error;
 
@@ -48,6 +49,9 @@ pub enum ServeSettingsError {
     /// There is a partner, and no `link_key`.
     #[error("link_key: is missing: name a file with a key (openssl rand -hex 32 makes one, the same for both servers), or write link_key = \"none\" where another layer lets nobody but the partner reach the port")]
     NoLinkKey,
+    /// The keys of how the server answers have something else than they want, or a growth was refused.
+    #[error("{0}")]
+    Manner(MannerError),
     /// What is at `link_key` is no text, or an empty one.
     #[error("link_key: wants the name of a file, or \"none\"")]
     LinkKey,

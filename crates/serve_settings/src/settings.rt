@@ -1,18 +1,21 @@
 //! Settings out of a TOML document.
 
-ghost use Rattle.std.specs.Prelude.{◌⊎◌, IfOk, IfErr, MatchResult};
+ghost use Rattle.std.specs.Prelude.{◌≡◌, ◌⊎◌, IfOk, IfErr, MatchResult};
 ghost use Rattle.toml.specs.Data.{Members};
 ghost use Rattle.toml.specs.View.{table_view};
 ghost use Rattle.settings_text.specs.Document.{IsDocument};
 ghost use Rattle.serve_settings.specs.Serving.{IsServed, IsNodeRefusal, IsRefusal};
-ghost use Rattle.serve_settings.specs.Serving.{HasPartnerOrIsAlone, IsProtected, IsPartnerFault, IsKeyFault};
+ghost use Rattle.serve_settings.specs.Serving.{HasPartnerOrIsAlone, IsProtected, IsPartnerFault, IsKeyFault, has_none};
+ghost use Rattle.manner_settings.specs.Keys.{IsManner};
 
 use crate::error::ServeSettingsError;
 use crate::limits::{is_alone, renew_floor_in, upkeep_in};
 use crate::protection::{LinkProtection, protection_in};
 use crate::quotas::quotas_in;
 use client_limits::Limits;
+use manner_settings::manner_in;
 use node_threads::NodeSettings;
+use server_book::Manner;
 use server_settings::OpenError;
 use server_upkeep::Upkeep;
 use std::alloc::Global;
@@ -32,6 +35,9 @@ pub struct ServeSettings {
     pub quotas: Limits,
     /// What protects the link with the partner; none where there is no partner.
     pub protection: Option<LinkProtection>,
+    /// How it answers beside what its book says. Where no key is there, nothing is handed out beside prefixes, an IA_NA is
+    /// passed over, and a server that has a partner says nothing of a REBIND that it has no binding for.
+    pub manner: Manner,
 }
 
 /// What protects the link, where the server has a partner.
@@ -43,6 +49,16 @@ fn protection(alloc: Global, table: &Table) -> Result<Option<LinkProtection>, Se
         return Ok(None);
     }
     Ok(Some(protection_in(alloc, table)?))
+}
+
+/// Returns whether nothing protects a link: the server has none.
+fn has_none(protection: &Option<LinkProtection>) -> bool
+    ensures { result ≡ has_none protection.now }
+{
+    match protection {
+        Some(_) => false,
+        None => true,
+    }
 }
 
 /// The table of a TOML document.
@@ -61,10 +77,11 @@ impl ServeSettings {
     /// The settings that a TOML document names: those of a node, `link_key` where there is a `link`, and the others, which
     /// may each be left out. `Node` where no node runs by it, or a growth was refused; else `Alone`, `NoPartner` or `PartnerOfAlone`; else `NoLinkKey` or `LinkKey`; else `Heartbeat`,
     /// `VolumeLines` or `VolumeHours`; else `RenewFloor`; else `IasPerMessage`, `UnitsPerClient`, `UnitsPerPort`,
-    /// `ClientRate` or `BindToPort`.
+    /// `ClientRate` or `BindToPort`; else `Manner`.
     pub fn read(alloc: Global, text: &[u8]) -> Result<ServeSettings, ServeSettingsError>
         ensures served { IfOk result (λ s. (members : Members) × IsDocument text.now members
-            × IsServed members s.node.server s.upkeep s.renew_floor s.quotas s.protection) }
+            × IsServed members s.node.server s.upkeep s.renew_floor s.quotas s.protection
+            × IsManner (has_none s.protection) members s.manner) }
         ensures refused { IfErr result (IsRefusal text.now) }
     {
         let node = match NodeSettings::read(alloc, text) {
@@ -82,12 +99,17 @@ impl ServeSettings {
         let upkeep = upkeep_in(&table)?;
         let renew_floor = renew_floor_in(&table, node.server.life())?;
         let quotas = quotas_in(&table)?;
+        let manner = match manner_in(alloc, &table, has_none(&protection)) {
+            Ok(manner) => manner,
+            Err(error) => return Err(ServeSettingsError::Manner(error)),
+        };
         Ok(ServeSettings {
             node,
             upkeep,
             renew_floor,
             quotas,
             protection,
+            manner,
         })
     }
 }

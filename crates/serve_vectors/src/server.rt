@@ -9,6 +9,7 @@ use folder_start::{NotRolled, Pairing, StartFailure, Started, start};
 use lead_time::Reading;
 use link_talk::{Came, Handed, Stage};
 use order_book::Order;
+use server_book::Manner;
 use server_run::{Heard, HeldAnswer, RollFault, Running, Settled};
 use server_settings::Settings;
 use server_start::StartError;
@@ -76,7 +77,13 @@ fn heard<F: Folder + Drop, P: Drop>(
 where
     F::File: Drop,
 {
-    match running.hear(&mut Everything { alloc }, now, &request(client), peer) {
+    match running.hear(
+        &mut Everything { alloc },
+        &Manner::plain(alloc),
+        now,
+        &request(client),
+        peer,
+    ) {
         Heard::Answered(_) => Ok(running),
         other => Err(Fail::from(other)),
     }

@@ -1,7 +1,7 @@
 -- The IA_PDs of an answer, one by one.
 use Rattle.std.proofs.Common.{◌≡◌, ℕ, ◌+◌, ◌<◌, ◌≤◌, List, [], ◌∷◌, ◌++◌, length, drop, drop-cons, get_or, ap, ap₂, sym}
 use Rattle.std.proofs.Common.{◌∙◌, refl, Option, Some, None, add-one, append_assoc}
-use Rattle.std.specs.Prelude.{suc}
+use Rattle.std.specs.Prelude.{suc, Bool}
 use Rattle.std.proofs.lemmas.List.{drop_all, append-nil}
 use Rattle.dhcp6_pd.specs.declared.message.IaPd.{IaPd}
 use Rattle.dhcp6_pd.specs.declared.message.IaReply.{IaReply}
@@ -14,24 +14,24 @@ behind_reply : (iaid : ℕ) (o : Option IaReplyAnswer) (rs : List IaReply)
 behind_reply iaid None rs = refl
 behind_reply iaid (Some a) rs = refl
 
-pub reply_further : (ias : List IaPd) (answers : List IaAnswer) (i : ℕ) (ia : IaPd) (a : IaAnswer)
+pub reply_further : (hidden : Bool) (ias : List IaPd) (answers : List IaAnswer) (i : ℕ) (ia : IaPd) (a : IaAnswer)
     (done : List IaReply) (all : List IaReply) → i < length ias → i < length answers
-    → ia ≡ get_or ias i ia → a ≡ get_or answers i a → done ++ replies_of (drop i ias) (drop i answers) ≡ all
-    → (done ++ and_reply ia.iaid (written_of a) []) ++ replies_of (drop (i + 1) ias) (drop (i + 1) answers) ≡ all
-reply_further ias answers i ia a done all lt la is at so =
+    → ia ≡ get_or ias i ia → a ≡ get_or answers i a → done ++ replies_of hidden (drop i ias) (drop i answers) ≡ all
+    → (done ++ and_reply ia.iaid (written_of hidden a) []) ++ replies_of hidden (drop (i + 1) ias) (drop (i + 1) answers) ≡ all
+reply_further hidden ias answers i ia a done all lt la is at so =
     let one : drop i ias ≡ ia ∷ drop (i + 1) ias =
     rw (add-one, drop-cons ias i ia) (ap (λ (x : IaPd). x ∷ drop (suc i) ias) (sym is)) in
     let two : drop i answers ≡ a ∷ drop (i + 1) answers =
     rw (add-one, drop-cons answers i a) (ap (λ (x : IaAnswer). x ∷ drop (suc i) answers) (sym at)) in
-    let rest = replies_of (drop (i + 1) ias) (drop (i + 1) answers) in
-    let first : replies_of (drop i ias) (drop i answers) ≡ and_reply ia.iaid (written_of a) [] ++ rest =
-    ap₂ replies_of one two ∙ behind_reply ia.iaid (written_of a) rest in
-    append_assoc done (and_reply ia.iaid (written_of a) []) rest
+    let rest = replies_of hidden (drop (i + 1) ias) (drop (i + 1) answers) in
+    let first : replies_of hidden (drop i ias) (drop i answers) ≡ and_reply ia.iaid (written_of hidden a) [] ++ rest =
+    ap₂ (replies_of hidden) one two ∙ behind_reply ia.iaid (written_of hidden a) rest in
+    append_assoc done (and_reply ia.iaid (written_of hidden a) []) rest
     ∙ (ap (λ (rs : List IaReply). done ++ rs) (sym first) ∙ so)
 
-pub replies_end : (ias : List IaPd) (answers : List IaAnswer) (i : ℕ) (done all : List IaReply) → length ias ≤ i
-    → done ++ replies_of (drop i ias) (drop i answers) ≡ all → done ≡ all
-replies_end ias answers i done all le so =
-    let none : replies_of (drop i ias) (drop i answers) ≡ [] =
-    ap (λ (xs : List IaPd). replies_of xs (drop i answers)) (drop_all i ias le) in
+pub replies_end : (hidden : Bool) (ias : List IaPd) (answers : List IaAnswer) (i : ℕ) (done all : List IaReply) → length ias ≤ i
+    → done ++ replies_of hidden (drop i ias) (drop i answers) ≡ all → done ≡ all
+replies_end hidden ias answers i done all le so =
+    let none : replies_of hidden (drop i ias) (drop i answers) ≡ [] =
+    ap (λ (xs : List IaPd). replies_of hidden xs (drop i answers)) (drop_all i ias le) in
     sym (append-nil done) ∙ (ap (λ (rs : List IaReply). done ++ rs) (sym none) ∙ so)

@@ -1,1 +1,2 @@
+pub mod Manner
 pub mod Messages

@@ -1,5 +1,5 @@
 -- What a client's message orders, and what it is answered (RFC 8415, section 18.3).
-use Rattle.std.specs.Prelude.{ℕ, Bool, true, false, List, [], ◌∷◌, Option, Some, None, option_map, slice_get}
+use Rattle.std.specs.Prelude.{ℕ, ◌&&◌, Bool, true, false, if◌then◌else◌, List, [], ◌∷◌, Option, Some, None, option_map, slice_get}
 use Rattle.dhcp6_pd.specs.declared.message.ClientKind.{ClientKind}
 use Rattle.dhcp6_pd.specs.declared.message.ClientKind.TheVariants.{Solicit, Request as RequestKind, Renew as RenewKind}
 use Rattle.dhcp6_pd.specs.declared.message.ClientKind.TheVariants.{Rebind, Release as ReleaseKind}
@@ -12,6 +12,11 @@ use Rattle.dhcp6_pd.specs.declared.message.IaReply.{IaReply}
 use Rattle.dhcp6_pd.specs.declared.message.IaReplyAnswer.{IaReplyAnswer}
 use Rattle.dhcp6_pd.specs.declared.message.IaReplyAnswer.TheVariants.{Given as GivenReply, NoPrefix as NoPrefixReply}
 use Rattle.dhcp6_pd.specs.declared.message.IaReplyAnswer.TheVariants.{NoBinding as NoBindingReply}
+use Rattle.dhcp6_pd.specs.declared.message.InformationRequest.{InformationRequest}
+use Rattle.router_options.specs.declared.choosing.Occasion.TheVariants.{Information}
+use Rattle.router_options.specs.Choosing.{chosen}
+use Rattle.server_book.specs.declared.manner.Manner.{Manner}
+use Rattle.server_book.specs.Manner.{hides, occasion_of, refused_addresses}
 use Rattle.order_book.specs.declared.order.Asked.{Asked}
 use Rattle.order_book.specs.declared.order.Order.{Order}
 use Rattle.order_book.specs.declared.order.Order.TheVariants.{Request, Renew, Release}
@@ -33,22 +38,23 @@ order_by ReleaseKind a = Release a
 abbrev pub order_of : ClientMessage → ℕ → Option Order
 order_of m i = option_map (λ ia. order_by m.kind (asked_in m.client ia)) (slice_get m.ias i)
 
--- what is written of an answer: nothing of an IA_PD that was released
-abbrev pub written_of : IaAnswer → Option IaReplyAnswer
-written_of (Given prefix valid) = Some (GivenReply prefix valid)
-written_of NoPrefix = Some NoPrefixReply
-written_of NoBinding = Some NoBindingReply
-written_of Released = None
+-- what is written of an answer: nothing of an IA_PD that was released, nor of one without a binding that is hidden
+abbrev pub written_of : Bool → IaAnswer → Option IaReplyAnswer
+written_of hidden (Given prefix valid) = Some (GivenReply prefix valid)
+written_of hidden NoPrefix = Some NoPrefixReply
+written_of hidden NoBinding = if hidden then None else Some NoBindingReply
+written_of hidden Released = None
 
 abbrev pub and_reply : ℕ → Option IaReplyAnswer → List IaReply → List IaReply
 and_reply iaid None replies = replies
 and_reply iaid (Some answer) replies = record { iaid = iaid; answer = answer } ∷ replies
 
 -- the IA_PDs of the answer, in the message's order
-abbrev pub replies_of : List IaPd → List IaAnswer → List IaReply
-replies_of [] answers = []
-replies_of (ia ∷ ias) [] = []
-replies_of (ia ∷ ias) (answer ∷ answers) = and_reply ia.iaid (written_of answer) (replies_of ias answers)
+abbrev pub replies_of : Bool → List IaPd → List IaAnswer → List IaReply
+replies_of hidden [] answers = []
+replies_of hidden (ia ∷ ias) [] = []
+replies_of hidden (ia ∷ ias) (answer ∷ answers) =
+    and_reply ia.iaid (written_of hidden answer) (replies_of hidden ias answers)
 
 abbrev pub kind_of : ClientKind → ServerKind
 kind_of Solicit = Advertise
@@ -59,14 +65,41 @@ is_release ReleaseKind = true
 is_release _ = false
 
 -- the answer goes back by the same relays; that of a RELEASE says Success
-abbrev pub answer_of : ClientMessage → List ℕ → List IaAnswer → ServerMessage
-answer_of m own answers =
+abbrev pub answer_of : ClientMessage → List ℕ → Manner → List IaAnswer → ServerMessage
+answer_of m own manner answers =
     record {
       relays = m.relays;
       kind = kind_of m.kind;
       xid = m.xid;
-      client = m.client;
+      client = Some m.client;
       server = own;
+      options = chosen (occasion_of m.kind) m.requested manner.options;
       success = is_release m.kind;
-      ias = replies_of m.ias answers;
+      no_addresses = refused_addresses manner m;
+      ias = replies_of (hides manner m.kind) m.ias answers;
+    }
+
+abbrev pub has_none : List IaReply → Bool
+has_none [] = true
+has_none (reply ∷ replies) = false
+
+-- nothing is known of a message whose unknown IA_PDs are hidden: the answer has none
+abbrev pub is_elsewhere : ClientMessage → Manner → List IaAnswer → Bool
+is_elsewhere m manner answers = hides manner m.kind && has_none (replies_of (hides manner m.kind) m.ias answers)
+
+-- ---- requests for options alone (section 18.3.6)
+
+-- what was asked for, and nothing of prefixes
+abbrev pub information_answer : InformationRequest → List ℕ → Manner → ServerMessage
+information_answer i own manner =
+    record {
+      relays = i.relays;
+      kind = ReplyKind;
+      xid = i.xid;
+      client = i.client;
+      server = own;
+      options = chosen Information i.requested manner.options;
+      success = false;
+      no_addresses = [];
+      ias = [];
     }

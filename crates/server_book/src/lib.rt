@@ -1,7 +1,8 @@
 //! A server's book as its clients use it: what a message of theirs orders, and the message that answers it.
 //!
 //! `order_of` takes the order of each IA_PD out of a client's message, and `answer_of` makes the message that answers
-//! it, of what became of each (specs/Messages). The book that does what is ordered is that of `order_book`, its
+//! it in a server's [`Manner`], of what became of each (specs/Messages, specs/Manner); `information_answer` answers a
+//! request for options alone. The book that does what is ordered is that of `order_book`, its
 //! settings are those of `server_settings` and `settings_text`: this crate hands their items on, so that who serves
 //! clients names one crate.
 //!
@@ -11,9 +12,11 @@
 //! ```
 #![tactic(auto)]
 
+mod manner;
 mod messages;
 
-pub use messages::{IaAnswer, answer_of, order_of};
+pub use manner::{AddressRule, Manner, RebindUnknown};
+pub use messages::{IaAnswer, answer_of, information_answer, order_of};
 pub use order_book::{Asked, Book, BookError, Order, Reply, answer_is_one, opening_is_legal};
 pub use server_settings::{OpenError, Settings};
 pub use settings_text::read_settings;

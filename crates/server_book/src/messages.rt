@@ -2,16 +2,18 @@
 
 ghost use Rattle.std.specs.Prelude.{◌≡◌, ◌≤◌, ◌++◌, [], length, IfOk, IfErr, OnOk};
 ghost use Rattle.server_book.specs.Messages.{asked_in, order_by, order_of, written_of, and_reply, replies_of};
-ghost use Rattle.server_book.specs.Messages.{kind_of, is_release, answer_of};
+ghost use Rattle.server_book.specs.Messages.{kind_of, is_release, answer_of, information_answer};
 
+use crate::manner::{Manner, occasion_of, refused_addresses};
 use client_id::{Duid, Iaid};
 use dhcp6_pd::{
-    ClientKind, ClientMessage, IaPd, IaReply, IaReplyAnswer, Relay, RelayId, RelayList, ServerKind,
-    ServerMessage,
+    ClientKind, ClientMessage, IaPd, IaReply, IaReplyAnswer, InformationRequest, Relay, RelayId,
+    RelayList, ServerKind, ServerMessage,
 };
 use lists::Listed;
 use order_book::{Asked, BookError, Order};
 use prefix_range::Prefix;
+use router_options::{Occasion, chosen};
 use std::alloc::{AllocError, Global};
 
 /// The outcome of one IA_PD of a client's message.
@@ -55,8 +57,8 @@ pub fn order_of(message: &ClientMessage, place: usize) -> Option<Order>
     }
 }
 
-fn written_of(answer: &IaAnswer) -> Option<IaReplyAnswer>
-    ensures { result ≡ written_of answer.now }
+fn written_of(hidden: bool, answer: &IaAnswer) -> Option<IaReplyAnswer>
+    ensures { result ≡ written_of hidden answer.now }
 {
     match answer {
         IaAnswer::Given { prefix, valid } => Some(IaReplyAnswer::Given {
@@ -64,28 +66,45 @@ fn written_of(answer: &IaAnswer) -> Option<IaReplyAnswer>
             valid: *valid,
         }),
         IaAnswer::NoPrefix => Some(IaReplyAnswer::NoPrefix),
-        IaAnswer::NoBinding => Some(IaReplyAnswer::NoBinding),
+        IaAnswer::NoBinding => {
+            if hidden {
+                None
+            } else {
+                Some(IaReplyAnswer::NoBinding)
+            }
+        }
         IaAnswer::Released => None,
     }
 }
 
 /// Adds what is written of an answer.
-fn add_reply(replies: &mut Vec<IaReply>, iaid: Iaid, answer: &IaAnswer) -> Result<(), AllocError>
-    ensures { OnOk result (replies.new.items ≡ replies.old.items ++ and_reply iaid (written_of answer.now) []) }
+fn add_reply(
+    replies: &mut Vec<IaReply>,
+    hidden: bool,
+    iaid: Iaid,
+    answer: &IaAnswer,
+) -> Result<(), AllocError>
+    ensures { OnOk result (replies.new.items
+        ≡ replies.old.items ++ and_reply iaid (written_of hidden answer.now) []) }
 {
-    match written_of(answer) {
+    match written_of(hidden, answer) {
         Some(answer) => replies.extend_from_slice(&[IaReply { iaid, answer }]),
         None => Ok(()),
     }
 }
 
-fn replies_of(alloc: Global, ias: &[IaPd], answers: &[IaAnswer]) -> Result<Vec<IaReply>, AllocError>
+fn replies_of(
+    alloc: Global,
+    hidden: bool,
+    ias: &[IaPd],
+    answers: &[IaAnswer],
+) -> Result<Vec<IaReply>, AllocError>
     requires { length answers.now ≡ length ias.now }
-    ensures { IfOk result (λ v. v.items ≡ replies_of ias.now answers.now) }
+    ensures { IfOk result (λ v. v.items ≡ replies_of hidden ias.now answers.now) }
 {
     let mut replies = Vec::new(alloc);
     for (place, ia) in ias.iter().enumerate() {
-        add_reply(&mut replies, ia.iaid, &answers[place])?;
+        add_reply(&mut replies, hidden, ia.iaid, &answers[place])?;
     }
     Ok(replies)
 }
@@ -136,28 +155,73 @@ fn kind_of(kind: ClientKind) -> ServerKind
     }
 }
 
-/// The message of the server `own` that answers a client's message with one answer for each of its IA_PDs, in their
-/// order. It refuses for want of memory alone.
+/// The message of the server `own` that answers a client's message in its manner, with one answer for each of its
+/// IA_PDs, in their order. It refuses for want of memory alone.
 pub fn answer_of(
     alloc: Global,
     message: &ClientMessage,
     own: &Duid,
+    manner: &Manner,
     answers: &[IaAnswer],
 ) -> Result<ServerMessage, BookError>
     requires some { 1 ≤ length message.now.ias }
     requires each { length answers.now ≡ length message.now.ias }
-    ensures answered { IfOk result (λ s. s ≡ answer_of message.now own.now answers.now) }
+    ensures answered { IfOk result (λ s. s ≡ answer_of message.now own.now manner.now answers.now) }
     ensures refused { IfErr result (λ e. e ≡ BookError.Memory) }
 {
     let relays = copy_of_relays(alloc, message.relays.as_slice())?;
-    let ias = replies_of(alloc, message.ias.as_slice(), answers)?;
+    let options = chosen(
+        alloc,
+        manner.options.as_slice(),
+        occasion_of(message.kind),
+        message.requested.as_slice(),
+    )?;
+    let no_addresses = refused_addresses(alloc, manner, message)?;
+    let ias = replies_of(
+        alloc,
+        manner.hides(message.kind),
+        message.ias.as_slice(),
+        answers,
+    )?;
     Ok(ServerMessage {
         relays,
         kind: kind_of(message.kind),
         xid: message.xid,
-        client: message.client,
+        client: Some(message.client),
         server: *own,
+        options,
         success: matches!(&message.kind, ClientKind::Release),
+        no_addresses,
         ias: Listed::new(ias),
+    })
+}
+
+/// The message of the server `own` that answers a request for options alone in its manner. It refuses for want of memory
+/// alone.
+pub fn information_answer(
+    alloc: Global,
+    request: InformationRequest,
+    own: &Duid,
+    manner: &Manner,
+) -> Result<ServerMessage, BookError>
+    ensures answered { IfOk result (λ s. s ≡ information_answer request own.now manner.now) }
+    ensures refused { IfErr result (λ e. e ≡ BookError.Memory) }
+{
+    let options = chosen(
+        alloc,
+        manner.options.as_slice(),
+        Occasion::Information,
+        request.requested.as_slice(),
+    )?;
+    Ok(ServerMessage {
+        relays: request.relays,
+        kind: ServerKind::Reply,
+        xid: request.xid,
+        client: request.client,
+        server: *own,
+        options,
+        success: false,
+        no_addresses: Listed::new(Vec::new(alloc)),
+        ias: Listed::new(Vec::new(alloc)),
     })
 }

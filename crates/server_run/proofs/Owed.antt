@@ -1,5 +1,5 @@
 -- An answer that is owed stays owed while the book grows.
-use Rattle.std.proofs.Common.{◌≡◌, ℕ, List, [], ◌∷◌, ◌++◌, sym, ◌∙◌, ap, subst, append_assoc, append-nil}
+use Rattle.std.proofs.Common.{◌≡◌, ℕ, List, [], ◌∷◌, ◌++◌, sym, ◌∙◌, ap, subst, append_assoc, append-nil, inl, inr}
 use Rattle.std.specs.List.{AllByRecursion}
 use Rattle.admission.specs.declared.permit.Permit.{Permit}
 use Rattle.dhcp6_pd.specs.declared.message.ClientMessage.{ClientMessage}
@@ -10,12 +10,14 @@ use Rattle.server_run.specs.declared.leaving.HeldAnswer.{HeldAnswer}
 use Rattle.served_book.specs.Served.{ServedState, receipts_in}
 use Rattle.server_run.specs.Live.{LiveState, Grows}
 use Rattle.standing_lease.specs.declared.terms.RenewTerms.{RenewTerms}
-use Rattle.server_run.specs.Owing.{Tells, IsOwed}
+use Rattle.server_book.specs.declared.manner.Manner.{Manner}
+use Rattle.server_run.specs.Owing.{Tells, OwesLease, IsOwed}
 
 pub stays_owed : {P : Type 0} (own : List ℕ) (t : RenewTerms) (receipts more all : List Receipt) (a : AnswerTo P)
     → all ≡ receipts ++ more → IsOwed own t receipts a → IsOwed own t all a
-stays_owed own t receipts more all a grows o = record {
+stays_owed own t receipts more all a grows (inl o) = inl (record {
   partner = o.partner;
+  manner = o.manner;
   message = o.message;
   permits = o.permits;
   read = o.read;
@@ -24,7 +26,8 @@ stays_owed own t receipts more all a grows o = record {
   later = o.later ++ more;
   told = o.told;
   first = grows ∙ ap (λ (rs : List Receipt). rs ++ more) o.first ∙ append_assoc o.has o.later more;
-}
+})
+stays_owed own t receipts more all a grows (inr informs) = inr informs
 
 -- all that are owed stay so
 pub all_owed : {P : Type 0} (own : List ℕ) (t : RenewTerms) (receipts more all : List Receipt) (held : List (HeldAnswer P))
@@ -43,11 +46,12 @@ one_more_owed own t receipts [] h owed one = (one, tt)
 one_more_owed own t receipts (x ∷ held) h owed one = (owed.0, one_more_owed own t receipts held h owed.1 one)
 
 -- an answer that tells what was just added is owed
-pub just_owed : {P : Type 0} (own : List ℕ) (t : RenewTerms) (partner : Partner) (m : ClientMessage)
+pub just_owed : {P : Type 0} (own : List ℕ) (t : RenewTerms) (partner : Partner) (manner : Manner) (m : ClientMessage)
     (permits : List Permit) (read : ℕ) (had has : List Receipt) (a : AnswerTo P)
-    → Tells partner t own m permits read had has a.octets a.line → IsOwed own t has a
-just_owed own t partner m permits read had has a told = record {
+    → Tells partner t own manner m permits read had has a.octets a.line → IsOwed own t has a
+just_owed own t partner manner m permits read had has a told = inl (record {
   partner = partner;
+  manner = manner;
   message = m;
   permits = permits;
   read = read;
@@ -56,7 +60,7 @@ just_owed own t partner m permits read had has a told = record {
   later = [];
   told = told;
   first = sym (append-nil has);
-}
+})
 
 -- where nothing was changed, no receipt was added
 pub same_grows : (old new : LiveState) → new ≡ old → (added : List Receipt) × Grows old new added

@@ -13,6 +13,12 @@ pub enum Heard {
     /// It is a message, and has no answer.
     #[error("it has no answer: {0}")]
     Unanswered(Silence),
+    /// It is a request for options alone, and its answer is held back.
+    #[error("its answer is held back")]
+    Informed,
+    /// It is a request for options alone, and has no answer.
+    #[error("it has no answer: {0}")]
+    Uninformed(Silence),
     /// It is a message, and its client sends too many: nothing was done.
     #[error("its client sends too many messages")]
     TooMany,

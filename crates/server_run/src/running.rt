@@ -1,6 +1,6 @@
 //! A server that runs.
 
-ghost use Rattle.std.specs.Prelude.{◌≡◌, ◌+◌, ◌<◌, ◌∷◌, [], ◌++◌, List, length, IfOk, IfErr, OnErr, None, vec_len};
+ghost use Rattle.std.specs.Prelude.{◌≡◌, ◌+◌, ◌<◌, ◌∷◌, [], ◌++◌, List, length, IfOk, IfErr, OnErr, Err, None, vec_len};
 ghost use Rattle.std.specs.Prelude.{vec_capacity};
 ghost use Rattle.journal_file.specs.Later.{IsLater, LeavesFirst};
 ghost use Rattle.open_volume.specs.Spelling.{text_lines};
@@ -13,19 +13,23 @@ ghost use Rattle.std.specs.List.{AllByRecursion};
 ghost use Rattle.served_book.specs.Served.{receipts_in, IsApplied};
 ghost use Rattle.server_run.specs.Owing.{IsOwed};
 ghost use Rattle.server_run.specs.Saying.{AreBacked, handed_of};
-ghost use Rattle.server_run.specs.Hearing.{IsHeard, partner_of};
+ghost use Rattle.server_run.specs.Hearing.{IsHeard, IsInformed, partner_of};
+ghost use Rattle.dhcp6_pd.specs.Answers.{Gives};
+ghost use Rattle.dhcp6_pd.specs.Faults.{message_of};
+ghost use Rattle.dhcp6_pd.specs.declared.message.ClientMessage.{ClientMessage as MessageValue};
 
 use crate::heard::Heard;
 use crate::leaving::{HeldAnswer, Leaving};
 use crate::live_volume::{LiveVolume, Unsettled};
 use admission::{Admission, Unheard};
 use client_id::Duid;
-use client_service::{Partner, Silence};
-use dhcp6_pd::decode;
+use client_service::{Partner, Silence, answer_information};
+use dhcp6_pd::{PdError, PdFault, decode, decode_information};
 use lead_time::Reading;
 use link_talk::{Handed, Talk};
 use locked_book::{Receipt, ServeError};
 use order_book::{Book, Order};
+use server_book::Manner;
 use standing_lease::RenewTerms;
 use std::alloc::Global;
 use std::marker::Model;
@@ -134,22 +138,23 @@ where
 
     /// Hears a datagram that came from a peer at a reading. Where it is a client's message to this server, its orders
     /// are done, those that the admission lets be, or it is told again what it has; the answer is held back until the
-    /// next `settle`.
+    /// next `settle`. Where it is a request for options alone, and the server's manner has some, so is the answer to that.
     pub fn hear<A: Admission>(
         &mut self,
         admission: &mut A,
+        manner: &Manner,
         read: Reading,
         datagram: &[u8],
         peer: P,
     ) -> Heard
-        ensures heard { IsHeard (A.lets admission.old) self.old.own self.old.terms peer datagram.now read
-            self.old.volume self.new.volume self.old.held self.new.held result }
+        ensures heard { IsHeard (A.lets admission.old) self.old.own manner.now self.old.terms peer datagram.now
+            read self.old.volume self.new.volume self.old.held self.new.held result }
         ensures grows { (added : List ReceiptValue) × Grows self.old.volume self.new.volume added }
         ensures rest { self.new ≡ record self.old { volume = self.new.volume; held = self.new.held } }
     {
         let message = match decode(self.alloc, datagram, &self.own) {
             Ok(message) => message,
-            Err(error) => return Heard::Unread(error),
+            Err(error) => return self.inform(manner, read, datagram, peer, error),
         };
         match self.held.reserve(1) {
             Ok(()) => {}
@@ -164,6 +169,7 @@ where
         let said = self.volume.answer(
             self.alloc,
             &self.own,
+            manner,
             partner,
             &self.terms,
             &permits,
@@ -178,6 +184,41 @@ where
                 Heard::Answered(message.kind)
             }
             Err(why) => Heard::Unanswered(why),
+        }
+    }
+
+    /// Hears a datagram that is no message about prefixes, for this error: a request for options alone is answered where
+    /// the server's manner has some.
+    fn inform(
+        &mut self,
+        manner: &Manner,
+        read: Reading,
+        datagram: &[u8],
+        peer: P,
+        error: PdError,
+    ) -> Heard
+        requires { Gives (λ (m : MessageValue). m) (Err error) (message_of self.old.own datagram.now) }
+        ensures informed { IsInformed self.old.own manner.now peer datagram.now read self.old.held self.new.held result }
+        ensures rest { self.new ≡ record self.old { held = self.new.held } }
+    {
+        if error != PdError::Fault(PdFault::Ignored) || !manner.has_options() {
+            return Heard::Unread(error);
+        }
+        let request = match decode_information(self.alloc, datagram, &self.own) {
+            Ok(request) => request,
+            Err(error) => return Heard::Unread(error),
+        };
+        match self.held.reserve(1) {
+            Ok(()) => {}
+            Err(_) => return Heard::Uninformed(Silence::Memory),
+        }
+        match answer_information(self.alloc, &self.own, manner, request, peer) {
+            Ok(answer) => {
+                let informs = HeldAnswer { answer, read };
+                hold(&mut self.held, informs);
+                Heard::Informed
+            }
+            Err(why) => Heard::Uninformed(why),
         }
     }
 

@@ -4,7 +4,8 @@ use Rattle.settings_advice.specs.declared.key.Key.{Key}
 use Rattle.settings_advice.specs.declared.key.Key.TheVariants.{Role, Duid, SkewMs, Mclt, Life, TransitMs, Listen, Link}
 use Rattle.settings_advice.specs.declared.key.Key.TheVariants.{IasPerMessage, UnitsPerClient, UnitsPerPort, ClientRate, BindToPort}
 use Rattle.settings_advice.specs.declared.key.Key.TheVariants.{LinkKey, Workers, Heartbeat, VolumeLines, VolumeHours, RenewFloor, Alone}
-use Rattle.settings_advice.specs.declared.key.Key.TheVariants.{Pool, Prefix, Unit}
+use Rattle.settings_advice.specs.declared.key.Key.TheVariants.{Dns, Search, Sntp, InformationRefresh, Preference, Unicast}
+use Rattle.settings_advice.specs.declared.key.Key.TheVariants.{RebindUnknown, IaNa, Pool, Prefix, Unit}
 
 abbrev pub key_name : Key → List ℕ
 key_name Role = codes "role"
@@ -26,6 +27,14 @@ key_name UnitsPerClient = codes "units_per_client"
 key_name UnitsPerPort = codes "units_per_port"
 key_name ClientRate = codes "client_rate"
 key_name BindToPort = codes "bind_to_port"
+key_name Dns = codes "dns"
+key_name Search = codes "search"
+key_name Sntp = codes "sntp"
+key_name InformationRefresh = codes "information_refresh"
+key_name Preference = codes "preference"
+key_name Unicast = codes "unicast"
+key_name RebindUnknown = codes "rebind_unknown"
+key_name IaNa = codes "ia_na"
 key_name Alone = codes "alone"
 key_name Pool = codes "pool"
 key_name Prefix = codes "prefix"

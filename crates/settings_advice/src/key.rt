@@ -28,6 +28,14 @@ pub enum Key {
     UnitsPerPort,
     ClientRate,
     BindToPort,
+    Dns,
+    Search,
+    Sntp,
+    InformationRefresh,
+    Preference,
+    Unicast,
+    RebindUnknown,
+    IaNa,
     Alone,
     Pool,
     /// Of a pool.
@@ -36,9 +44,9 @@ pub enum Key {
     Unit,
 }
 
-/// The keys of a node's settings. `link_key`, `alone`, and those from `heartbeat` to `bind_to_port` are read by a server
+/// The keys of a node's settings. `link_key`, `alone`, and those from `heartbeat` to `ia_na` are read by a server
 /// that goes on for years, and passed over by all others: no value there is a reason to refuse settings.
-pub const KEYS: [Key; 21] = [
+pub const KEYS: [Key; 29] = [
     Key::Role,
     Key::Duid,
     Key::SkewMs,
@@ -58,6 +66,14 @@ pub const KEYS: [Key; 21] = [
     Key::UnitsPerPort,
     Key::ClientRate,
     Key::BindToPort,
+    Key::Dns,
+    Key::Search,
+    Key::Sntp,
+    Key::InformationRefresh,
+    Key::Preference,
+    Key::Unicast,
+    Key::RebindUnknown,
+    Key::IaNa,
     Key::Alone,
     Key::Pool,
 ];
@@ -90,6 +106,14 @@ impl Key {
             Key::UnitsPerPort => "units_per_port",
             Key::ClientRate => "client_rate",
             Key::BindToPort => "bind_to_port",
+            Key::Dns => "dns",
+            Key::Search => "search",
+            Key::Sntp => "sntp",
+            Key::InformationRefresh => "information_refresh",
+            Key::Preference => "preference",
+            Key::Unicast => "unicast",
+            Key::RebindUnknown => "rebind_unknown",
+            Key::IaNa => "ia_na",
             Key::Alone => "alone",
             Key::Pool => "pool",
             Key::Prefix => "prefix",

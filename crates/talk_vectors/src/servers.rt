@@ -5,7 +5,7 @@ use dhcp6_pd::decode;
 use failover_message::encode;
 use lead_time::Reading;
 use link_talk::{Alone, Came, OwnBook, Talk};
-use server_book::{Book, Order, Settings, read_settings};
+use server_book::{Book, Manner, Order, Settings, read_settings};
 use std::alloc::Global;
 use std::test::Fail;
 
@@ -63,6 +63,7 @@ impl Server {
             &client_service::Alone,
             book,
             own,
+            &Manner::plain(alloc),
             Partner::Up,
             &[],
             now,

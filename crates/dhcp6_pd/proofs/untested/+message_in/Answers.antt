@@ -2,7 +2,7 @@ use Rattle.std.proofs.Common.{ℕ, ◌-◌, List, Option, Result, sym, ap, subst
 use Rattle.std.specs.Borrow.{Bor}
 use Rattle.std.proofs.lemmas.Result.{err_from_is_err_and}
 use Rattle.dhcp6_pd.specs.declared.error.PdFault.{PdFault}
-use Rattle.dhcp6_pd.specs.declared.message.ClientKind.{ClientKind}
+use Rattle.dhcp6_pd.specs.declared.reads.MessageKind.{MessageKind}
 use Rattle.dhcp6_pd.specs.declared.untested.UntestedMessage.{UntestedMessage}
 use Rattle.dhcp6_pd.specs.declared.message.Relay.{Relay}
 use Rattle.dhcp6_pd.specs.Rows.{row_of}
@@ -16,52 +16,52 @@ use Rattle.dhcp6_pd.proofs.untested.+message_in.Goals as goal
 
 pub returns-in-Some-kind_of : goal.returns-in-Some-kind_of
 returns-in-Some-kind_of t c =
-    let other = type_other c.args.left c.args.octets.now c.in-Some.first.now c.in-Some.ensures.value
+    let other = type_other c.args.reads c.args.left c.args.octets.now c.in-Some.first.now c.in-Some.ensures.value
     c.if-first-ne-RELAY_FORWARD.true in
-    let kind = ap (λ (k : Option ClientKind). or_ignored k c.args.octets.now) (sym c.in-Some-kind_of.ensures) in
+    let kind = ap (λ (k : Option MessageKind). or_ignored k c.args.octets.now) (sym c.in-Some-kind_of.ensures) in
     subst (λ (r : Result UntestedMessage PdFault). Gives (λ u. u) c.client_in.result r)
     (sym (other ∙ kind)) c.client_in.ensures
 
 pub returns-in_err-inner : goal.returns-in_err-inner
 returns-in_err-inner t c =
-    let here = type_relay _ _ _ _ _ c.in-Some.ensures.value c.if-first-ne-RELAY_FORWARD.false c.if-left-eq0.false
+    let here = type_relay c.args.reads _ _ _ _ _ c.in-Some.ensures.value c.if-first-ne-RELAY_FORWARD.false c.if-left-eq0.false
     c.if-octets-lt34.false c.none-kept.ensures c.new-options.ensures in
     let p = err_from_is_err_and c.from_residual.result c.from_residual.ensures.1 in
     let found = fails_before {X = Option (Bor (List ℕ))}
     (λ f. (c.to_message.new.self, found_in (row_of c.to_message.new.options.rest.now) f))
-    (message_in (c.args.left - 1)) c.args.octets.now _ _ c.in_err-inner.ensures in
+    (message_in c.args.reads (c.args.left - 1)) c.args.octets.now _ _ c.in_err-inner.ensures in
     subst (λ (r : Result UntestedMessage PdFault). Gives (λ u. u) c.from_residual.result r) (sym here)
     (rw (p.1, p.2) found)
 
 pub returns-in_default-2 : goal.returns-in_default-2
 returns-in_default-2 t c =
-    let here = type_relay _ _ _ _ _ c.in-Some.ensures.value c.if-first-ne-RELAY_FORWARD.false c.if-left-eq0.false
+    let here = type_relay c.args.reads _ _ _ _ _ c.in-Some.ensures.value c.if-first-ne-RELAY_FORWARD.false c.if-left-eq0.false
     c.if-octets-lt34.false c.none-kept.ensures c.new-options.ensures in
     here ∙ found_none _ _ _ _ _ _ c.in_ok-inner.ensures c.in_default-2.is
 
 pub returns-in_err-message : goal.returns-in_err-message
 returns-in_err-message t c =
-    let here = type_relay _ _ _ _ _ c.in-Some.ensures.value c.if-first-ne-RELAY_FORWARD.false c.if-left-eq0.false
+    let here = type_relay c.args.reads _ _ _ _ _ c.in-Some.ensures.value c.if-first-ne-RELAY_FORWARD.false c.if-left-eq0.false
     c.if-octets-lt34.false c.none-kept.ensures c.new-options.ensures in
     let p = err_from_is_err_and c.from_residual-in_err-message.result c.from_residual-in_err-message.ensures.1 in
-    let found = fails_inside (message_in (c.args.left - 1)) c.args.octets.now _ _ _ _ _
+    let found = fails_inside (message_in c.args.reads (c.args.left - 1)) c.args.octets.now _ _ _ _ _
     (found_some _ _ _ _ _ c.in_ok-inner.ensures c.in-Some-2.is) c.in_err-message.ensures in
     subst (λ (r : Result UntestedMessage PdFault). Gives (λ u. u) c.from_residual-in_err-message.result r) (sym here)
     (rw (p.1, p.2) found)
 
 pub returns-in_err-keep_all : goal.returns-in_err-keep_all
 returns-in_err-keep_all t c =
-    let here = type_relay _ _ _ _ _ c.in-Some.ensures.value c.if-first-ne-RELAY_FORWARD.false c.if-left-eq0.false
+    let here = type_relay c.args.reads _ _ _ _ _ c.in-Some.ensures.value c.if-first-ne-RELAY_FORWARD.false c.if-left-eq0.false
     c.if-octets-lt34.false c.none-kept.ensures c.new-options.ensures in
     let p = err_from_is_err_and c.from_residual-in_err-keep_all.result c.from_residual-in_err-keep_all.ensures.1 in
-    let found = fails_behind (message_in (c.args.left - 1)) c.args.octets.now _ _ c.keep_all.new.kept _ _ _ _
+    let found = fails_behind (message_in c.args.reads (c.args.left - 1)) c.args.octets.now _ _ c.keep_all.new.kept _ _ _ _
     (found_some _ _ _ _ _ c.in_ok-inner.ensures c.in-Some-2.is) c.in_ok-message.ensures c.in_err-keep_all.ensures in
     subst (λ (r : Result UntestedMessage PdFault). Gives (λ u. u) c.from_residual-in_err-keep_all.result r) (sym here)
     (rw (p.1, p.2) found)
 
 pub returns : goal.returns
 returns t c =
-    let here = type_relay _ _ _ _ _ c.in-Some.ensures.value c.if-first-ne-RELAY_FORWARD.false c.if-left-eq0.false
+    let here = type_relay c.args.reads _ _ _ _ _ c.in-Some.ensures.value c.if-first-ne-RELAY_FORWARD.false c.if-left-eq0.false
     c.if-octets-lt34.false c.none-kept.ensures c.new-options.ensures in
     here ∙ is_whole _ _ _ _ _ _ c.in_ok-message.message _ _ _
     (found_some _ _ _ _ _ c.in_ok-inner.ensures c.in-Some-2.is) c.in_ok-message.ensures

@@ -27,7 +27,7 @@ invariant_of-self-in-Ok-said g c =
       names = c.self.invariant.names;
       owed = held_as _ _ _ _ _ (held_more _ _ _ h c.hold.ensures c.reserve.ensures.items)
           (one_more_owed _ _ _ c.self.inside.held.items h owed
-          (just_owed c.self.inside.own _ _ c.in-Ok.message _ _ _ _ c.in-Ok-said.answer c.in-Ok-said.ensures.told));
+          (just_owed c.self.inside.own _ _ c.args.manner.now c.in-Ok.message _ _ _ _ c.in-Ok-said.answer c.in-Ok-said.ensures.told));
       said = talk_later _ grown.0 _ c.self.inside.talk grown.1.0 c.self.invariant.said;
     }
 
@@ -36,7 +36,7 @@ returns-in-Ok-said-clause-heard g c =
     let partner = c.partner_of-partner.ensures ∙ ap partner_of c.book-2.ensures in
     let permits = c.in-Ok-permits.permits.items in
     let lets = g.A.Admission.lets c.args.admission.now in
-    subst (λ s. IsHeard lets s.own s.terms c.args.peer c.args.datagram.now c.args.read s.volume c.answer-said.new.self
+    subst (λ s. IsHeard lets s.own c.args.manner.now s.terms c.args.peer c.args.datagram.now c.args.read s.volume c.answer-said.new.self
     s.held c.hold.new.held.items (Answered c.in-Ok.message.kind)) c.self.view_is (
       c.in-Ok.message,
       permits,
@@ -46,10 +46,10 @@ returns-in-Ok-said-clause-heard g c =
       refl,
       c.in-Ok-said.ensures.back,
       subst (λ ps. Tells (partner_of c.self.inside.volume.served.journal) c.self.inside.terms c.self.inside.own
-          c.in-Ok.message ps c.args.read (receipts_in c.self.inside.volume.served)
+          c.args.manner.now c.in-Ok.message ps c.args.read (receipts_in c.self.inside.volume.served)
           (receipts_in c.answer-said.new.self.served) c.in-Ok-said.answer.octets c.in-Ok-said.answer.line)
           c.deref.ensures.value
-          (subst (λ p. Tells p c.self.inside.terms c.self.inside.own c.in-Ok.message c.deref.result.now c.args.read
+          (subst (λ p. Tells p c.self.inside.terms c.self.inside.own c.args.manner.now c.in-Ok.message c.deref.result.now c.args.read
           (receipts_in c.self.inside.volume.served) (receipts_in c.answer-said.new.self.served)
           c.in-Ok-said.answer.octets c.in-Ok-said.answer.line) partner c.in-Ok-said.ensures.told),
       held_more _ _ _ (record { answer = c.in-Ok-said.answer; read = c.args.read }) c.hold.ensures
@@ -70,7 +70,7 @@ returns-clause-heard g c =
     let partner = c.partner_of-partner.ensures ∙ ap partner_of c.book-2.ensures in
     let permits = c.in-Ok-permits.permits.items in
     let lets = g.A.Admission.lets c.args.admission.now in
-    subst (λ s. IsHeard lets s.own s.terms c.args.peer c.args.datagram.now c.args.read s.volume c.answer-said.new.self
+    subst (λ s. IsHeard lets s.own c.args.manner.now s.terms c.args.peer c.args.datagram.now c.args.read s.volume c.answer-said.new.self
     s.held c.reserve.new.self.items (Unanswered c.in-Err-said.why)) c.self.view_is (
       c.in-Ok.message,
       c.in-Ok.ensures.found,
@@ -78,9 +78,9 @@ returns-clause-heard g c =
         permits,
         subst (λ j. lets j c.args.read c.in-Ok.message permits) c.book.ensures c.in-Ok-permits.ensures,
         subst (λ ps. IsSilent HasReceipts (partner_of c.self.inside.volume.served.journal) c.self.inside.own
-            c.in-Ok.message ps c.args.read (receipts_in c.self.inside.volume.served)
+            c.args.manner.now c.in-Ok.message ps c.args.read (receipts_in c.self.inside.volume.served)
             (receipts_in c.answer-said.new.self.served) c.in-Err-said.why) c.deref.ensures.value
-            (subst (λ p. IsSilent HasReceipts p c.self.inside.own c.in-Ok.message c.deref.result.now c.args.read
+            (subst (λ p. IsSilent HasReceipts p c.self.inside.own c.args.manner.now c.in-Ok.message c.deref.result.now c.args.read
             (receipts_in c.self.inside.volume.served) (receipts_in c.answer-said.new.self.served) c.in-Err-said.why)
             partner c.in-Err-said.ensures.silent),
       ),

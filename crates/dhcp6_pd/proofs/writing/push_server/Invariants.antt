@@ -1,8 +1,0 @@
-use Rattle.std.proofs.Common.{◌≡◌, ◌++◌, take}
-use Rattle.std.specs.List.{flat_map}
-use Rattle.dhcp6_pd.specs.Layout.{head_octets, ia_octets}
-use Rattle.dhcp6_pd.proofs.writing.push_server.Given as goal
-
-abbrev pub invariant-loop-reply : goal.invariant-loop-reply
-invariant-loop-reply l = l.out.items ≡ l.fn.out.items
-    ++ (head_octets l.fn.message ++ flat_map ia_octets (take l.reply-index l.fn.message.ias))

@@ -1,0 +1,4 @@
+pub mod Ready
+pub mod Given
+pub mod Choosing
+pub mod Names
