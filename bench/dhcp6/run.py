@@ -15,7 +15,7 @@ import time
 
 HERE = pathlib.Path(__file__).resolve().parent
 ROOT = HERE.parent.parent
-CRATES = ["text_fields", "lists", "prefix_range", "client_id", "dhcp6_pd"]
+CRATES = ["text_fields", "lists", "prefix_range", "client_id", "router_options", "dhcp6_pd"]
 COUNT = 2_000_000
 SOLICIT = bytes.fromhex("010a0b0c0001000a000300010200000000010019000c000000010000000000000000")
 
@@ -28,7 +28,7 @@ def by_relay(held):
 def workspace(folder):
     rows = [row for row in (ROOT / "crates.txt").read_text().splitlines() if row.split(":")[0] in CRATES]
     folder.mkdir(parents=True, exist_ok=True)
-    (folder / "crates.txt").write_text("\n".join(rows + ["driver: dhcp6_pd client_id prefix_range anyhow"]) + "\n")
+    (folder / "crates.txt").write_text("\n".join(rows + ["driver: dhcp6_pd router_options client_id prefix_range anyhow"]) + "\n")
     shutil.copy(ROOT / "HANDLES", folder / "HANDLES")
     for name in CRATES:
         shutil.copytree(ROOT / "crates" / name, folder / "crates" / name, ignore=shutil.ignore_patterns("out"), dirs_exist_ok=True)
