@@ -1,0 +1,12 @@
+pub mod Clearing
+pub mod Failed
+pub mod Granting
+pub mod Lookup
+pub mod Marks
+pub mod Pushed
+pub mod Shown
+pub mod Unheld
+pub mod Wholly
+pub mod Refused
+pub mod Refusing
+pub mod Rising

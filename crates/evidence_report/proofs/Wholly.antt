@@ -1,0 +1,98 @@
+-- What the report of an accepted certificate shows.
+use Rattle.std.specs.Prelude.{◌≡◌, ℕ, ◌<◌, IsSome, List, [], ◌∷◌, length, Option, Some, None, slice_get, option_map}
+use Rattle.std.specs.Prelude.{Contains as Has}
+use Rattle.std.proofs.Common.{zero, suc, sym, ◌∙◌, ap, subst, refl, arith}
+use Rattle.std.proofs.lemmas.Option.{slice_get-map}
+use Rattle.journal_lines.specs.declared.event.Lease.{Lease}
+use Rattle.claims.specs.declared.certificate.Certificate.{Certificate}
+use Rattle.claims.specs.declared.certificate.Piece.{Piece}
+use Rattle.claims.specs.declared.certificate.Foreign.{Foreign}
+use Rattle.claims.specs.declared.reference.Ref.{Ref}
+use Rattle.causal_order.specs.Journals.{Journals}
+use Rattle.causal_order.specs.Order.{WrittenBy, WrittenFrom}
+use Rattle.attribution.specs.declared.delegation.Delegation.{Delegation}
+use Rattle.attribution.specs.Acceptance.{Grants, Tells, IsCarried, ReasonHolds}
+use Rattle.attribution.proofs.Refusals.{accepted_from, at_index}
+use Rattle.auditor.proofs.Given.{Contains-get, get-Contains}
+use Rattle.evidence_report.specs.declared.mark.Mark.{Mark}
+use Rattle.evidence_report.specs.declared.piece_report.Granted.{Granted}
+use Rattle.evidence_report.specs.declared.piece_report.ReleaseReport.{ReleaseReport}
+use Rattle.evidence_report.specs.declared.piece_report.PieceReport.{PieceReport}
+use Rattle.evidence_report.specs.declared.foreign_report.Told.{Told}
+use Rattle.evidence_report.specs.declared.foreign_report.ForeignReport.{ForeignReport}
+use Rattle.evidence_report.specs.Marks.{IsLatestMark, IsEarliestMark, IsGrantedAt, IsToldAt}
+use Rattle.evidence_report.specs.Pieces.{IsPieceReport, releases_in}
+use Rattle.evidence_report.specs.Others.{IsForeignReport}
+use Rattle.evidence_report.specs.Reports.{AreShown}
+use Rattle.evidence_report.specs.Whole.{IsWholePiece, IsWholeEntry, AcceptedIsWhole}
+
+pub one_at : {X : Type 0} (xs : List X) (i : ℕ) → i < length xs → (x : X) × (slice_get xs i ≡ Some x)
+one_at [] i lt = absurd (omega arith)
+one_at (x ∷ xs) zero lt = (x, refl)
+one_at (x ∷ xs) (suc i) lt = one_at xs i (omega arith)
+
+-- what is shown stands for one of the list
+pub shown_for : {X Y : Type 0} (Shows : X → Y → Type 0) (xs : List X) (ys : List Y) → AreShown Shows xs ys → (y : Y)
+    → Has ys y → (i : ℕ) × (x : X) × (slice_get xs i ≡ Some x) × (slice_get ys i ≡ Some y) × Shows x y
+shown_for Shows xs ys h y has =
+    let at = get-Contains ys y has in
+    let lt = at.1 in
+    let some = one_at xs at.0 (let n = h.count in omega arith) in
+    (at.0, some.0, some.1, at.2, h.each at.0 some.0 y some.1 at.2)
+
+some_lease : (js : Journals) (r : Ref) (g : Lease) (o : Option Granted) → Grants js r g → IsGrantedAt js r o → IsSome o
+some_lease js r g None grants n = absurd (n g grants)
+some_lease js r g (Some shown) grants h = refl
+
+some_told : (js : Journals) (r : Ref) (d : Delegation) (o : Option Told) → Tells js r d → IsToldAt js r o → IsSome o
+some_told js r d None tells n = absurd (n d tells)
+some_told js r d (Some shown) tells h = refl
+
+some_latest : (js : Journals) (chain : List Ref) (r : Ref) (x : ℕ) (o : Option Mark) → WrittenBy js chain r x
+    → IsLatestMark js chain r o → IsSome o
+some_latest js chain r x None w n = absurd (n x w)
+some_latest js chain r x (Some m) w h = refl
+
+some_earliest : (js : Journals) (chain : List Ref) (r : Ref) (x : ℕ) (o : Option Mark) → WrittenFrom js chain r x
+    → IsEarliestMark js chain r o → IsSome o
+some_earliest js chain r x None w n = absurd (n x w)
+some_earliest js chain r x (Some m) w h = refl
+
+module _ (js : Journals) (skew transit : ℕ) (c : Certificate) where
+  piece_whole : (p : Piece) (shown : PieceReport) → IsCarried js skew transit c p → IsPieceReport js skew p shown
+      → IsWholePiece js skew transit c shown
+  piece_whole p shown carried h = record {
+    carried = subst (IsCarried js skew transit c) (sym h.piece) carried;
+    granted = some_lease js p.grant carried.0.lease shown.granted carried.0.grants h.granted;
+    latest = some_latest js p.latest p.grant carried.0.latest shown.latest carried.0.written_by h.latest;
+    earliest = some_earliest js p.earliest p.grant carried.0.earliest shown.earliest carried.0.written_from h.earliest;
+    discharged = λ r has.
+        let at = get-Contains shown.releases.items r has in
+        let line : Has (releases_in shown.releases.items) r.release.at =
+        Contains-get (releases_in shown.releases.items) at.0 r.release.at
+        (slice_get-map (λ (s : ReleaseReport). s.release.at) shown.releases.items at.0
+        ∙ ap (option_map (λ (s : ReleaseReport). s.release.at)) at.2) in
+        let ends = h.releases.only r.release.at line in
+        (h.releases.each r has).discharged.1 (carried.1 r.release.at ends.0 ends.1 ends.2);
+  }
+
+  entry_whole : (f : Foreign) (shown : ForeignReport) → ReasonHolds js skew transit c f → IsForeignReport js f shown
+      → IsWholeEntry js skew transit c shown
+  entry_whole f shown holds h = record {
+    holds = subst (ReasonHolds js skew transit c) (sym h.entry) holds;
+    told = some_told js f.grant holds.0 shown.told holds.1 h.told;
+  }
+
+pub accepted_is_whole : AcceptedIsWhole
+accepted_is_whole js skew transit c shown h v =
+    let accepted = accepted_from js skew transit c v in
+    record {
+      pieces = λ p has.
+          let of = shown_for (IsPieceReport js skew) c.pieces shown.pieces.items h.pieces p has in
+          piece_whole js skew transit c of.1 p
+          (at_index (IsCarried js skew transit c) c.pieces of.0 of.1 of.2 accepted.carried) of.4;
+      foreign = λ f has.
+          let of = shown_for (IsForeignReport js) c.foreign shown.foreign.items h.foreign f has in
+          entry_whole js skew transit c of.1 f
+          (at_index (ReasonHolds js skew transit c) c.foreign of.0 of.1 of.2 accepted.outside) of.4;
+    }

@@ -1,0 +1,9 @@
+pub mod Marks
+pub mod Lines
+pub mod Pieces
+pub mod Others
+pub mod Cited
+pub mod Reports
+pub mod Faults
+pub mod Whole
+pub mod Failures

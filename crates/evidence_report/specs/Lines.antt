@@ -1,0 +1,20 @@
+-- Lists of lines, in order.
+use Rattle.std.specs.Prelude.{◌≡◌, ◌↔◌, ℕ, ◌-◌, ◌<◌, List, length, Some, slice_get, Contains as Has}
+use Rattle.claims.specs.declared.reference.Ref.{Ref}
+use Rattle.claims.specs.Order.{place_of}
+use Rattle.causal_order.specs.LineOrder.{ComesBefore}
+
+-- each line comes before those behind it: the primary's before the secondary's, and then by number
+abbrev pub AreRising : List Ref → Type 0
+AreRising refs = (i j : ℕ) (r s : Ref) → i < j → slice_get refs i ≡ Some r → slice_get refs j ≡ Some s → ComesBefore r s
+
+-- the same lines, each once, in order
+pub record AreOnce (refs once : List Ref) : Type 0 where
+  pub same : (r : Ref) → Has refs r ↔ Has once r
+  pub rising : AreRising once
+
+-- ---- for bodies
+
+-- the line comes behind the last of these
+abbrev pub IsBehind : List Ref → Ref → Type 0
+IsBehind once r = (last : Ref) → slice_get once (length once - 1) ≡ Some last → place_of last < place_of r

@@ -1,0 +1,78 @@
+-- What is shown of pieces.
+use Rattle.std.specs.Prelude.{◌≡◌, ◌↔◌, ℕ, IsTrue, List, Option, Some, None, map, Contains as Has}
+use Rattle.std.specs.Borrow.{Bor}
+use Rattle.journal_lines.specs.declared.event.Lease.{Lease}
+use Rattle.claims.specs.declared.reference.Ref.{Ref}
+use Rattle.claims.specs.declared.certificate.Piece.{Piece}
+use Rattle.claims.specs.declared.certificate.Clear.{Clear}
+use Rattle.claims.specs.declared.certificate.Why.{Why}
+use Rattle.claims.specs.declared.certificate.Why.TheVariants.{Before as BeforeGrant, After as AfterEnd}
+use Rattle.causal_order.specs.Journals.{Journals}
+use Rattle.attribution.specs.declared.delegation.Delegation.{Delegation}
+use Rattle.attribution.specs.Delegation.{of_lease}
+use Rattle.attribution.specs.Acceptance.{Grants, GivesBack, IsCleared, Discharges}
+use Rattle.auditor.specs.Walks.{AreReleases}
+use Rattle.evidence_report.specs.declared.piece_report.Cleared.{Cleared}
+use Rattle.evidence_report.specs.declared.piece_report.Cleared.TheVariants.{Before, After}
+use Rattle.evidence_report.specs.declared.piece_report.ReleaseReport.{ReleaseReport}
+use Rattle.evidence_report.specs.declared.piece_report.PieceReport.{PieceReport}
+use Rattle.evidence_report.specs.Lines.{AreRising}
+use Rattle.evidence_report.specs.Marks.{Reads, IsLatestMark, IsEarliestMark, IsGrantedAt, IsOrderReport}
+
+-- what is shown of why the release doesn't cut the piece short
+abbrev pub IsClearing : Journals → Piece → Ref → Why → Cleared → Type 0
+IsClearing js p r (BeforeGrant order) (Before shown) = IsOrderReport js order r p.grant shown
+IsClearing js p r (AfterEnd chain) (After shown earliest) = (shown.now ≡ chain) × IsEarliestMark js chain r earliest
+IsClearing js p r _ _ = ⊥
+
+-- the entry clears the piece's release, and is one that discharges it if any does
+pub record IsEntryOf (js : Journals) (skew : ℕ) (p : Piece) (r : Ref) (k : Clear) (shown : Cleared) : Type 0 where
+  pub listed : Has p.clear k
+  pub names : k.release ≡ r
+  pub clearing : IsClearing js p r k.why shown
+  pub best : Discharges js skew p r → IsCleared js skew r p.grant p.to k.why
+
+-- an entry of the piece that names the release, and how it clears it; none where no entry does
+abbrev pub IsShownEntry : Journals → ℕ → Piece → Ref → Option (Bor Clear × Cleared) → Type 0
+IsShownEntry js skew p r None = (k : Clear) → Has p.clear k → k.release ≡ r → ⊥
+IsShownEntry js skew p r (Some (k, shown)) = IsEntryOf js skew p r k.now shown
+
+-- the release, with its reading, and whether it is discharged
+pub record IsReleaseReport (js : Journals) (skew : ℕ) (p : Piece) (shown : ReleaseReport) : Type 0 where
+  pub read : Reads js shown.release.at shown.release.reading
+  pub discharged : IsTrue shown.is_discharged ↔ Discharges js skew p shown.release.at
+  pub entry : IsShownEntry js skew p shown.release.at shown.entry
+
+-- the release gives back what the piece's grant gave
+abbrev pub EndsGrant : Journals → Piece → Ref → Type 0
+EndsGrant js p r = (g : Lease) × Grants js p.grant g × GivesBack js r (of_lease g)
+
+abbrev pub releases_in : List ReleaseReport → List Ref
+releases_in shown = map (λ s. s.release.at) shown
+
+-- exactly the releases that do, each once
+pub record AreReleaseReports (js : Journals) (skew : ℕ) (p : Piece) (shown : List ReleaseReport) : Type 0 where
+  pub all : (r : Ref) → EndsGrant js p r → Has (releases_in shown) r
+  pub only : (r : Ref) → Has (releases_in shown) r → EndsGrant js p r
+  pub once : AreRising (releases_in shown)
+  pub each : (s : ReleaseReport) → Has shown s → IsReleaseReport js skew p s
+
+-- all that is shown of a piece
+pub record IsPieceReport (js : Journals) (skew : ℕ) (p : Piece) (shown : PieceReport) : Type 0 where
+  pub piece : shown.piece.now ≡ p
+  pub granted : IsGrantedAt js p.grant shown.granted
+  pub latest : IsLatestMark js p.latest p.grant shown.latest
+  pub earliest : IsEarliestMark js p.earliest p.grant shown.earliest
+  pub releases : AreReleaseReports js skew p shown.releases.items
+
+-- ---- for bodies
+
+-- the releases of this delegation, each once
+pub record AreReportsOf (js : Journals) (skew : ℕ) (p : Piece) (d : Delegation) (shown : List ReleaseReport) : Type 0 where
+  pub releases : AreReleases js d (releases_in shown)
+  pub once : AreRising (releases_in shown)
+  pub each : (s : ReleaseReport) → Has shown s → IsReleaseReport js skew p s
+
+-- the entry discharges the release
+abbrev pub IsDischarging : Journals → ℕ → Piece → Ref → Clear → Type 0
+IsDischarging js skew p r k = Has p.clear k × (k.release ≡ r) × IsCleared js skew r p.grant p.to k.why

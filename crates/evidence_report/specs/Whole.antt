@@ -1,0 +1,34 @@
+-- What the report of an accepted certificate shows.
+use Rattle.std.specs.Prelude.{ℕ, IsTrue, IsSome, Contains as Has}
+use Rattle.claims.specs.declared.certificate.Certificate.{Certificate}
+use Rattle.causal_order.specs.Journals.{Journals}
+use Rattle.attribution.specs.Acceptance.{IsCarried, ReasonHolds}
+use Rattle.attribution.specs.FirstRefusal.{IsVerdict}
+use Rattle.attribution.specs.declared.verdict.Verdict.TheVariants.{Accepted}
+use Rattle.evidence_report.specs.declared.piece_report.ReleaseReport.{ReleaseReport}
+use Rattle.evidence_report.specs.declared.piece_report.PieceReport.{PieceReport}
+use Rattle.evidence_report.specs.declared.foreign_report.ForeignReport.{ForeignReport}
+use Rattle.evidence_report.specs.declared.report.Report.{Report}
+use Rattle.evidence_report.specs.Reports.{IsReport}
+
+-- the grant carries the piece: the grant and both marks are there, and each release is discharged
+pub record IsWholePiece (js : Journals) (skew transit : ℕ) (c : Certificate) (shown : PieceReport) : Type 0 where
+  pub carried : IsCarried js skew transit c shown.piece.now
+  pub granted : IsSome shown.granted
+  pub latest : IsSome shown.latest
+  pub earliest : IsSome shown.earliest
+  pub discharged : (r : ReleaseReport) → Has shown.releases.items r → IsTrue r.is_discharged
+
+-- the entry's reason holds, and what its line tells of is there
+pub record IsWholeEntry (js : Journals) (skew transit : ℕ) (c : Certificate) (shown : ForeignReport) : Type 0 where
+  pub holds : ReasonHolds js skew transit c shown.entry.now
+  pub told : IsSome shown.told
+
+pub record IsWhole (js : Journals) (skew transit : ℕ) (c : Certificate) (shown : Report) : Type 0 where
+  pub pieces : (p : PieceReport) → Has shown.pieces.items p → IsWholePiece js skew transit c p
+  pub foreign : (f : ForeignReport) → Has shown.foreign.items f → IsWholeEntry js skew transit c f
+
+-- where the certificate is accepted, nothing is missing in its report
+abbrev pub AcceptedIsWhole : Type 0
+AcceptedIsWhole = (js : Journals) (skew transit : ℕ) (c : Certificate) (shown : Report)
+    → IsReport js skew transit c shown → IsVerdict js skew transit c Accepted → IsWhole js skew transit c shown

@@ -1,0 +1,9 @@
+//! What is so of reports.
+
+ghost use Rattle.evidence_report.specs.Whole.{AcceptedIsWhole};
+
+/// Where a certificate is accepted, its report lacks nothing: each piece has its grant and both marks and is carried,
+/// each release is discharged, and each foreign entry's reason holds. So no `fault` is found in it.
+pub fn accepted_is_whole()
+    ensures { AcceptedIsWhole }
+{}

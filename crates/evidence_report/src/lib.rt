@@ -1,0 +1,49 @@
+//! What a certificate shows over two journals, number by number: each line that it cites, what the clock showed there,
+//! and what those readings come to.
+//!
+//! [`report_on`] looks up what a certificate names and leaves nothing out: of each piece the grant, the reading by
+//! which it was surely written and the one from which it was, and each release that could have ended it; of each other
+//! client's delegation why it stands outside. Nothing is judged here anew: `fault` of a piece's report or of a foreign
+//! entry's says which comparison of the definitions fails first, and [`failure_of`] on which one a refusal rests, both
+//! with their numbers. Of an accepted certificate nothing is missing ([`accepted_is_whole`]).
+//!
+//! specs/Marks, Pieces, Others, Cited and Reports are what is shown, specs/Faults and Failures the comparisons; what
+//! stands in them behind "for bodies" no other crate needs.
+//!
+//! ```text
+//! let report = report_on(alloc, &source, &certificate, skew, transit)?;
+//! let failure = failure_of(&source, &report, &audit(&source, &certificate, skew, transit));
+//! ```
+#![tactic(auto)]
+
+mod chains;
+mod citing;
+mod failing;
+mod faults;
+mod foreign_fault;
+mod foreign_report;
+mod laws;
+mod line_order;
+mod mark;
+mod orders;
+mod outside;
+mod piece_fault;
+mod piece_report;
+mod pieces;
+mod releases;
+mod report;
+mod reporting;
+mod told;
+
+pub use chains::mark_at;
+pub use failing::failure_of;
+pub use faults::{Failure, ForeignFault, PieceFault};
+pub use foreign_report::{ForeignReport, Outside, Told};
+pub use laws::accepted_is_whole;
+pub use line_order::in_order;
+pub use mark::{Mark, OrderReport};
+pub use piece_report::{Cleared, Granted, PieceReport, ReleaseReport};
+pub use releases::releases_of;
+pub use report::{Cited, Report, SideReport};
+pub use reporting::report_on;
+pub use told::told_at;

@@ -1,0 +1,75 @@
+//! What is shown of pieces.
+
+ghost use Rattle.std.specs.Prelude.{IfOk};
+ghost use Rattle.evidence_report.specs.Marks.{IsGrantedAt};
+ghost use Rattle.evidence_report.specs.Pieces.{AreReleaseReports, IsPieceReport};
+ghost use Rattle.evidence_report.specs.Reports.{AreShown};
+
+use crate::chains::{earliest_mark, latest_mark};
+use crate::piece_report::{Granted, PieceReport, ReleaseReport};
+use crate::releases::release_reports;
+use crate::told::granted_at;
+use attribution::Delegation;
+use auditor::LineSource;
+use claims::{Certificate, Piece};
+use lead_time::Skew;
+use std::alloc::{AllocError, Global};
+
+/// What is shown of each release of what the piece's grant gave.
+fn releases_of_grant<'a, S: LineSource>(
+    alloc: Global,
+    source: &S,
+    piece: &'a Piece,
+    granted: &Option<Granted>,
+    skew: Skew,
+) -> Result<Vec<ReleaseReport<'a>>, AllocError>
+    requires { IsGrantedAt (S.journals source.now) piece.now.grant granted.now }
+    ensures { IfOk result (λ v. AreReleaseReports (S.journals source.now) skew piece.now v.items) }
+{
+    let Some(granted) = granted else {
+        return Ok(Vec::new(alloc));
+    };
+    let delegation = Delegation::of_lease(&granted.lease);
+    let releases = release_reports(alloc, source, piece, &delegation, skew)?;
+    Ok(releases)
+}
+
+/// What is shown of a piece.
+fn piece_report<'a, S: LineSource>(
+    alloc: Global,
+    source: &S,
+    piece: &'a Piece,
+    skew: Skew,
+) -> Result<PieceReport<'a>, AllocError>
+    ensures { IfOk result (IsPieceReport (S.journals source.now) skew piece.now) }
+{
+    let granted = granted_at(source, piece.grant);
+    let latest = latest_mark(source, &piece.latest, piece.grant);
+    let earliest = earliest_mark(source, &piece.earliest, piece.grant);
+    let releases = releases_of_grant(alloc, source, piece, &granted, skew)?;
+    Ok(PieceReport {
+        piece,
+        granted,
+        latest,
+        earliest,
+        releases,
+    })
+}
+
+/// What is shown of each piece.
+pub fn piece_reports<'a, S: LineSource>(
+    alloc: Global,
+    source: &S,
+    certificate: &'a Certificate,
+    skew: Skew,
+) -> Result<Vec<PieceReport<'a>>, AllocError>
+    ensures { IfOk result
+        (λ v. AreShown (IsPieceReport (S.journals source.now) skew) certificate.now.pieces v.items) }
+{
+    let mut pieces = Vec::new(alloc);
+    for piece in certificate.pieces.as_slice() {
+        let shown = piece_report(alloc, source, piece, skew)?;
+        pieces.push(shown)?;
+    }
+    Ok(pieces)
+}
