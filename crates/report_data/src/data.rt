@@ -1,0 +1,119 @@
+//! The whole object.
+
+use crate::failures::failure_of;
+use crate::foreign::foreign_of;
+use crate::pieces::pieces_of;
+use crate::values::{client_of, line_of, prefix_of, text_of, time_of};
+use claims::Certificate;
+use evidence_report::{Cited, Report, SideReport};
+use journal_text::push_entry;
+use lead_time::Reading;
+use pair_ruling::ruling_line;
+use report_words::Explanation;
+use serde_json::{Value, json};
+use std::alloc::{AllocError, Global};
+
+fn question_of(alloc: Global, certificate: &Certificate) -> Result<Value, AllocError> {
+    let client = client_of(alloc, &certificate.holder)?;
+    let prefix = prefix_of(alloc, &certificate.prefix)?;
+    let from = time_of(alloc, certificate.from.milliseconds())?;
+    let to = time_of(alloc, certificate.to.milliseconds())?;
+    json!(in alloc; { "client": client, "prefix": prefix, "from": from, "to": to })
+}
+
+/// A reading, or null.
+fn reading_of(alloc: Global, reading: Option<Reading>) -> Result<Value, AllocError> {
+    match reading {
+        Some(reading) => time_of(alloc, reading.milliseconds()),
+        None => Ok(Value::Null),
+    }
+}
+
+fn side_of(alloc: Global, side: &SideReport) -> Result<Value, AllocError> {
+    let opened = reading_of(alloc, side.opened)?;
+    let closed = time_of(alloc, side.closed.milliseconds())?;
+    json!(in alloc; { "volume": side.volume, "opened": opened, "closed": closed })
+}
+
+/// What a line says behind its number, without the space before it.
+fn entry_of(alloc: Global, cited: &Cited) -> Result<Value, AllocError> {
+    let mut text = Vec::new(alloc);
+    push_entry(&mut text, &cited.line)?;
+    match text.as_slice().split_first() {
+        Some((_, entry)) => text_of(alloc, entry),
+        None => Ok(Value::Null),
+    }
+}
+
+fn cited_of(alloc: Global, cited: &Cited) -> Result<Value, AllocError> {
+    let line = line_of(alloc, cited.at)?;
+    let reading = time_of(alloc, cited.line.reading.milliseconds())?;
+    let text = entry_of(alloc, cited)?;
+    json!(in alloc; { "line": line, "reading": reading, "text": text })
+}
+
+fn lines_of(alloc: Global, cited: &[Cited]) -> Result<Value, AllocError> {
+    let mut values = Vec::new(alloc);
+    for line in cited {
+        values.push(cited_of(alloc, line)?)?;
+    }
+    Ok(Value::Array(values))
+}
+
+fn report_of(alloc: Global, report: &Report<'_>) -> Result<Value, AllocError> {
+    let question = question_of(alloc, report.certificate)?;
+    let primary = side_of(alloc, &report.primary)?;
+    let secondary = side_of(alloc, &report.secondary)?;
+    let pieces = pieces_of(alloc, &report.pieces)?;
+    let foreign = foreign_of(alloc, &report.foreign)?;
+    let lines = lines_of(alloc, &report.cited)?;
+    json!(in alloc; {
+        "question": question,
+        "skew_ms": report.skew.milliseconds(),
+        "transit_ms": report.transit.milliseconds(),
+        "journal_a": primary,
+        "journal_b": secondary,
+        "pieces": pieces,
+        "foreign": foreign,
+        "lines": lines
+    })
+}
+
+/// What a certificate shows, or null.
+fn shown_of(alloc: Global, report: &Option<Report<'_>>) -> Result<Value, AllocError> {
+    match report {
+        Some(report) => report_of(alloc, report),
+        None => Ok(Value::Null),
+    }
+}
+
+/// A ruling's line, without its line feed.
+fn verdict_of(alloc: Global, explanation: &Explanation<'_>) -> Result<Value, AllocError> {
+    let line = ruling_line(alloc, &explanation.ruling)?;
+    match line.as_slice().split_last() {
+        Some((_, verdict)) => text_of(alloc, verdict),
+        None => Ok(Value::Null),
+    }
+}
+
+/// Writes the ruling and all that it rests on as JSON: one object, and a line feed. The certificate's text goes in as
+/// it is. `AllocError` where a growth was refused.
+pub fn data_of(
+    alloc: Global,
+    explanation: &Explanation<'_>,
+    certificate: &[u8],
+) -> Result<String, AllocError> {
+    let verdict = verdict_of(alloc, explanation)?;
+    let failure = failure_of(alloc, &explanation.failure)?;
+    let report = shown_of(alloc, &explanation.report)?;
+    let certificate = text_of(alloc, certificate)?;
+    let value = json!(in alloc; {
+        "verdict": verdict,
+        "failure": failure,
+        "report": report,
+        "certificate": certificate
+    })?;
+    let mut text = value.to_string(alloc)?;
+    text.push('\n')?;
+    Ok(text)
+}

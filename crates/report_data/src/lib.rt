@@ -1,0 +1,20 @@
+//! A report on a ruling, as JSON.
+//!
+//! [`data_of`] writes one object (RFC 8259): the ruling, the comparison that a refusal rests on, and all that a report
+//! has, field by field. Times are objects of their milliseconds since 1970 and of what RFC 3339 writes for them; what
+//! there isn't is `null`. The contracts say what stands in a time, a line, a client, an identity association and a
+//! prefix; which of them stands in which field is only tested.
+//!
+//! ```text
+//! let text = data_of(alloc, &explanation, certificate_text)?;
+//! ```
+#![tactic(auto)]
+
+mod data;
+mod failures;
+mod foreign;
+mod pieces;
+mod values;
+
+pub use data::data_of;
+pub use values::{association_of, client_of, line_of, prefix_of, text_of, time_of};

@@ -1,0 +1,154 @@
+//! Values as JSON.
+
+ghost use Rattle.std.specs.Prelude.{◌≡◌, codes, IfOk};
+ghost use Rattle.text_fields.specs.Octets.{hex};
+ghost use Rattle.client_id.specs.Duid.{iaid_text};
+ghost use Rattle.prefix_range.specs.Text.{prefix_text};
+ghost use Rattle.attribution.specs.VerdictText.{side_text, place_text};
+ghost use Rattle.serde_json.specs.View.{view};
+ghost use Rattle.report_data.specs.Fields.{HasNumber, IsText};
+
+use attribution::push_place;
+use binding_rules::Role;
+use claims::{Chain, Ref};
+use client_id::{Duid, Iaid};
+use evidence_report::{Mark, OrderReport};
+use lead_time::Reading;
+use prefix_range::{Prefix, push_prefix};
+use serde_json::{Value, json};
+use std::alloc::{AllocError, Global};
+use std::str;
+use text_fields::{push_number, push_octets};
+use time_text::push_time;
+
+/// A text of octets that are 7-bit characters; null where they are none of UTF-8. `AllocError` where a growth was
+/// refused.
+pub fn text_of(alloc: Global, octets: &[u8]) -> Result<Value, AllocError>
+    ensures { IfOk result (λ v. IsText octets.now (view v)) }
+{
+    match str::from_utf8(octets) {
+        Ok(text) => Ok(Value::String(String::from_str(alloc, text)?)),
+        Err(_) => Ok(Value::Null),
+    }
+}
+
+/// A moment or a reading, in milliseconds since 1970: an object of these, and of what RFC 3339 writes for them in UTC.
+/// `AllocError` where a growth was refused.
+pub fn time_of(alloc: Global, milliseconds: u64) -> Result<Value, AllocError>
+    ensures { IfOk result (λ v. HasNumber (view v) (codes "ms") milliseconds) }
+{
+    let mut text = Vec::new(alloc);
+    match Reading::new(milliseconds) {
+        Ok(moment) => push_time(&mut text, moment)?,
+        Err(_) => push_number(&mut text, milliseconds)?,
+    }
+    let utc = text_of(alloc, &text)?;
+    json!(in alloc; { "ms": milliseconds, "utc": utc })
+}
+
+/// A side of the pair.
+pub(crate) fn side_of(side: Role) -> &'static str
+    ensures { result.now ≡ side_text side }
+{
+    match side {
+        Role::Primary => "A",
+        Role::Secondary => "B",
+    }
+}
+
+/// A line, as `A3`. `AllocError` where a growth was refused.
+pub fn line_of(alloc: Global, at: Ref) -> Result<Value, AllocError>
+    ensures { IfOk result (λ v. IsText (place_text at.side at.number) (view v)) }
+{
+    let mut text = Vec::new(alloc);
+    push_place(&mut text, at.side, at.number)?;
+    text_of(alloc, &text)
+}
+
+/// A client's identifier, in hexadecimal. `AllocError` where a growth was refused.
+pub fn client_of(alloc: Global, client: &Duid) -> Result<Value, AllocError>
+    ensures { IfOk result (λ v. IsText (hex client.now) (view v)) }
+{
+    let mut text = Vec::new(alloc);
+    push_octets(&mut text, client.as_bytes())?;
+    text_of(alloc, &text)
+}
+
+/// An identity association's identifier, in hexadecimal. `AllocError` where a growth was refused.
+pub fn association_of(alloc: Global, iaid: Iaid) -> Result<Value, AllocError>
+    ensures { IfOk result (λ v. IsText (iaid_text iaid) (view v)) }
+{
+    let mut text = Vec::new(alloc);
+    push_octets(&mut text, &iaid.0.to_be_bytes())?;
+    text_of(alloc, &text)
+}
+
+/// A prefix in canonical form. `AllocError` where a growth was refused.
+pub fn prefix_of(alloc: Global, prefix: &Prefix) -> Result<Value, AllocError>
+    ensures { IfOk result (λ v. IsText (prefix_text prefix.now) (view v)) }
+{
+    let mut text = Vec::new(alloc);
+    push_prefix(&mut text, prefix)?;
+    text_of(alloc, &text)
+}
+
+/// The lines of a chain, in order.
+pub(crate) fn chain_of(alloc: Global, chain: &Chain) -> Result<Value, AllocError> {
+    let mut lines = Vec::new(alloc);
+    for at in chain.as_slice() {
+        lines.push(line_of(alloc, *at)?)?;
+    }
+    Ok(Value::Array(lines))
+}
+
+fn marked_of(alloc: Global, mark: &Mark) -> Result<Value, AllocError> {
+    let line = line_of(alloc, mark.at)?;
+    let reading = time_of(alloc, mark.reading.milliseconds())?;
+    json!(in alloc; { "line": line, "reading": reading })
+}
+
+/// A line with its reading, or null.
+pub(crate) fn mark_of(alloc: Global, mark: &Option<Mark>) -> Result<Value, AllocError> {
+    match mark {
+        Some(mark) => marked_of(alloc, mark),
+        None => Ok(Value::Null),
+    }
+}
+
+fn chain_order(alloc: Global, chain: &Chain, leads: bool) -> Result<Value, AllocError> {
+    let chain = chain_of(alloc, chain)?;
+    json!(in alloc; { "by": "chain", "chain": chain, "leads": leads })
+}
+
+fn clock_order(
+    alloc: Global,
+    before: &Chain,
+    latest: &Option<Mark>,
+    after: &Chain,
+    earliest: &Option<Mark>,
+) -> Result<Value, AllocError> {
+    let before = chain_of(alloc, before)?;
+    let latest = mark_of(alloc, latest)?;
+    let after = chain_of(alloc, after)?;
+    let earliest = mark_of(alloc, earliest)?;
+    json!(in alloc; {
+        "by": "clocks",
+        "from_first": before,
+        "first_by": latest,
+        "to_second": after,
+        "second_from": earliest
+    })
+}
+
+/// Why one line was written before another.
+pub(crate) fn order_of(alloc: Global, order: &OrderReport<'_>) -> Result<Value, AllocError> {
+    match order {
+        OrderReport::Chain { chain, leads } => chain_order(alloc, chain, *leads),
+        OrderReport::Clock {
+            before,
+            latest,
+            after,
+            earliest,
+        } => clock_order(alloc, before, latest, after, earliest),
+    }
+}

@@ -1,0 +1,2 @@
+pub mod MoreWords
+pub mod MorePassages

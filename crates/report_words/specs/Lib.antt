@@ -1,0 +1,6 @@
+pub mod Telling
+pub mod Question
+pub mod Pieces
+pub mod Foreign
+pub mod Refusing
+pub mod Whole

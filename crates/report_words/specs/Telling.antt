@@ -1,0 +1,103 @@
+-- What a report tells: the values of its blocks, in order. Its prose isn't said here.
+use Rattle.std.specs.Prelude.{◌≡◌, ℕ, ◌+◌, ◌-◌, nat_le, Bool, true, false, if◌then◌else◌, List, [], ◌∷◌, ◌++◌, map}
+use Rattle.std.specs.Prelude.{Option, Some, None}
+use Rattle.std.specs.List.{filter}
+use Rattle.std.specs.Borrow.{Bor}
+use Rattle.claims.specs.declared.reference.Ref.{Ref}
+use Rattle.evidence_report.specs.declared.mark.Mark.{Mark}
+use Rattle.evidence_report.specs.declared.mark.OrderReport.{OrderReport}
+use Rattle.evidence_report.specs.declared.mark.OrderReport.TheVariants.{Chain, Clock}
+use Rattle.report_words.specs.declared.word.Word.{Word}
+use Rattle.report_words.specs.declared.word.Word.TheVariants as word
+use Rattle.report_words.specs.declared.word.Word.TheVariants.{Prose}
+use Rattle.report_words.specs.declared.block.Block.{Block}
+use Rattle.report_words.specs.declared.block.Kind.{Kind}
+use Rattle.report_words.specs.declared.block.Kind.TheVariants.{Heading, Paragraph, Item, Cited}
+
+abbrev pub is_value : Word → Bool
+is_value (Prose text) = false
+is_value _ = true
+
+-- the values among words
+abbrev pub values_of : List Word → List Word
+values_of words = filter is_value words
+
+-- a block without its prose
+pub record Told : Type 0 where
+  pub kind : Kind
+  pub values : List Word
+
+abbrev pub told_of : Block → Told
+told_of b = record { kind = b.kind; values = values_of b.words.items }
+
+abbrev pub heading : List Word → Told
+heading values = record { kind = Heading; values = values }
+
+abbrev pub paragraph : List Word → Told
+paragraph values = record { kind = Paragraph; values = values }
+
+abbrev pub item : List Word → Told
+item values = record { kind = Item; values = values }
+
+abbrev pub cited : List Word → Told
+cited values = record { kind = Cited; values = values }
+
+-- the blocks tell this more
+abbrev pub Tells : List Told → List Block → List Block → Type 0
+Tells more old new = map told_of new ≡ map told_of old ++ more
+
+-- ---- moments of lines
+
+-- the moment that is left of a sum when so much is taken off
+abbrev pub less : (sum off : ℕ) → Word
+less sum off = if nat_le off sum then word.Moment (sum - off) else word.BeforeEpoch (off - sum)
+
+-- the order of a chain's lines, where it has two or more
+abbrev pub chain_told : List Ref → List Told
+chain_told [] = []
+chain_told (r ∷ []) = []
+chain_told (r ∷ s ∷ chain) = item (map word.Line (r ∷ s ∷ chain)) ∷ []
+
+-- what is named for the line is no chain
+abbrev pub no_chain : Ref → List Told
+no_chain r = item (word.Line r ∷ []) ∷ []
+
+-- r was written by the reading at the mark, and the skew
+abbrev pub latest_told : (skew : ℕ) → Ref → Mark → List Told
+latest_told skew r m =
+    item (
+    word.Line m.at ∷ word.Reading m.reading ∷ word.Line r
+    ∷ word.Number m.reading ∷ word.Number skew ∷ word.Moment (m.reading + skew) ∷ []
+    ) ∷ []
+
+-- it was written at the reading at the mark less the skew, or later
+abbrev pub earliest_told : (skew : ℕ) → Ref → Mark → List Told
+earliest_told skew r m =
+    item (
+    word.Line m.at ∷ word.Reading m.reading ∷ word.Line r
+    ∷ word.Number m.reading ∷ word.Number skew ∷ less m.reading skew ∷ []
+    ) ∷ []
+
+-- by when r was written, by a chain from it
+abbrev pub written_by : (skew : ℕ) → Ref → List Ref → Option Mark → List Told
+written_by skew r chain None = no_chain r
+written_by skew r chain (Some m) = chain_told chain ++ latest_told skew r m
+
+-- from when on it was written, by a chain to it
+abbrev pub written_from : (skew : ℕ) → Ref → List Ref → Option Mark → List Told
+written_from skew r chain None = no_chain r
+written_from skew r chain (Some m) = chain_told chain ++ earliest_told skew r m
+
+-- the moment that the one told last must not pass
+abbrev pub must : ℕ → List Told
+must moment = item (word.Moment moment ∷ []) ∷ []
+
+-- ---- which of two lines came first
+
+abbrev pub before_told : Ref → Ref → List Told
+before_told r s = item (word.Line r ∷ word.Line s ∷ []) ∷ []
+
+abbrev pub order_told : (skew : ℕ) → Ref → Ref → OrderReport → List Told
+order_told skew r s (Chain chain leads) = chain_told chain.now ++ before_told r s
+order_told skew r s (Clock before latest after earliest) =
+    written_by skew r before.now latest ++ written_from skew s after.now earliest ++ before_told r s

@@ -1,0 +1,31 @@
+//! A report on a ruling, in words.
+//!
+//! [`document_of`] tells of a ruling, and of what a certificate shows over two journals, as a [`Document`]: headings,
+//! paragraphs, items and cited lines, each of which is a list of [`Word`]s. A word is prose, or a value of the report:
+//! a line, a reading, a moment, a client. A writer spells them, and adds no number of its own. The contracts say, block
+//! by block, which values stand there and in which order, with each sum; specs/Telling and the files beside it have
+//! them. The prose is what nothing but a reader judges.
+//!
+//! ```text
+//! let explanation = Explanation { ruling, report: Some(report), failure };
+//! let document = document_of(alloc, &explanation)?;
+//! ```
+#![tactic(auto)]
+
+mod block;
+mod chains;
+mod document;
+mod failures;
+mod foreign;
+mod moments;
+mod orders;
+mod pieces;
+mod question;
+mod releases;
+mod rule_words;
+mod rulings;
+mod word;
+
+pub use block::{Block, Document, Kind};
+pub use document::{Explanation, document_of};
+pub use word::Word;
