@@ -14,9 +14,9 @@ use time_text::push_time;
 
 /// Bounds that a question is asked with.
 #[derive(Clone, Copy, Debug)]
-pub(crate) struct Bounds {
-    pub(crate) skew: Skew,
-    pub(crate) transit: Transit,
+pub struct Bounds {
+    pub skew: Skew,
+    pub transit: Transit,
 }
 
 fn side_words(side: Role) -> &'static [u8]
@@ -41,7 +41,7 @@ fn lack_name(lack: &Lack) -> &'static [u8]
 }
 
 /// Appends which side lacks a moment, and the lack's name.
-pub(crate) fn push_lack(out: &mut Vec<u8>, side: Role, lack: &Lack) -> Result<(), AllocError>
+pub fn push_lack(out: &mut Vec<u8>, side: Role, lack: &Lack) -> Result<(), AllocError>
     ensures { OnOk result (out.new.items ≡ out.old.items ++ lack_front side lack.now) }
 {
     out.extend_from_slice(side_words(side))?;
@@ -121,7 +121,7 @@ fn explained(
 }
 
 /// The line that says which side lacks a moment, by the lack's name, and why in plain words.
-pub(crate) fn lack_line(
+pub fn lack_line(
     alloc: Global,
     names: &[PathBuf],
     side: Role,

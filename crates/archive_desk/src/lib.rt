@@ -29,4 +29,7 @@ pub use answering::{Question, answer};
 pub use asking::{Reply, ask_at};
 pub use failing::failure;
 pub use judging::Judged;
+pub use lacks::{Bounds, lack_line, push_lack};
+pub use names::push_journals;
+pub use passing::passed_over;
 pub use telling::Told;

@@ -18,11 +18,7 @@ pub(crate) fn name_of(names: &[PathBuf], file: usize) -> &str
 }
 
 /// Appends `journals FILE FILE`: the file of the primary's volume, and that of the secondary's.
-pub(crate) fn push_journals(
-    out: &mut Vec<u8>,
-    names: &[PathBuf],
-    pair: &Pair,
-) -> Result<(), AllocError>
+pub fn push_journals(out: &mut Vec<u8>, names: &[PathBuf], pair: &Pair) -> Result<(), AllocError>
     ensures { OnOk result (out.new.items ≡ out.old.items ++ journals_line names.now pair.now) }
 {
     out.extend_from_slice(b"journals ")?;

@@ -24,7 +24,7 @@ fn push_fault(alloc: Global, out: &mut Vec<u8>, fault: &JournalFault) -> Result<
 }
 
 /// A line for each file that is passed over, with its name and why.
-pub(crate) fn passed_over(
+pub fn passed_over(
     alloc: Global,
     names: &[PathBuf],
     passed: &[PassedOver],

@@ -1,4 +1,4 @@
--- For bodies only: two journals as a case, over which questions are asked.
+-- Two journals as a case, over which questions are asked.
 use Rattle.std.specs.Prelude.{◌≡◌, ℕ}
 use Rattle.journal_lines.specs.declared.line.Journal.{Journal}
 use Rattle.causal_order.specs.Journals.{journals_of}

@@ -15,7 +15,7 @@ use std::thread::Threads;
 
 /// What questions over two journals are asked of.
 #[derive(Drop)]
-pub(crate) enum Case<'a> {
+pub enum Case<'a> {
     /// They fit each other and the clocks: an index of their lines.
     Open(LineIndex<'a>),
     /// What stands against them, whatever is asked.
@@ -25,7 +25,7 @@ pub(crate) enum Case<'a> {
 impl<'a> Case<'a> {
     /// Rules on the primary's journal and the secondary's, and indexes their lines where nothing stands against them.
     /// `Memory` where a growth was refused.
-    pub(crate) fn of(
+    pub fn of(
         rt: &(impl Threads + Sync),
         alloc: Global,
         primary: &'a Journal,

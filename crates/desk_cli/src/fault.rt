@@ -14,12 +14,23 @@ pub(crate) enum Fault {
     /// What this path names can't be read.
     #[error("fault Path {0}")]
     Path(String),
+    /// The system has no zone file of this name.
+    #[error("fault Zone {0}: name a time zone as Europe/Paris, of those under /usr/share/zoneinfo")]
+    Zone(String),
 }
 
 impl Fault {
     /// A growth was refused.
     pub(crate) fn memory() -> Fault {
         Fault::Desk(DeskError::Memory)
+    }
+
+    /// The system has no zone of this name.
+    pub(crate) fn zone(alloc: Global, name: &str) -> Fault {
+        match format!(in alloc; "{name}") {
+            Ok(name) => Fault::Zone(name),
+            Err(_) => Fault::memory(),
+        }
     }
 
     /// What this path names can't be read.

@@ -1,14 +1,18 @@
-//! The desk as a program: its words are the command and where its texts come from, which is standard input or files;
+//! The desk as a program: its words are what is asked and where its texts come from, which is standard input or files;
 //! standard output gets the answer, standard error the warnings, and the status says whether everything was accepted (0),
 //! something was refused (1) or a fault kept the desk from answering (2).
 #![tactic(auto)]
 
 mod fault;
 mod over_files;
+mod over_input;
+mod writing;
+mod zones;
 
-use attribution_desk::{Command, Source, UsageError, Watched, order_of, run};
+use attribution_desk::{Order, Request, Source, UsageError, order_of};
+use desk_words::AnswerForm;
 use fault::Fault;
-use over_files::{answered_over, octets_of};
+use over_files::{FilesAsked, octets_of};
 use std::net::Net;
 use std::process::ExitCode;
 use std::sync::Wait;
@@ -29,29 +33,72 @@ fn usage_fault(error: io::Error) -> UsageError {
     }
 }
 
-/// Answers a command over standard input.
+/// Answers over standard input.
 fn answered_input(
     rt: &HostRuntime,
-    threads: &(impl Threads + Wait + Sync),
-    command: &Command,
+    handles: &(impl Threads + Wait + Sync),
+    request: &Request,
 ) -> Result<u8, Fault> {
-    let mut reader = Watched::new(rt.stdin());
-    let mut writer = Watched::new(rt.stdout());
-    let outcome = run(threads, rt.alloc(), command, &mut reader, &mut writer).map_err(Fault::Desk)?;
-    // (the answer is written: it stands, whether anybody reads a warning or not)
-    let _ = rt.stderr().write_all(&outcome.warnings);
-    Ok(outcome.status)
+    match request {
+        Request::Answer(command, AnswerForm::Plain) => over_input::answered(rt, handles, command),
+        Request::Answer(command, AnswerForm::Json) => over_input::answered_json(
+            rt, handles, command,
+        ),
+        Request::Explain {
+            skew,
+            transit,
+            telling,
+        } => over_input::explained(rt, handles, *skew, *transit, telling),
+        Request::ExplainHolder(query, settings, telling) => {
+            over_input::holder_explained(rt, handles, query, *settings, telling)
+        }
+    }
+}
+
+/// Answers over files.
+fn answered_files(
+    rt: &HostRuntime,
+    handles: &(impl Threads + Wait + Net + Sync),
+    request: &Request,
+    asked: &FilesAsked,
+) -> Result<u8, Fault> {
+    match request {
+        Request::Answer(command, AnswerForm::Plain) => {
+            over_files::answered(rt, handles, command, asked)
+        }
+        Request::Answer(command, AnswerForm::Json) => {
+            over_files::answered_json(rt, handles, command, asked)
+        }
+        Request::Explain {
+            skew,
+            transit,
+            telling,
+        } => over_files::explained(rt, handles, *skew, *transit, telling, asked),
+        Request::ExplainHolder(query, settings, telling) => {
+            over_files::holder_explained(rt, handles, query, *settings, telling, asked)
+        }
+    }
 }
 
 fn answered(rt: &HostRuntime, handles: &(impl Threads + Wait + Net + Sync)) -> Result<u8, Fault> {
     let words = words_given(rt).map_err(Fault::Usage)?;
     let order = order_of(rt.alloc(), &words).map_err(Fault::Usage)?;
     match &order.source {
-        Source::Input => answered_input(rt, handles, &order.command),
-        Source::Journals(paths) => answered_over(rt, handles, &order.command, paths, b""),
+        Source::Input => answered_input(rt, handles, &order.request),
+        Source::Journals(paths) => {
+            let asked = FilesAsked {
+                paths,
+                certificates: b"",
+            };
+            answered_files(rt, handles, &order.request, &asked)
+        }
         Source::Certified(paths, file) => {
             let certificates = octets_of(rt, file)?;
-            answered_over(rt, handles, &order.command, paths, &certificates)
+            let asked = FilesAsked {
+                paths,
+                certificates: &certificates,
+            };
+            answered_files(rt, handles, &order.request, &asked)
         }
     }
 }

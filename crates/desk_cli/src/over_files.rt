@@ -1,14 +1,27 @@
 //! Answering over the journals of files.
 
 use crate::fault::Fault;
+use crate::writing::{write_json, write_out};
+use crate::zones::zone_named;
 use archive_desk::{Question, Told, answer, failure};
-use attribution_desk::{Command, UsageError, Watched};
+use attribution_desk::{Command, UsageError};
+use desk_reports::{Style, explain_files, holder_in_files};
+use desk_words::{Settings, Telling};
 use journal_paths::{JournalPaths, PathError};
+use lead_time::{Skew, Transit};
+use plain_search::HolderQuery;
 use std::fs;
 use std::net::Net;
 use std::path::Path;
 use std::sync::Wait;
 use std::thread::Threads;
+
+/// The files that are asked: the paths of journals, and the text of certificates.
+#[derive(Clone, Copy)]
+pub(crate) struct FilesAsked<'a> {
+    pub(crate) paths: &'a [&'a str],
+    pub(crate) certificates: &'a [u8],
+}
 
 /// What a command asks over files, with the certificates that it judges; `None` where it asks nothing of files.
 fn question_of<'a>(command: &Command, certificates: &'a [u8]) -> Option<Question<'a>> {
@@ -65,25 +78,104 @@ fn told_of(
     }
 }
 
-/// Answers a command over the journals at these paths: standard output gets the answer, standard error the notes.
-pub(crate) fn answered_over(
+/// What is told of a command over files.
+fn answer_of(
     rt: &HostRuntime,
     handles: &(impl Threads + Wait + Net + Sync),
     command: &Command,
-    paths: &[&str],
-    certificates: &[u8],
-) -> Result<u8, Fault> {
-    let Some(question) = question_of(command, certificates) else {
+    asked: &FilesAsked,
+) -> Result<Told, Fault> {
+    let Some(question) = question_of(command, asked.certificates) else {
         return Err(Fault::Usage(UsageError::Usage));
     };
-    let files = files_at(rt, handles, paths)?;
+    let files = files_at(rt, handles, asked.paths)?;
     warn_of_silent(rt, &files);
-    let told = told_of(rt, handles, &files, &question)?;
-    let mut writer = Watched::new(rt.stdout());
-    writer.write_out(&told.text).map_err(Fault::Desk)?;
-    // (the answer is written: it stands, whether anybody reads a note or not)
-    let _ = rt.stderr().write_all(&told.notes);
-    Ok(told.status)
+    told_of(rt, handles, &files, &question)
+}
+
+/// Answers a command.
+pub(crate) fn answered(
+    rt: &HostRuntime,
+    handles: &(impl Threads + Wait + Net + Sync),
+    command: &Command,
+    asked: &FilesAsked,
+) -> Result<u8, Fault> {
+    let told = answer_of(rt, handles, command, asked)?;
+    write_out(rt, &told)
+}
+
+/// Answers a command, as one JSON object.
+pub(crate) fn answered_json(
+    rt: &HostRuntime,
+    handles: &(impl Threads + Wait + Net + Sync),
+    command: &Command,
+    asked: &FilesAsked,
+) -> Result<u8, Fault> {
+    let told = answer_of(rt, handles, command, asked)?;
+    write_json(rt, command, &told)
+}
+
+/// A report on the certificate of a file.
+pub(crate) fn explained(
+    rt: &HostRuntime,
+    handles: &(impl Threads + Wait + Net + Sync),
+    skew: Skew,
+    transit: Transit,
+    telling: &Telling,
+    asked: &FilesAsked,
+) -> Result<u8, Fault> {
+    let zone = zone_named(rt, telling.zone)?;
+    let style = Style {
+        form: telling.form,
+        zone: zone.as_ref(),
+    };
+    let files = files_at(rt, handles, asked.paths)?;
+    warn_of_silent(rt, &files);
+    let names = files.paths();
+    let told = explain_files(
+        handles,
+        rt.alloc(),
+        &files,
+        names,
+        asked.certificates,
+        skew,
+        transit,
+        &style,
+    );
+    match told {
+        Ok(told) => write_out(rt, &told),
+        Err(error) => {
+            let told = failure(rt.alloc(), names, &error).map_err(|_| Fault::memory())?;
+            write_out(rt, &told)
+        }
+    }
+}
+
+/// Who held a prefix, and a report on that.
+pub(crate) fn holder_explained(
+    rt: &HostRuntime,
+    handles: &(impl Threads + Wait + Net + Sync),
+    query: &HolderQuery,
+    settings: Settings,
+    telling: &Telling,
+    asked: &FilesAsked,
+) -> Result<u8, Fault> {
+    let zone = zone_named(rt, telling.zone)?;
+    let style = Style {
+        form: telling.form,
+        zone: zone.as_ref(),
+    };
+    let files = files_at(rt, handles, asked.paths)?;
+    warn_of_silent(rt, &files);
+    let names = files.paths();
+    let told = holder_in_files(handles, rt.alloc(), &files, names, query, settings, &style);
+    match told {
+        Ok(told) => write_out(rt, &told),
+        Err(error) => {
+            let told = failure(rt.alloc(), names, &error).map_err(|_| Fault::memory())?;
+            write_out(rt, &told)
+        }
+    }
 }
 
 /// The octets of a file. `Path` where it can't be read.

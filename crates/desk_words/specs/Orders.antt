@@ -1,13 +1,13 @@
--- What the words of a command line order: a command, and where its texts come from.
+-- What the words of a command line order: what is asked, and where its texts come from.
 use Rattle.std.specs.Prelude.{Option, Some, None, List}
 use Rattle.clap.specs.Words.{Row, Text}
 use Rattle.desk_words.specs.declared.orders.Order.{Order}
-use Rattle.desk_words.specs.Given.{IsGiven}
+use Rattle.desk_words.specs.Requests.{IsAsked}
 use Rattle.desk_words.specs.Sources.{IsFrom}
 
 abbrev pub IsOrdered : Option (Text × List Row) → Order → Type 0
 IsOrdered None order = ⊥
-IsOrdered (Some found) order = IsGiven (Some found) order.command × IsFrom found order.source
+IsOrdered (Some found) order = IsAsked found order.request × IsFrom found order.source
 
 -- they order nothing
 abbrev pub IsNoOrder : Option (Text × List Row) → Type 0

@@ -6,7 +6,7 @@ use Rattle.desk_words.specs.declared.sources.Source.TheVariants.{Input, Journals
 
 -- the commands that judge certificates, by their names
 abbrev pub Judges : Text → Type 0
-Judges name = (name ≡ codes "audit") ⊎ (name ≡ codes "batch")
+Judges name = (name ≡ codes "audit") ⊎ (name ≡ codes "batch") ⊎ (name ≡ codes "explain")
 
 -- No path is named. Or paths of journals are; and where certificates are judged, but nowhere else, the path of those.
 abbrev pub IsSourceBy : (judges : Type 0) → (journals : Option (List Text)) → (certificate : Option Text) → Source

@@ -23,10 +23,26 @@ with_journals app = with_rule app (list_rule (codes "journals"))
 abbrev pub with_certificate : App → App
 with_certificate app = with_rule (with_journals app) (option_rule (codes "certificate") false)
 
-abbrev pub audit_app : App
-audit_app =
-    with_certificate (with_rule (with_rule (new_app (codes "audit")) (option_rule (codes "skew-ms") true))
+-- its answer may be one JSON object
+abbrev pub with_json : App → App
+with_json app = with_rule app (flag_rule (codes "json"))
+
+-- how a report is told
+abbrev pub with_telling : App → App
+with_telling app =
+    with_json (with_rule (with_rule app (option_rule (codes "zone") false)) (flag_rule (codes "html")))
+
+-- a certificate over two journals, and the bounds on clocks and answers
+abbrev pub claim_app : List ℕ → App
+claim_app name =
+    with_certificate (with_rule (with_rule (new_app name) (option_rule (codes "skew-ms") true))
     (option_rule (codes "transit-ms") false))
+
+abbrev pub audit_app : App
+audit_app = with_json (claim_app (codes "audit"))
+
+abbrev pub explain_app : App
+explain_app = with_telling (claim_app (codes "explain"))
 
 abbrev pub batch_app : App
 batch_app =
@@ -41,8 +57,8 @@ asking_app =
 
 abbrev pub find_app : App
 find_app =
-    with_journals (with_rule (with_rule (with_rule asking_app (option_rule (codes "from") true))
-    (option_rule (codes "to") true)) (option_rule (codes "transit-ms") false))
+    with_json (with_journals (with_rule (with_rule (with_rule asking_app (option_rule (codes "from") true))
+    (option_rule (codes "to") true)) (option_rule (codes "transit-ms") false)))
 
 -- a subcommand has to be named
 abbrev pub bare : App
@@ -54,6 +70,10 @@ bare = record {
 abbrev pub judging_app : App
 judging_app = with_subcommand (with_subcommand bare audit_app.top) batch_app.top
 
+-- all that take certificates
+abbrev pub claims_app : App
+claims_app = with_subcommand judging_app explain_app.top
+
 -- which prefix is asked of, and at which moment
 abbrev pub moment_app : App
 moment_app =
@@ -62,14 +82,14 @@ moment_app =
 
 abbrev pub who_app : App
 who_app =
-    with_journals (with_rule (with_rule moment_app (option_rule (codes "transit-ms") false))
-    (flag_rule (codes "settings-differ")))
+    with_telling (with_rule (with_journals (with_rule (with_rule moment_app (option_rule (codes "transit-ms") false))
+    (flag_rule (codes "settings-differ")))) (flag_rule (codes "explain")))
 
 abbrev pub timeline_app : App
 timeline_app = with_journals (new_app (codes "timeline"))
 
 abbrev pub searching_app : App
-searching_app = with_subcommand (with_subcommand judging_app find_app.top) who_app.top
+searching_app = with_subcommand (with_subcommand claims_app find_app.top) who_app.top
 
 abbrev pub desk : App
 desk =

@@ -5,18 +5,19 @@ ghost use Rattle.clap.specs.Words.{subcommand_of, subcommand_rows_of, takes, fau
 ghost use Rattle.desk_words.specs.Words.{desk};
 ghost use Rattle.desk_words.specs.Orders.{IsOrdered, IsNoOrder};
 
-use crate::command::{Command, command_given};
 use crate::error::UsageError;
+use crate::request::Request;
+use crate::requests::request_given;
 use crate::sources::{Source, source_given};
 use crate::subcommands::desk_command;
 use clap::error::ErrorKind;
 use clap::{ArgMatches, Error as ClapError};
 use std::alloc::Global;
 
-/// A command, and where its texts come from.
+/// What is asked, and where its texts come from.
 #[derive(Debug, Drop)]
 pub struct Order<'a> {
-    pub command: Command,
+    pub request: Request<'a>,
     pub source: Source<'a>,
 }
 
@@ -38,9 +39,12 @@ fn order_found<'a>(alloc: Global, matches: &ArgMatches<'a>) -> Result<Order<'a>,
     let Some((name, options)) = matches.subcommand() else {
         return Err(UsageError::Usage);
     };
-    let command = command_given(alloc, name, options)?;
+    let request = match request_given(alloc, name, options) {
+        Ok(request) => request,
+        Err(error) => return Err(error),
+    };
     let source = source_given(alloc, name, options)?;
-    Ok(Order { command, source })
+    Ok(Order { request, source })
 }
 
 /// The order that the words give, the first of which is the program's name: `Usage` where clap finds none

@@ -24,7 +24,7 @@ pub enum Source<'a> {
 fn judges(name: &str) -> bool
     ensures { IsTrue result ↔ Judges name.now }
 {
-    name == "audit" || name == "batch"
+    name == "audit" || name == "batch" || name == "explain"
 }
 
 /// The paths of an option.

@@ -1,0 +1,45 @@
+//! Time zones, by the system's zone files.
+
+use crate::fault::Fault;
+use std::alloc::Global;
+use std::fs;
+use std::path::Path;
+use zone_times::{ZoneError, ZoneFile};
+
+/// Where the system has its zone files.
+const FOLDER: &str = "/usr/share/zoneinfo/";
+
+/// Returns whether the word may name a zone: letters, digits, `_`, `+`, `-` and single slashes between them.
+fn is_name(name: &str) -> bool {
+    let octets = name.as_bytes();
+    !octets.is_empty()
+        && octets.iter().all(|octet| octet.is_ascii_alphanumeric() || b"_+-/".contains(octet))
+        && octets[0] != b'/'
+}
+
+/// The path of a zone's file.
+fn path_of(alloc: Global, name: &str) -> Result<String, Fault> {
+    match format!(in alloc; "{FOLDER}{name}") {
+        Ok(path) => Ok(path),
+        Err(_) => Err(Fault::memory()),
+    }
+}
+
+/// The zone of this name, if one is named. `Zone` where the system has no such zone.
+pub(crate) fn zone_named(rt: &HostRuntime, name: Option<&str>) -> Result<Option<ZoneFile>, Fault> {
+    let Some(name) = name else {
+        return Ok(None);
+    };
+    if !is_name(name) {
+        return Err(Fault::zone(rt.alloc(), name));
+    }
+    let path = path_of(rt.alloc(), name)?;
+    let Ok(octets) = fs::read(rt, Path::new(path.as_str())) else {
+        return Err(Fault::zone(rt.alloc(), name));
+    };
+    match ZoneFile::read(rt.alloc(), &octets) {
+        Ok(zone) => Ok(Some(zone)),
+        Err(ZoneError::Memory) => Err(Fault::memory()),
+        Err(ZoneError::NoZone) => Err(Fault::zone(rt.alloc(), name)),
+    }
+}

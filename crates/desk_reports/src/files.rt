@@ -1,0 +1,246 @@
+//! Reports over the volumes of files.
+
+ghost use Rattle.std.specs.Prelude.{◌≢◌, ◌↔◌, [], IsTrue, IfOk};
+ghost use Rattle.std.specs.Result.{ForOk};
+ghost use Rattle.journal_text.specs.Closed.{IsClosed};
+ghost use Rattle.archive_files.specs.Showing.{AreClosed};
+
+use crate::holders::holder_told;
+use crate::telling::{Style, explain_told};
+use archive_desk::{Bounds, Told, lack_line, passed_over, push_journals, push_lack};
+use archive_files::{
+    Agreement, FilesError, JournalFiles, PassedOver, Shown, catalogue_of, shown_at,
+};
+use attribution::Verdict;
+use binding_rules::Role;
+use certificate::CertificateError;
+use claims::CertificateFault;
+use desk_intake::{DeskError, ReadPair};
+use desk_words::Settings;
+use journal_archive::{Archive, Lack, Pair};
+use journal_copy::ShownPair;
+use journal_lines::Journal;
+use lead_time::{Skew, Transit};
+use pair_ruling::{Ruling, ruling_line};
+use plain_search::HolderQuery;
+use std::alloc::{AllocError, Global};
+use std::path::PathBuf;
+use std::thread::Threads;
+
+/// What is told where no volume of a side shows the moment.
+fn lacking(
+    alloc: Global,
+    names: &[PathBuf],
+    side: Role,
+    lack: &Lack,
+    bounds: &Bounds,
+) -> Result<Told, AllocError> {
+    let mut text = Vec::new(alloc);
+    push_lack(&mut text, side, lack)?;
+    text.push(b'\n')?;
+    let notes = lack_line(alloc, names, side, lack, bounds)?;
+    Ok(Told {
+        text,
+        status: 1,
+        notes,
+    })
+}
+
+fn has_lines(journal: &Journal) -> bool
+    ensures { IsTrue result ↔ (journal.now.lines ≢ []) }
+{
+    !journal.lines.as_slice().is_empty()
+}
+
+/// The journals that two volumes show. `Changed` where one of them has no line any longer.
+fn read_pair(pair: &Pair, shown: ShownPair) -> Result<ReadPair, FilesError>
+    requires { AreClosed shown }
+    ensures primary { IfOk result (λ read. ForOk read.primary (λ journal. IsClosed journal.lines)) }
+    ensures secondary { IfOk result (λ read. ForOk read.secondary (λ journal. IsClosed journal.lines)) }
+{
+    if !has_lines(&shown.primary) {
+        return Err(FilesError::Changed {
+            file: pair.primary.file,
+        });
+    }
+    if !has_lines(&shown.secondary) {
+        return Err(FilesError::Changed {
+            file: pair.secondary.file,
+        });
+    }
+    Ok(ReadPair {
+        primary: Ok(shown.primary),
+        secondary: Ok(shown.secondary),
+    })
+}
+
+/// What is told of a text that is no certificate: the ruling's line.
+fn faulty_told(alloc: Global, fault: CertificateFault) -> Result<Told, AllocError> {
+    let text = ruling_line(alloc, &Ruling::Verdict(Verdict::Certificate(fault)))?;
+    Ok(Told {
+        text,
+        status: 1,
+        notes: Vec::new(alloc),
+    })
+}
+
+/// What is told over two volumes, and a note that names their files.
+fn noted(
+    alloc: Global,
+    names: &[PathBuf],
+    pair: &Pair,
+    told: Result<Told, DeskError>,
+) -> Result<Told, FilesError> {
+    let Ok(told) = told else {
+        return Err(FilesError::Memory);
+    };
+    let mut notes = Vec::new(alloc);
+    push_journals(&mut notes, names, pair)?;
+    notes.extend_from_slice(&told.notes)?;
+    Ok(Told {
+        text: told.text,
+        status: told.status,
+        notes,
+    })
+}
+
+/// The report on a certificate over the pair of volumes that shows where its interval begins; of its text alone where that
+/// is at fault.
+fn explain_over<F: JournalFiles>(
+    rt: &(impl Threads + Sync),
+    alloc: Global,
+    files: &F,
+    names: &[PathBuf],
+    archive: &Archive,
+    certificate: &[u8],
+    bounds: &Bounds,
+    style: &Style,
+) -> Result<Told, FilesError> {
+    let claim = match certificate::read(alloc, certificate) {
+        Ok(claim) => claim,
+        Err(CertificateError::Fault(fault)) => {
+            let told = faulty_told(alloc, fault)?;
+            return Ok(told);
+        }
+        Err(CertificateError::Memory) => return Err(FilesError::Memory),
+    };
+    let moment = claim.from.milliseconds();
+    match shown_at(alloc, files, archive, moment, bounds.skew, bounds.transit)? {
+        Shown::Journals(pair, shown) => {
+            let read = read_pair(&pair, shown)?;
+            let told = explain_told(
+                rt,
+                alloc,
+                &read,
+                certificate,
+                bounds.skew,
+                bounds.transit,
+                style,
+            );
+            noted(alloc, names, &pair, told)
+        }
+        Shown::Lacking(side, lack) => {
+            let told = lacking(alloc, names, side, &lack, bounds)?;
+            Ok(told)
+        }
+    }
+}
+
+/// The report on a search for a holder over the pair of volumes that shows the moment.
+fn holder_over<F: JournalFiles>(
+    rt: &(impl Threads + Sync),
+    alloc: Global,
+    files: &F,
+    names: &[PathBuf],
+    archive: &Archive,
+    query: &HolderQuery,
+    settings: Settings,
+    style: &Style,
+) -> Result<Told, FilesError> {
+    let bounds = Bounds {
+        skew: query.skew,
+        transit: query.transit,
+    };
+    let moment = query.at.milliseconds();
+    match shown_at(alloc, files, archive, moment, query.skew, query.transit)? {
+        Shown::Journals(pair, shown) => {
+            let read = read_pair(&pair, shown)?;
+            let told = holder_told(rt, alloc, &read, query, settings, style);
+            noted(alloc, names, &pair, told)
+        }
+        Shown::Lacking(side, lack) => {
+            let told = lacking(alloc, names, side, &lack, &bounds)?;
+            Ok(told)
+        }
+    }
+}
+
+/// What is told, behind a note for each file that is passed over.
+fn behind_passed(
+    alloc: Global,
+    names: &[PathBuf],
+    passed: &[PassedOver],
+    told: Told,
+) -> Result<Told, FilesError> {
+    let mut notes = passed_over(alloc, names, passed)?;
+    notes.extend_from_slice(&told.notes)?;
+    Ok(Told {
+        text: told.text,
+        status: told.status,
+        notes,
+    })
+}
+
+/// The report on a certificate over the volumes that files are. Errors are those of `archive_desk::answer`.
+pub fn explain_files<F: JournalFiles>(
+    rt: &(impl Threads + Sync),
+    alloc: Global,
+    files: &F,
+    names: &[PathBuf],
+    certificate: &[u8],
+    skew: Skew,
+    transit: Transit,
+    style: &Style,
+) -> Result<Told, FilesError> {
+    let bounds = Bounds { skew, transit };
+    let catalogue = catalogue_of(alloc, files, Agreement::OfEach)?;
+    let told = explain_over(
+        rt,
+        alloc,
+        files,
+        names,
+        &catalogue.archive,
+        certificate,
+        &bounds,
+        style,
+    )?;
+    behind_passed(alloc, names, &catalogue.passed_over, told)
+}
+
+/// The report on a search for a holder over the volumes that files are. Errors are those of `archive_desk::answer`.
+pub fn holder_in_files<F: JournalFiles>(
+    rt: &(impl Threads + Sync),
+    alloc: Global,
+    files: &F,
+    names: &[PathBuf],
+    query: &HolderQuery,
+    settings: Settings,
+    style: &Style,
+) -> Result<Told, FilesError> {
+    let agreement = match settings {
+        Settings::MustAgree => Agreement::OfBoth,
+        Settings::MayDiffer => Agreement::OfEach,
+    };
+    let catalogue = catalogue_of(alloc, files, agreement)?;
+    let told = holder_over(
+        rt,
+        alloc,
+        files,
+        names,
+        &catalogue.archive,
+        query,
+        settings,
+        style,
+    )?;
+    behind_passed(alloc, names, &catalogue.passed_over, told)
+}

@@ -1,0 +1,168 @@
+//! A report, written.
+
+ghost use Rattle.std.specs.Result.{ForOk};
+ghost use Rattle.journal_text.specs.Closed.{IsClosed};
+
+use crate::explaining::explain_read;
+use archive_desk::Told;
+use desk_intake::{DeskError, ReadPair};
+use desk_words::ReportForm;
+use journal_lines::{Journal, JournalFault};
+use journal_text::write;
+use lead_time::{Skew, Transit};
+use pair_ruling::{status_of, warnings};
+use report_data::data_of;
+use report_page::{Origin, Page, page_of};
+use report_picture::{picture_of, svg_of};
+use report_text::{Spelling, spelled, text_of};
+use report_words::{Explanation, document_of};
+use std::alloc::{AllocError, Global};
+use std::thread::Threads;
+use zone_times::ZoneFile;
+
+/// How a report is told.
+#[derive(Clone, Copy)]
+pub struct Style<'a> {
+    pub form: ReportForm,
+    /// The zone in whose local time moments are told too.
+    pub zone: Option<&'a ZoneFile>,
+}
+
+/// The program that a page names.
+pub const PROGRAM: &str = "fengtuyas-desk of 2026-11-27";
+
+/// What a question was asked of: two texts as journals, a certificate's text, and the bounds on clocks and answers.
+#[derive(Clone, Copy)]
+pub struct Subject<'a> {
+    pub pair: &'a ReadPair,
+    pub certificate: &'a [u8],
+    pub skew: Skew,
+    pub transit: Transit,
+}
+
+/// The text of a journal, or none where it is no journal.
+fn journal_text(
+    alloc: Global,
+    journal: &Result<Journal, JournalFault>,
+) -> Result<Vec<u8>, DeskError> {
+    match journal {
+        Ok(journal) => match write(alloc, journal.role, journal.head, journal.lines.as_slice()) {
+            Ok(text) => Ok(text),
+            Err(_) => Err(DeskError::Memory),
+        },
+        Err(_) => Ok(Vec::new(alloc)),
+    }
+}
+
+/// A report as a page, with this picture.
+pub fn page_told<'a>(
+    alloc: Global,
+    spelling: &'a Spelling,
+    picture: &'a [u8],
+    subject: &'a Subject<'a>,
+) -> Result<Vec<u8>, DeskError> {
+    let primary = journal_text(alloc, &subject.pair.primary)?;
+    let secondary = journal_text(alloc, &subject.pair.secondary)?;
+    let origin = Origin {
+        program: PROGRAM,
+        primary: &primary,
+        secondary: &secondary,
+        certificate: subject.certificate,
+        skew: subject.skew,
+        transit: subject.transit,
+    };
+    let page = Page {
+        spelling,
+        picture,
+        origin,
+    };
+    let text = page_of(alloc, &page)?;
+    Ok(text)
+}
+
+/// The picture of what a certificate shows, or none where nothing of it was looked at.
+fn picture_told(alloc: Global, explanation: &Explanation) -> Result<Vec<u8>, AllocError> {
+    match &explanation.report {
+        Some(report) => svg_of(alloc, &picture_of(alloc, report)?),
+        None => Ok(Vec::new(alloc)),
+    }
+}
+
+/// A report on a ruling, in the form that is asked for.
+pub fn written<'a>(
+    alloc: Global,
+    explanation: &Explanation,
+    subject: &'a Subject<'a>,
+    style: &Style,
+) -> Result<Vec<u8>, DeskError> {
+    let document = document_of(alloc, explanation)?;
+    let spelling = spelled(alloc, &document, style.zone)?;
+    match style.form {
+        ReportForm::Plain => {
+            let text = text_of(alloc, &spelling)?;
+            Ok(text)
+        }
+        ReportForm::Page => {
+            let picture = picture_told(alloc, explanation)?;
+            page_told(alloc, &spelling, &picture, subject)
+        }
+        ReportForm::Json => {
+            let text = data_of(alloc, explanation, subject.certificate)?;
+            Ok(text.into_bytes())
+        }
+    }
+}
+
+/// The warnings on what two texts are as journals; none where one isn't.
+fn warnings_on(
+    alloc: Global,
+    pair: &ReadPair,
+    skew: Skew,
+    transit: Transit,
+) -> Result<Vec<u8>, AllocError> {
+    match (&pair.primary, &pair.secondary) {
+        (Ok(primary), Ok(secondary)) => warnings(alloc, primary, secondary, skew, transit),
+        (Ok(_), Err(_)) => Ok(Vec::new(alloc)),
+        (Err(_), _) => Ok(Vec::new(alloc)),
+    }
+}
+
+/// The report on a certificate's text over two texts as journals, with clocks within this skew of true time and answers
+/// that reach their clients within this transit; status 0 where the certificate is accepted. `Memory` where a growth was
+/// refused.
+pub fn explain_told(
+    rt: &(impl Threads + Sync),
+    alloc: Global,
+    pair: &ReadPair,
+    certificate: &[u8],
+    skew: Skew,
+    transit: Transit,
+    style: &Style,
+) -> Result<Told, DeskError>
+    requires primary_closed { ForOk pair.now.primary (λ journal. IsClosed journal.lines) }
+    requires secondary_closed { ForOk pair.now.secondary (λ journal. IsClosed journal.lines) }
+{
+    let claim = certificate::read(alloc, certificate);
+    let explanation = explain_read(
+        rt,
+        alloc,
+        &pair.primary,
+        &pair.secondary,
+        &claim,
+        skew,
+        transit,
+    )?;
+    let subject = Subject {
+        pair,
+        certificate,
+        skew,
+        transit,
+    };
+    let text = written(alloc, &explanation, &subject, style)?;
+    let notes = warnings_on(alloc, pair, skew, transit)?;
+    Ok(Told {
+        text,
+        status: status_of(&explanation.ruling),
+        notes,
+    })
+}
