@@ -10,6 +10,7 @@ from .certificates import read_certificate
 from .changing import changed_certificate, changed_lines, changed_text, changed_words
 from .clocks import least_skew, refusal_of
 from .disturbing import disturbed
+from .explaining import difference_of, offered
 from .finding import judged, words_of_query
 from .rules import MOST_SKEW
 from .running import CLIENTS, drawn_run
@@ -205,14 +206,19 @@ def check_holders(question, lines):
 
 def differing(question, lines, seen):
     """The differences of a batch, each as an audit of one certificate."""
-    journals, certificates = parts_of(question.text)
-    place = question.words.index("--workers")
-    words = ["audit", *question.words[1:place], *question.words[place + 2 :]]
-    found = []
-    for mine, its, certificate in zip(lines, seen, certificates):
-        if mine != its:
-            found.append(Difference(words, journals + certificate, mine, its))
-    return found
+    audits = zip(lines, seen, audits_of(question))
+    return [Difference(words, text, mine, its) for mine, its, (words, text) in audits if mine != its]
+
+
+def audits_of(question):
+    """The command words and the input of each audit that a question asks for."""
+    if question.words[0] == "audit":
+        yield question.words, question.text
+    elif question.words[0] == "batch":
+        journals, certificates = parts_of(question.text)
+        place = question.words.index("--workers")
+        words = ["audit", *question.words[1:place], *question.words[place + 2 :]]
+        yield from ((words, journals + certificate) for certificate in certificates)
 
 
 def kinds_warned(warned):
@@ -237,14 +243,23 @@ def kind_of(line):
     return f"L1 {words[-1]}" if words[1] == "L1" else words[1]
 
 
-def compare_all(desk, questions):
-    """The verdicts that were met, and the differences."""
-    met, differences = collections.Counter(), []
+def compare_all(desk, questions, rng):
+    """The verdicts that were met, the differences, and inputs that may be explained."""
+    met, differences, audits = collections.Counter(), [], []
     for question in questions:
         kinds, found = compare(desk, question)
         met.update(kinds)
         differences += found
-    return met, differences
+        audits += [(kind, *audit) for kind, audit in zip(kinds, audits_of(question))]
+    return met, differences, list(offered(rng, audits))
+
+
+def compare_explanation(desk, words, text):
+    """The difference between the desk's explanation and the second's, None where they are equal."""
+    question = Question(words, text)
+    mine, its = answer(words, text), desk_answer(desk, question)
+    told = difference_of(mine, its)
+    return told and Difference(words, text, *told)
 
 
 def at_limits():
@@ -272,9 +287,10 @@ def at_limits():
 
 
 def compare_limits(desk):
-    return compare_all(desk, at_limits())
+    return compare_all(desk, at_limits(), random.Random("limits"))
 
 
 def compare_draw(desk, seed, index):
     """All questions of one draw."""
-    return compare_all(desk, Draw(random.Random(f"{seed} {index}")).questions())
+    rng = random.Random(f"{seed} {index}")
+    return compare_all(desk, Draw(rng).questions(), rng)

@@ -1,4 +1,4 @@
-"""Answers as the desk does: `audit`, `batch`, `timeline` and `clocks`."""
+"""Answers as the desk does: `audit`, `batch`, `explain`, `timeline` and `clocks`."""
 import sys
 from typing import NamedTuple
 
@@ -7,6 +7,8 @@ from .certificates import read_certificate
 from .clocks import farthest, least_skew, refusal_of, takes_behind
 from .journals import MOST_TRANSIT, read_journal
 from .merging import Pair, merged
+from .report_text import report_text
+from .reports import explanation, spelled
 from .rules import MOST_SKEW, book_of
 from .settings import warnings_of
 from .words import Malformed, Refused, number_of
@@ -18,8 +20,11 @@ OPTIONS = {
     "--transit-ms": (0, MOST_TRANSIT, False),
     "--workers": (1, MOST_WORKERS, True),
 }
+# Options without a value.
+FLAGS = ("--json",)
 COMMANDS = {
     "audit": ("--skew-ms", "--transit-ms"),
+    "explain": ("--skew-ms", "--transit-ms", "--json"),
     "batch": ("--skew-ms", "--transit-ms", "--workers"),
     "timeline": (),
     "clocks": (),
@@ -102,11 +107,24 @@ class Evidence:
         return "accepted"
 
 
-def audited(text, skew, transit):
+def parted(text):
+    """Two journals, read, and the certificate behind them."""
     first, rest = cut(text)
     second, certificate = cut(rest)
-    evidence = Evidence(first, second)
+    return Evidence(first, second), certificate
+
+
+def audited(text, skew, transit):
+    evidence, certificate = parted(text)
     return evidence.verdict(certificate, skew, transit) + "\n", evidence.warned(skew, transit)
+
+
+def explained(text, skew, transit, as_json):
+    """Why a certificate is accepted or refused, as one JSON object or as text."""
+    evidence, certificate = parted(text)
+    said = explanation(evidence, certificate, skew, transit)
+    status = int(said["verdict"] != "accepted")
+    return Answer(spelled(said) if as_json else report_text(said), evidence.warned(skew, transit), status)
 
 
 def batched(text, skew, transit):
@@ -142,17 +160,19 @@ def clocks(text):
 
 
 def options_of(words, names):
-    """The numbers that command words give for these options."""
+    """What command words give for these options."""
     values = {}
     words = list(words)
     while words:
         name, equals, value = words.pop(0).partition("=")
-        if not equals:
-            if not words:
-                raise Usage
-            value = words.pop(0)
         if name not in names or name in values:
             raise Usage
+        if name in FLAGS and not equals:
+            values[name] = True
+            continue
+        if name in FLAGS or not (equals or words):
+            raise Usage
+        value = value if equals else words.pop(0)
         least, most, _ = OPTIONS[name]
         try:
             values[name] = number_of(value.encode(), most)
@@ -160,7 +180,7 @@ def options_of(words, names):
             raise Usage from None
         if values[name] < least:
             raise Usage
-    if any(OPTIONS[name][2] and name not in values for name in names):
+    if any(name in OPTIONS and OPTIONS[name][2] and name not in values for name in names):
         raise Usage
     return values
 
@@ -176,6 +196,8 @@ def answer(words, text):
         written, warned = audited(text, skew, transit)
     elif words[0] == "batch":
         written, warned = batched(text, skew, transit)
+    elif words[0] == "explain":
+        return explained(text, skew, transit, "--json" in values)
     elif words[0] == "timeline":
         written = timeline(text)
     else:
