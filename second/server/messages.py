@@ -8,7 +8,7 @@ CLIENT_KINDS = (SOLICIT, REQUEST, RENEW, REBIND, RELEASE)
 KIND_NAMES = {SOLICIT: "SOLICIT", REQUEST: "REQUEST", RENEW: "RENEW", REBIND: "REBIND", RELEASE: "RELEASE"}
 KINDS_WITHOUT_SERVER = (SOLICIT, REBIND)
 
-CLIENT_IDENTIFIER, SERVER_IDENTIFIER, RELAY_MESSAGE = 1, 2, 9
+CLIENT_IDENTIFIER, SERVER_IDENTIFIER, OPTION_REQUEST, RELAY_MESSAGE = 1, 2, 6, 9
 STATUS_CODE, INTERFACE_IDENTIFIER, IA_PD, IA_PREFIX, REMOTE_IDENTIFIER = 13, 18, 25, 26, 37
 COUNTED_CODES = (CLIENT_IDENTIFIER, SERVER_IDENTIFIER, RELAY_MESSAGE, INTERFACE_IDENTIFIER)
 COUNTED_CODES_OF_A_RELAY = COUNTED_CODES + (REMOTE_IDENTIFIER,)
@@ -105,6 +105,16 @@ def read_association(data):
     return association
 
 
+def judge_requests(octets):
+    """An option request has whole codes, and there is one at most: asked behind the faults of all other options."""
+    requests = [data for code, data in options(octets, 4) if code == OPTION_REQUEST]
+    for number, data in enumerate(requests):
+        if number > 0:
+            raise Refused("DuplicateId")
+        if len(data) % 2 != 0:
+            raise Refused("OptionLength")
+
+
 def read_client_message(octets):
     if len(octets) < 4:
         raise Refused("Short")
@@ -120,6 +130,7 @@ def read_client_message(octets):
             if len(message.associations) == MOST_IAS:
                 raise Refused("TooManyIas")
             message.associations.append(read_association(data))
+    judge_requests(octets)
     return message
 
 

@@ -59,6 +59,10 @@ def read_messages():
     equal(name_of("03" + client[2:] + "0002000a" + OWN.hex()[:-1] + "8"), "NotOurs")
     equal(name_of(client + "0019000b" + "00" * 11), "OptionLength")
     equal(name_of("010a0b0c00010083" + "00" * 131), "OptionLength")
+    equal(messages.decode(bytes.fromhex(client + "000600020017"), OWN).client, FIRST)
+    equal(name_of(client + "000600030017" + "00"), "OptionLength")
+    equal(name_of(client + "000600020017" * 2), "DuplicateId")
+    equal(name_of(client + "0006000100" + "0019000b" + "00" * 11), "OptionLength")
     equal(messages.decode(bytes.fromhex("010a0b0c00010082" + "00" * 130), OWN).client, bytes(130))
     for count, wanted in ((32, None), (33, ("TooDeep", None))):
         octets = bytes.fromhex(client)
