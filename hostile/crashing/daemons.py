@@ -54,8 +54,10 @@ def short_disk(octets):
 class Daemon:
     """One server; `faults` takes what it did that it mustn't. Its link has the key, if there is one."""
 
-    def __init__(self, node, folder, side, link, volume_lines, faults, key=None):
+    def __init__(self, node, folder, side, link, volume_lines, faults, key=None, notes=None):
         self.node, self.folder, self.side, self.faults = node, folder / side, side, faults
+        # Where its notes are kept, its directory if nothing is said; and whether its disk has no room or takes no writes.
+        self.noted, self.is_short = notes or self.folder, False
         self.port = free_port(socket.SOCK_DGRAM)
         self.process = self.wanted = self.begun = None
         self.starts, self.kills, self.stops, self.full = 0, 0, 0, 0
@@ -72,7 +74,7 @@ class Daemon:
         (self.folder / "settings.toml").write_text(settings)
 
     def notes(self):
-        return self.folder / f"notes-{self.starts}"
+        return self.noted / (f"notes-{self.starts}" if self.noted == self.folder else f"notes-{self.side}-{self.starts}")
 
     def said(self):
         return self.notes().read_text(errors="replace")
@@ -92,7 +94,7 @@ class Daemon:
         if room is not None:
             volume = self.last_volume()
             how = short_disk((volume.stat().st_size if volume else 0) + room)
-        self.wanted = {DISK_FAILED, NOT_STARTED} if room is not None else set()
+        self.wanted = {DISK_FAILED, NOT_STARTED} if room is not None or self.is_short else set()
         with open(self.notes(), "wb") as notes:
             words = [self.node, "serve", "--dir", self.folder]
             self.process = subprocess.Popen(words, stdin=subprocess.DEVNULL, stdout=subprocess.DEVNULL, stderr=notes, **how)
@@ -100,6 +102,12 @@ class Daemon:
 
     def is_up(self):
         return self.process is not None and self.process.poll() is None
+
+    def shorten(self, is_short):
+        """Its disk takes no writes from now on, or does again."""
+        self.is_short = is_short
+        if is_short:
+            self.wanted |= {DISK_FAILED, NOT_STARTED}
 
     def look(self):
         """Notes how long its start took, and whether it has ended as it may."""

@@ -93,7 +93,7 @@ class Volumes:
 
 
 def matched(answers, sides):
-    """The grant line of each answer, by its reading; and what has none. Each line is that of one answer."""
+    """The grant line of each answer, by its reading; and each that has none, with what is said of it. Each line is that of one answer."""
     free = {side: {place: list(lines) for place, lines in volumes.grants.items()} for side, volumes in sides.items()}
     found, missing = [], []
     for answer in sorted(answers, key=lambda answer: answer.came):
@@ -103,7 +103,7 @@ def matched(answers, sides):
             lines.remove(fit[0])
             found.append((answer, fit[0][0]))
         else:
-            missing.append(f"no grant line of {answer}; there are {lines[:3]}")
+            missing.append((answer, f"no grant line of {answer}; there are {lines[:3]}"))
     return found, missing
 
 

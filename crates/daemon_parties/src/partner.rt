@@ -11,7 +11,8 @@ use crate::standing::{Standing, parting_of};
 use daemon_devices::{Connection, Door, Leaving, WaitingRoom};
 use lead_time::Reading;
 use link_entry::{EntryFault, Keeper};
-use link_talk::Handed;
+use link_talk::{Handed, Stage};
+use order_book::Order;
 use server_notices::{Happening, Log, Parting};
 use server_run::Running;
 use server_settings::Settings;
@@ -214,6 +215,27 @@ impl<D: Door> Partner<D> {
         match self.hear_standing(running, settings, has_other, now, clocks, log) {
             Ok(has_come) => Ok(self.waiting.has_come() || has_come),
             Err(error) => Err(error),
+        }
+    }
+
+    /// Sends the partner a contact: over the connection, where the two have joined over one; else it is a line that the
+    /// partner is told of over the next. Where the book refuses it now, nothing is done.
+    pub fn contact<F: Folder + Drop, P: Drop>(
+        &mut self,
+        running: &mut Running<F, P>,
+        settings: &Settings,
+        now: &Moment,
+    )
+    where
+        F::File: Drop,
+        ensures files { HasSameFiles running.old running.new }
+        ensures same { self.new ≡ self.old }
+    {
+        match (&mut self.standing, running.stage()) {
+            (Some(standing), Some(Stage::Joined { .. })) => standing.beat(running, settings, now),
+            _ => {
+                let _refused = running.serve(now.reading, &Order::SendContact);
+            }
         }
     }
 

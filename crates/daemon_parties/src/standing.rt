@@ -160,6 +160,24 @@ impl<D: Door> Standing<D> {
         }
     }
 
+    /// Sends a contact, where the two have joined (`link_talk::Came::Beat`).
+    pub(crate) fn beat<F: Folder + Drop, P: Drop>(
+        &mut self,
+        running: &mut Running<F, P>,
+        settings: &Settings,
+        now: &Moment,
+    )
+    where
+        F::File: Drop,
+        ensures files { HasSameFiles running.old running.new }
+        ensures connection { self.new.connection ≡ self.old.connection }
+    {
+        match running.heed(settings, now.reading, &Came::Beat) {
+            Ok(()) => {}
+            Err(error) => self.parting = Some(parting_of(error)),
+        }
+    }
+
     /// Parts with a partner that lacks messages which this server can't tell again: nothing is said to it.
     fn look_at_stage<F: Folder + Drop, P: Drop>(&mut self, running: &mut Running<F, P>)
     where

@@ -7,7 +7,7 @@ use Rattle.failover_message.specs.declared.frame.Frame.{Frame}
 use Rattle.failover_message.specs.Stream.{Splits}
 use Rattle.locked_book.specs.declared.receipt.Receipt.{Receipt}
 use Rattle.link_talk.specs.declared.came.Came.{Came}
-use Rattle.link_talk.specs.declared.came.Came.TheVariants.{Octets, Nothing}
+use Rattle.link_talk.specs.declared.came.Came.TheVariants.{Octets, Nothing, Beat}
 use Rattle.link_talk.specs.declared.outbox.Handed.{Handed}
 use Rattle.link_talk.specs.Receipts.{Goes}
 use Rattle.link_talk.specs.Handed.{said_of}
@@ -54,6 +54,9 @@ octets_are came octets held rest frames is split =
 
 pub nothing_are : (came : Came) (held : List ℕ) → came ≡ Nothing → AreMessages came held held []
 nothing_are came held is = subst (λ c. AreMessages c held held []) (sym is) (refl, refl)
+
+pub beat_are : (came : Came) (held : List ℕ) → came ≡ Beat → AreMessages came held held []
+beat_are came held is = subst (λ c. AreMessages c held held []) (sym is) (refl, refl)
 
 -- a promise of what is done holds where it is done
 pub if_done : {T E P : Type 0} (result : Result T E) → P → OnOk result P

@@ -8,7 +8,7 @@ use Rattle.locked_book.specs.declared.receipt.Receipt.{Receipt}
 use Rattle.link_talk.specs.declared.outbox.Handed.{Handed}
 use Rattle.link_talk.specs.declared.stage.Stage.{Stage}
 use Rattle.link_talk.specs.declared.came.Came.{Came}
-use Rattle.link_talk.specs.declared.came.Came.TheVariants.{Octets, Nothing, End}
+use Rattle.link_talk.specs.declared.came.Came.TheVariants.{Octets, Nothing, Beat, End}
 use Rattle.link_talk.specs.Talking.{messages_in, Met, Hears, HearsFront}
 
 -- a talk as its callers see it: the octets of a frame that hasn't come whole, how far the two ends have come, and the
@@ -28,6 +28,7 @@ pub record Carries (held octets rest : List ℕ) (messages : List PartnerMessage
 abbrev pub AreMessages : Came → List ℕ → List ℕ → List PartnerMessage → Type 0
 AreMessages (Octets octets) held rest messages = Carries held octets.now rest messages
 AreMessages Nothing held rest messages = (messages ≡ []) × (rest ≡ held)
+AreMessages Beat held rest messages = (messages ≡ []) × (rest ≡ held)
 AreMessages End held rest messages = (messages ≡ []) × (rest ≡ held)
 
 -- A front of the messages that came was heard. Where what came is no frame, nothing was.

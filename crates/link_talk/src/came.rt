@@ -7,6 +7,8 @@ pub enum Came<'a> {
     Octets(&'a [u8]),
     /// None for a while, in which the partner answers what it was sent.
     Nothing,
+    /// None, and a contact is due to the partner.
+    Beat,
     /// None, and none will come.
     End,
 }

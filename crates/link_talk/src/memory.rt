@@ -4,7 +4,7 @@ ghost use Rattle.std.specs.Prelude.{◌≡◌};
 ghost use Rattle.link_talk.specs.Receipts.{last_taken};
 
 use binding_rules::{BindReply, Body, Counter, Outcome, PartnerMessage, Status, Update};
-use journal_lines::Event;
+use journal_lines::{Event, KeptUnit};
 use locked_book::Receipt;
 use order_book::Reply;
 use prefix_range::Prefix;
@@ -44,8 +44,12 @@ pub(crate) struct Told {
     term: u32,
     /// The serial of the message that was sent last: 0 where none was.
     pub sent: Counter,
-    /// A serial that the partner has taken: the greatest of an update that it replied to. 0 where there is none.
+    /// A serial that the partner has taken: the greatest of an update that it replied to, of the changes of the open
+    /// volume. 0 where there is none. Of an older change it may have replied to an earlier telling, which the receipts
+    /// have no more.
     pub answered: Counter,
+    /// The number of a unit's last change when the open volume began, by the address at which it begins.
+    changes_before: BTreeMap<u128, Counter>,
     /// By the address at which a unit begins.
     updates: BTreeMap<u128, Telling>,
 }
@@ -58,6 +62,7 @@ impl Told {
             term: 0,
             sent: Counter::ZERO,
             answered: Counter::ZERO,
+            changes_before: BTreeMap::new(alloc),
             updates: BTreeMap::new(alloc),
         }
     }
@@ -81,9 +86,27 @@ impl Told {
         Ok(())
     }
 
+    /// A head line of a volume that says how a unit stood when it began.
+    fn note_kept(&mut self, kept: &KeptUnit) -> Result<(), AllocError> {
+        self.changes_before.insert(kept.prefix.first(), kept.mine)?;
+        Ok(())
+    }
+
+    /// Returns whether the open volume made a change of a unit.
+    fn is_of_this_volume(&self, address: u128, change: Counter) -> bool {
+        match self.changes_before.get(&address) {
+            Some(before) => change > *before,
+            None => true,
+        }
+    }
+
     /// A reply that was taken.
     fn note_reply(&mut self, reply: &BindReply) {
-        if let Some(telling) = self.updates.get(&reply.prefix.first()) {
+        let address = reply.prefix.first();
+        if !self.is_of_this_volume(address, reply.of) {
+            return;
+        }
+        if let Some(telling) = self.updates.get(&address) {
             if telling.mine == reply.of && telling.serial > self.answered {
                 self.answered = telling.serial;
             }
@@ -116,6 +139,8 @@ impl Told {
             match &receipts[index].line.event {
                 Event::Send(message) => self.note_sent(message)?,
                 Event::Take(message) => self.note_taken(message, &receipts[index].reply),
+                Event::Base(_) => self.answered = Counter::ZERO,
+                Event::Unit(kept) => self.note_kept(kept)?,
                 _ => {}
             }
         }

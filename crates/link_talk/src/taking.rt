@@ -214,6 +214,27 @@ impl<'a, B: PairBook> End<'a, B> {
         }
     }
 
+    /// A contact is due. It is sent where the two ends have joined: its serial is the next, so what follows it would be
+    /// refused without it.
+    #[tactic(auto, using(crate::proofs::Hearing::quiet))]
+    pub(crate) fn beat(
+        &self,
+        pass: &mut B::Pass,
+        duties: &mut Duties,
+        stage: &Stage,
+    ) -> Result<(), TalkError>
+        ensures { Hears self.now.role [] (met_at stage.now) (met_at stage.now)
+            (B.Pass.receipts pass.old) (B.Pass.receipts pass.new) duties.old.out.items duties.new.out.items }
+    {
+        match stage {
+            Stage::Joined { .. } => {
+                self.order(pass, duties, &Order::SendContact)?;
+                Ok(())
+            }
+            Stage::Greeting | Stage::Refused | Stage::Ended { .. } => Ok(()),
+        }
+    }
+
     /// A frame without a message, at an end that has joined the other.
     #[tactic(auto, using(crate::proofs::Saying::saying))]
     fn heed_word(

@@ -73,6 +73,7 @@ fn take_in<B: PairBook>(
             end.heed_all(pass, duties, stage, &frames)
         }
         Came::Nothing => end.keep_quiet(pass, duties, stage),
+        Came::Beat => end.beat(pass, duties, stage),
         Came::End => {
             *stage = stage.ended();
             Ok(())

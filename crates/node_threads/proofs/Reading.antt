@@ -5,7 +5,7 @@ use Rattle.binding_rules.specs.declared.message.PartnerMessage.{PartnerMessage}
 use Rattle.binding_rules.specs.declared.role.Role.{Role}
 use Rattle.locked_book.specs.declared.receipt.Receipt.{Receipt}
 use Rattle.link_talk.specs.declared.came.Came.{Came}
-use Rattle.link_talk.specs.declared.came.Came.TheVariants.{Octets, Nothing, End}
+use Rattle.link_talk.specs.declared.came.Came.TheVariants.{Octets, Nothing, Beat, End}
 use Rattle.link_talk.specs.declared.outbox.Handed.{Handed}
 use Rattle.link_talk.specs.Talking.{Met}
 use Rattle.link_talk.specs.Turning.{Carries, AreMessages, octets_of, IsTurn}
@@ -30,6 +30,7 @@ front_by (Octets octets) held rest messages heard left are all =
       carries = subst (λ ms. Carries held octets.now rest ms) all are;
     })
 front_by Nothing held rest messages heard left are all = inl (front_empty heard left (sym all ∙ are.0))
+front_by Beat held rest messages heard left are all = inl (front_empty heard left (sym all ∙ are.0))
 front_by End held rest messages heard left are all = inl (front_empty heard left (sym all ∙ are.0))
 
 pub front_heard : (role : Role) (it : Came) (held : List ℕ) (x y : Met) (a b : List Receipt) (o p : List Handed)
@@ -45,6 +46,7 @@ pub heard_on : (it : Came) (held rest : List ℕ) (messages : List PartnerMessag
     → HeardOn held rest (octets_of it) messages
 heard_on (Octets octets) held rest messages are = inl are
 heard_on Nothing held rest messages are = inr (refl, are.1, are.0)
+heard_on Beat held rest messages are = inr (refl, are.1, are.0)
 heard_on End held rest messages are = inr (refl, are.1, are.0)
 
 -- ---- turns one behind another
