@@ -1,4 +1,5 @@
-//! Datagrams, and what goes back: `datagram A READING OWN OCTETS`, `told A READING PARTNER OWN OCTETS`.
+//! Datagrams, and what goes back: `datagram A READING OWN OCTETS`, `told A READING PARTNER OWN OCTETS`, and `each` with the
+//! same words, as a server of years takes them.
 //!
 //! OWN is the identifier of the book's server, PARTNER is `up` or `down`.
 
@@ -6,7 +7,7 @@ use crate::fault::Fault;
 use crate::shelf::Shelf;
 use crate::words::Words;
 use client_service::{Alone, Answer, Partner, Silence, answer_to};
-use dhcp6_pd::decode;
+use dhcp6_pd::{ClientMessage, decode};
 use line_words::{add_number, add_word};
 use server_book::Manner;
 use std::alloc::{AllocError, Global};
@@ -76,12 +77,30 @@ fn partner_in(words: &mut Words<'_>) -> Result<Partner, Fault> {
     }
 }
 
-/// `told A READING PARTNER OWN OCTETS`: the number of the last line that the answer tells of, or `-`, and the answer;
-/// else why there is none.
+/// What a RELEASE orders of each IA_PD.
+#[derive(Clone, Copy)]
+pub enum Orders {
+    /// Its first prefix.
+    First,
+    EachPrefix,
+}
+
+impl Orders {
+    fn of(self, message: ClientMessage) -> ClientMessage {
+        match self {
+            Orders::First => message,
+            Orders::EachPrefix => message.by_prefix(),
+        }
+    }
+}
+
+/// `told A READING PARTNER OWN OCTETS`, or `each ..`: the number of the last line that the answer tells of, or `-`, and
+/// the answer; else why there is none.
 pub fn add_told(
     alloc: Global,
     shelf: &mut Shelf,
     words: &mut Words<'_>,
+    orders: Orders,
     out: &mut Vec<u8>,
 ) -> Result<(), Fault> {
     let book = shelf.book_mut(words.letter()?)?;
@@ -92,6 +111,7 @@ pub fn add_told(
     let Ok(message) = decode(alloc, &octets, &own) else {
         return Ok(add_word(out, b"none")?);
     };
+    let message = orders.of(message);
     match answer_to(
         alloc,
         &Alone,

@@ -109,6 +109,17 @@ pub fn add_quiet(
     add_turn(alloc, shelf, letter, words, &Came::Nothing, out)
 }
 
+/// `beat A READING`: a contact of A's is due.
+pub fn add_beat(
+    alloc: Global,
+    shelf: &mut Shelf,
+    words: &mut Words<'_>,
+    out: &mut Vec<u8>,
+) -> Result<(), Fault> {
+    let letter = words.letter()?;
+    add_turn(alloc, shelf, letter, words, &Came::Beat, out)
+}
+
 /// `over A READING`: A's wire has ended.
 pub fn add_over(
     alloc: Global,

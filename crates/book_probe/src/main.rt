@@ -24,6 +24,7 @@ mod visits;
 mod volumes;
 mod words;
 
+use datagrams::Orders;
 use fault::Fault;
 use shelf::Shelf;
 use std::alloc::Global;
@@ -91,10 +92,12 @@ impl Probe {
             "tell" => orders::add_told(alloc, &mut self.shelf, words, out),
             "ask" => questions::add_answer(alloc, &self.shelf, words, out),
             "datagram" => datagrams::add_answered(alloc, &mut self.shelf, words, out),
-            "told" => datagrams::add_told(alloc, &mut self.shelf, words, out),
+            "told" => datagrams::add_told(alloc, &mut self.shelf, words, Orders::First, out),
+            "each" => datagrams::add_told(alloc, &mut self.shelf, words, Orders::EachPrefix, out),
             "copy" => volumes::add_copied(alloc, &mut self.shelf, words, out),
             "next" => volumes::add_next(alloc, &mut self.shelf, words, out),
             "quiet" => links::add_quiet(alloc, &mut self.shelf, words, out),
+            "beat" => links::add_beat(alloc, &mut self.shelf, words, out),
             "over" => links::add_over(alloc, &mut self.shelf, words, out),
             "hear" => links::add_heard(alloc, &mut self.shelf, words, out),
             "carry" => links::add_carried(alloc, &mut self.shelf, words, out),

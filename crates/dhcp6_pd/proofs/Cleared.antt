@@ -4,8 +4,7 @@ use Rattle.std.specs.Prelude.{slice_index}
 use Rattle.std.proofs.lemmas.Nat.{div-add-mod'}
 use Rattle.std.proofs.Math.Nat.{mul-mod_left}
 use Rattle.prefix_range.specs.Prefix.{Prefix, size_of}
-use Rattle.dhcp6_pd.specs.Grammar.{cleared, address_of}
-use Rattle.dhcp6_pd.specs.Faults.{prefix_in}
+use Rattle.dhcp6_pd.specs.Associations.{cleared, address_of, prefix_in}
 
 pub cleared_host : (length address : ℕ) → cleared length address % size_of length ≡ 0
 cleared_host length address =

@@ -15,7 +15,7 @@ use Rattle.dhcp6_pd.specs.declared.numbers.TheConstants.{IA_PREFIX, RELAY_MESSAG
 use Rattle.dhcp6_pd.specs.declared.reads.Reads.{Reads}
 use Rattle.dhcp6_pd.specs.declared.reads.MessageKind.{MessageKind}
 use Rattle.dhcp6_pd.specs.declared.wishes.Wishes.{Wishes}
-use Rattle.dhcp6_pd.specs.declared.numbers.TheConstants.{OPTION_REQUEST, IA_NA, IA_TA}
+use Rattle.dhcp6_pd.specs.declared.numbers.TheConstants.{OPTION_REQUEST, IA_NA, IA_TA, IA_PD}
 use Rattle.dhcp6_pd.specs.Wishes.{request_in, request_once, wish_option, no_wishes}
 use Rattle.dhcp6_pd.specs.declared.option_code.OptionCode.{OptionCode}
 use Rattle.dhcp6_pd.specs.declared.option_code.OptionCode.TheVariants as codes
@@ -24,7 +24,8 @@ use Rattle.dhcp6_pd.specs.declared.relay_options.RelayOptions.{RelayOptions}
 use Rattle.dhcp6_pd.specs.declared.untested.UntestedMessage.{UntestedMessage}
 use Rattle.dhcp6_pd.specs.Options.{DhcpOption}
 use Rattle.dhcp6_pd.specs.Rows.{Row, Done, Broken, Next, row_behind, row_of, code_of, folded}
-use Rattle.dhcp6_pd.specs.Faults.{prefix_in, with_hint, ia_in, duid_or, once, seen_once, with_ia, client_code}
+use Rattle.dhcp6_pd.specs.Associations.{prefix_in, with_hint, ia_in}
+use Rattle.dhcp6_pd.specs.Faults.{duid_or, once, seen_once, with_ia, client_code}
 use Rattle.dhcp6_pd.specs.Faults.{client_option, no_client_options, kind_of, client_in, relay_id_once, relay_code}
 use Rattle.dhcp6_pd.specs.Faults.{relay_option, no_relay_options, to_message, behind, relay_in, or_ignored, by_type}
 use Rattle.dhcp6_pd.specs.Faults.{message_in}
@@ -200,7 +201,8 @@ wish_faults : (w : Wishes) (o : DhcpOption) → Faults OfOptions (wish_option w 
 unfolding wish_option
 wish_faults w o = if_faults OfOptions (o.code == OPTION_REQUEST) _ _
     (bind_faults OfOptions (request_once w.requested o.octets) _ (request_faults w.requested o.octets) (λ _. tt))
-    (if_faults OfOptions (o.code == IA_NA) _ _ tt (if_faults OfOptions (o.code == IA_TA) _ _ tt tt))
+    (if_faults OfOptions (o.code == IA_NA) _ _ tt
+    (if_faults OfOptions (o.code == IA_TA) _ _ tt (if_faults OfOptions (o.code == IA_PD) _ _ tt tt)))
 
 pub client_in_faults : (kind : MessageKind) (octets : List ℕ) → Faults OfOptions (client_in kind octets)
 unfolding client_in

@@ -10,8 +10,10 @@ use Rattle.dhcp6_pd.specs.declared.numbers.TheConstants.{IA_PREFIX}
 use Rattle.dhcp6_pd.specs.declared.message.IaPd.{IaPd}
 use Rattle.dhcp6_pd.specs.Options.{DhcpOption, data_of}
 use Rattle.dhcp6_pd.specs.Rows.{row_of, folded}
-use Rattle.dhcp6_pd.specs.Grammar.{cleared, address_of, SpellsPrefix, SpellsHint, SpellsIa}
-use Rattle.dhcp6_pd.specs.Faults.{prefix_in, with_hint, ia_in}
+use Rattle.dhcp6_pd.specs.Associations.{cleared, address_of, prefix_in, with_hint, ia_in}
+use Rattle.dhcp6_pd.specs.Grammar.{SpellsPrefix, SpellsHint, SpellsIa}
+use Rattle.dhcp6_pd.specs.declared.message.IaPart.{IaPart}
+use Rattle.dhcp6_pd.specs.declared.message.IaPart.TheVariants.{First}
 use Rattle.dhcp6_pd.proofs.Binds.{bind_ok, passed, ok_is}
 use Rattle.dhcp6_pd.proofs.Wholes.{whole, folded_whole, are_options, row_is, octets_drop}
 use Rattle.dhcp6_pd.proofs.Cleared.{prefix_made}
@@ -102,6 +104,7 @@ ia_takes octets ia h e =
     subst (SpellsIa octets) is (record {
       whole = ltb-false (length octets) 12 long.0;
       iaid = refl;
+      part = refl;
       options = all.0;
       spelled = are_options all.0 (drop 12 octets) (octets_drop 12 octets h) all.1;
       hint = hint_takes all.0 b.0 (ap (folded with_hint None) (sym all.1) ∙ b.1);
@@ -113,4 +116,5 @@ ia_again octets ia h =
     let hint : folded with_hint None (row_of (drop 12 octets)) ≡ Ok ia.hint =
     ap (folded with_hint None) (row_is (drop 12 octets) h.options h.spelled)
     ∙ hint_again h.options ia.hint h.hint in
-    rw (le-ltb (length octets) 12 h.whole, hint) (ap (λ (n : ℕ). Ok (record { iaid = n; hint = ia.hint })) (sym h.iaid))
+    rw (le-ltb (length octets) 12 h.whole, hint) (ap (λ (n : ℕ). Ok (record { iaid = n; hint = ia.hint; part = First })) (sym h.iaid)
+    ∙ ap (λ (p : IaPart). Ok (record ia { part = p })) (sym h.part))

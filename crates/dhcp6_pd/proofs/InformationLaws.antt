@@ -1,11 +1,10 @@
 -- What is read as a request for options alone is what the octets spell.
-use Rattle.std.proofs.Common.{◌≡◌, ℕ, Bool, true, false, List, [], ◌∷◌, Option, Some, None, Result, Ok, Err, refl, sym, ap}
+use Rattle.std.proofs.Common.{◌≡◌, ℕ, Bool, true, false, List, [], ◌∷◌, Option, Some, None, Result, Ok, Err, refl, ap}
 use Rattle.std.proofs.Common.{subst, ◌∙◌}
-use Rattle.std.specs.Prelude.{◌&&◌, IfOk, if◌then◌else◌}
+use Rattle.std.specs.Prelude.{◌&&◌, IfOk}
 use Rattle.std.specs.Str.{bytes_eq}
 use Rattle.std.proofs.lemmas.Slice.Eq.{bytes_eq-Decides}
 use Rattle.text_fields.specs.Octets.{AreOctets}
-use Rattle.text_fields.specs.Parsing.{◌>>!◌}
 use Rattle.dhcp6_pd.specs.declared.error.PdFault.{PdFault}
 use Rattle.dhcp6_pd.specs.declared.error.PdFault.TheVariants.{NotOurs, Ignored}
 use Rattle.dhcp6_pd.specs.declared.error.PdError.{PdError}
@@ -48,14 +47,17 @@ inquired_takes own u i read e =
     let a = bind_ok (for_any own u.server) _ i e in
     let h = allowed (has_no_ia u) Ignored _ i a.2 in
     let first = both (is_none u.ias) _ h.0 in
-    let rest = both (is_none u.addresses) (is_none u.temporaries) first.1 in
+    let second = both (is_none u.prefixes) _ first.1 in
+    let rest = both (is_none u.addresses) (is_none u.temporaries) second.1 in
     let server = u.server in (
       names_takes own u.server a.1,
       ap (λ (x : MessageKind). record u { kind = x }) (information_is u.kind read)
           ∙ (ap (λ (x : List IaPd). record u { kind = Information; ias = x }) (none_is u.ias first.0)
-          ∙ (ap (λ (x : List ℕ). record u { kind = Information; ias = []; addresses = x }) (none_is u.addresses rest.0)
-          ∙ (ap (λ (x : List ℕ). record u { kind = Information; ias = []; addresses = []; temporaries = x })
-          (none_is u.temporaries rest.1) ∙ ap (inquiry server) (ok_is _ _ h.1)))),
+          ∙ (ap (λ (x : List IaPd). record u { kind = Information; ias = []; prefixes = x }) (none_is u.prefixes second.0)
+          ∙ (ap (λ (x : List ℕ). record u { kind = Information; ias = []; prefixes = []; addresses = x })
+          (none_is u.addresses rest.0)
+          ∙ (ap (λ (x : List ℕ). record u { kind = Information; ias = []; prefixes = []; addresses = []; temporaries = x })
+          (none_is u.temporaries rest.1) ∙ ap (inquiry server) (ok_is _ _ h.1))))),
     )
 
 inquired_again : (own : List ℕ) (server : Option (List ℕ)) (i : InformationRequest) → NamesOnly own server

@@ -165,6 +165,7 @@ client_takes kind octets u fits type e =
         interface = sees_once false kept.interface (data_of INTERFACE_ID all.0) adds.interface;
         ias = ias_of (data_of IA_PD all.0) kept.ias adds.ias;
         few = adds.ias.few none_yet;
+        prefixes = asks.prefixes;
         requested = asks_spelled (data_of OPTION_REQUEST all.0) wishes.requested asks.requested;
         addresses = asks.addresses;
         temporaries = asks.temporaries;
@@ -198,9 +199,15 @@ client_again octets u h =
       requested = asked_in (data_of OPTION_REQUEST h.options) u.requested;
       addresses = u.addresses;
       temporaries = u.temporaries;
+      prefixes = u.prefixes;
     } in
     let asks : AddsWishes no_wishes h.options wishes =
-    record { requested = asked.0; addresses = h.addresses; temporaries = h.temporaries } in
+    record {
+      requested = asked.0;
+      addresses = h.addresses;
+      temporaries = h.temporaries;
+      prefixes = h.prefixes;
+    } in
     let more : folded wish_option no_wishes (row_of (drop 4 octets)) ≡ Ok wishes =
     ap (folded wish_option no_wishes) (row_is (drop 4 octets) h.options h.spelled)
     ∙ wishes_again h.options no_wishes wishes asks in
@@ -354,6 +361,7 @@ spells_by by [] octets u h = record {
   interface = h.interface;
   ias = h.ias;
   few = h.few;
+  prefixes = h.prefixes;
   requested = h.requested;
   addresses = h.addresses;
   temporaries = h.temporaries;

@@ -9,7 +9,8 @@ use Rattle.client_id.specs.declared.error.ClientIdError.TheVariants.{TooShort, T
 use Rattle.dhcp6_pd.specs.declared.numbers.TheConstants.{MAX_IAS}
 use Rattle.dhcp6_pd.specs.declared.message.IaPd.{IaPd}
 use Rattle.dhcp6_pd.specs.Grammar.{SpellIas}
-use Rattle.dhcp6_pd.specs.Faults.{ia_in, duid_or, once, seen_once, with_ia}
+use Rattle.dhcp6_pd.specs.Associations.{ia_in}
+use Rattle.dhcp6_pd.specs.Faults.{duid_or, once, seen_once, with_ia}
 use Rattle.dhcp6_pd.proofs.Binds.{bind_ok, allowed, ok_is}
 use Rattle.dhcp6_pd.proofs.IaLaws.{ia_takes, ia_again}
 

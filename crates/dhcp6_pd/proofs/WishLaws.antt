@@ -1,20 +1,20 @@
 -- What is read of a client's wishes is what its options say.
-use Rattle.std.proofs.Common.{◌≡◌, ℕ, ◌+◌, ◌*◌, ◌%◌, ◌^◌, ◌<◌, Bool, true, false, List, [], ◌∷◌, ◌++◌, length, Option, Some}
-use Rattle.std.proofs.Common.{None, Result, Ok, Err, refl, sym, ap, subst, ◌∙◌, arith, append_assoc, append-nil, inl, inr}
-use Rattle.std.proofs.Common.{length-append}
+use Rattle.std.proofs.Common.{◌≡◌, ℕ, ◌+◌, ◌%◌, ◌^◌, ◌<◌, Bool, true, false, List, [], ◌∷◌, ◌++◌, length, Option, Some}
+use Rattle.std.proofs.Common.{None, Ok, refl, sym, ap, subst, ◌∙◌, arith, append_assoc, append-nil, inl, inr}
 use Rattle.std.specs.Prelude.{◌==◌, nat_lt, if◌then◌else◌}
 use Rattle.std.specs.List.{AllByRecursion, flat_map}
 use Rattle.std.proofs.lemmas.Bool.{cases_eq, ne_eqb, eqb-true, eq-eqb}
 use Rattle.byteorder.specs.Endian.{big_bytes, big_number}
 use Rattle.byteorder.specs.Numbers.{big_number-reads_back}
 use Rattle.text_fields.specs.Octets.{AreOctets}
-use Rattle.dhcp6_pd.specs.declared.error.PdFault.{PdFault}
-use Rattle.dhcp6_pd.specs.declared.numbers.TheConstants.{OPTION_REQUEST, IA_NA, IA_TA}
+use Rattle.dhcp6_pd.specs.declared.numbers.TheConstants.{OPTION_REQUEST, IA_NA, IA_TA, IA_PD}
 use Rattle.dhcp6_pd.specs.declared.wishes.Wishes.{Wishes}
+use Rattle.dhcp6_pd.specs.declared.message.IaPd.{IaPd}
 use Rattle.dhcp6_pd.specs.Options.{DhcpOption, IsOption, data_of}
 use Rattle.dhcp6_pd.specs.Rows.{folded}
+use Rattle.dhcp6_pd.specs.Associations.{prefixes_in}
 use Rattle.dhcp6_pd.specs.Grammar.{AreCodes, SpellsRequest, iaids_in}
-use Rattle.dhcp6_pd.specs.Wishes.{codes_of, request_in, request_once, with_iaid, wish_option, no_wishes, or_none}
+use Rattle.dhcp6_pd.specs.Wishes.{codes_of, request_in, request_once, with_iaid, wish_option, or_none}
 use Rattle.dhcp6_pd.proofs.Binds.{bind_ok, allowed, ok_is, put}
 use Rattle.dhcp6_pd.proofs.Codes.{option_of}
 use Rattle.dhcp6_pd.proofs.Wholes.{whole, two_octets}
@@ -110,21 +110,26 @@ record IsOtherWish (code : ℕ) : Type 0 where
   pub request : (code == OPTION_REQUEST) ≡ false
   pub address : (code == IA_NA) ≡ false
   pub temporary : (code == IA_TA) ≡ false
+  pub association : (code == IA_PD) ≡ false
 
-by_code : (P : ℕ → Type 0) → P OPTION_REQUEST → P IA_NA → P IA_TA → ((code : ℕ) → IsOtherWish code → P code)
+by_code : (P : ℕ → Type 0) → P OPTION_REQUEST → P IA_NA → P IA_TA → P IA_PD → ((code : ℕ) → IsOtherWish code → P code)
     → (code : ℕ) → P code
-by_code P request address temporary other code =
+by_code P request address temporary association other code =
     elim (cases_eq code OPTION_REQUEST) [
       | inl e ↦ subst P (sym e) request
       | inr a ↦ elim (cases_eq code IA_NA) [
         | inl e ↦ subst P (sym e) address
         | inr b ↦ elim (cases_eq code IA_TA) [
           | inl e ↦ subst P (sym e) temporary
-          | inr c ↦ other code (record {
-            request = ne_eqb code OPTION_REQUEST a;
-            address = ne_eqb code IA_NA b;
-            temporary = ne_eqb code IA_TA c;
-          })
+          | inr c ↦ elim (cases_eq code IA_PD) [
+            | inl e ↦ subst P (sym e) association
+            | inr d ↦ other code (record {
+              request = ne_eqb code OPTION_REQUEST a;
+              address = ne_eqb code IA_NA b;
+              temporary = ne_eqb code IA_TA c;
+              association = ne_eqb code IA_PD d;
+            })
+          ]
         ]
       ]
     ]
@@ -134,10 +139,11 @@ pub record AddsWishes (w : Wishes) (options : List DhcpOption) (t : Wishes) : Ty
   pub requested : Asks w.requested (data_of OPTION_REQUEST options) t.requested
   pub addresses : t.addresses ≡ w.addresses ++ iaids_in 12 (data_of IA_NA options)
   pub temporaries : t.temporaries ≡ w.temporaries ++ iaids_in 4 (data_of IA_TA options)
+  pub prefixes : t.prefixes ≡ w.prefixes ++ flat_map prefixes_in (data_of IA_PD options)
 
 other_wish : (code : ℕ) (w : Wishes) (octets : List ℕ) → IsOtherWish code → wish_option w (option_of code octets) ≡ Ok w
 unfolding wish_option
-other_wish code w octets h = rw (h.request, h.address, h.temporary) refl
+other_wish code w octets h = rw (h.request, h.address, h.temporary, h.association) refl
 
 -- ---- one option before others
 
@@ -152,24 +158,36 @@ wish_step w more t octets options code fits h =
       requested = asks_takes w.requested k.0 t.requested octets (data_of OPTION_REQUEST options) fits k.1 k.2.requested;
       addresses = k.2.addresses;
       temporaries = k.2.temporaries;
+      prefixes = k.2.prefixes;
     }))
     (λ e. (let k = subst Adds (sym (ok_is _ _ e)) h in
     record {
       requested = k.requested;
       addresses = k.addresses ∙ one_more 12 w.addresses octets (data_of IA_NA options);
       temporaries = k.temporaries;
+      prefixes = k.prefixes;
     }))
     (λ e. (let k = subst Adds (sym (ok_is _ _ e)) h in
     record {
       requested = k.requested;
       addresses = k.addresses;
       temporaries = k.temporaries ∙ one_more 4 w.temporaries octets (data_of IA_TA options);
+      prefixes = k.prefixes;
+    }))
+    (λ e. (let k = subst Adds (sym (ok_is _ _ e)) h in
+    record {
+      requested = k.requested;
+      addresses = k.addresses;
+      temporaries = k.temporaries;
+      prefixes = k.prefixes
+          ∙ append_assoc w.prefixes (prefixes_in octets) (flat_map prefixes_in (data_of IA_PD options));
     }))
     (λ k other e. (let same = subst Adds (sym (ok_is _ _ (sym (other_wish k w octets other) ∙ e))) h in
     record {
       requested = rw other.request same.requested;
       addresses = rw other.address same.addresses;
       temporaries = rw other.temporary same.temporaries;
+      prefixes = rw other.association same.prefixes;
     }))
     code
   where
@@ -183,6 +201,7 @@ wishes_takes [] w t each e = rw (sym (ok_is _ _ e)) (record {
   requested = refl;
   addresses = sym (append-nil w.addresses);
   temporaries = sym (append-nil w.temporaries);
+  prefixes = sym (append-nil w.prefixes);
 })
 wishes_takes (o ∷ options) w t each e =
     let b = bind_ok (wish_option w o) _ t e in
@@ -203,7 +222,12 @@ wish_next w t octets options code =
     (λ h. (let k = asks_again w.requested t.requested octets (data_of OPTION_REQUEST options) h.requested in record {
       more = record w { requested = Some k.0 };
       found = rw k.1 refl;
-      later = record { requested = k.2; addresses = h.addresses; temporaries = h.temporaries };
+      later = record {
+        requested = k.2;
+        addresses = h.addresses;
+        temporaries = h.temporaries;
+        prefixes = h.prefixes;
+      };
     }))
     (λ h. record {
       more = record w { addresses = with_iaid 12 w.addresses octets };
@@ -212,6 +236,7 @@ wish_next w t octets options code =
         requested = h.requested;
         addresses = h.addresses ∙ sym (one_more 12 w.addresses octets (data_of IA_NA options));
         temporaries = h.temporaries;
+        prefixes = h.prefixes;
       };
     })
     (λ h. record {
@@ -221,6 +246,18 @@ wish_next w t octets options code =
         requested = h.requested;
         addresses = h.addresses;
         temporaries = h.temporaries ∙ sym (one_more 4 w.temporaries octets (data_of IA_TA options));
+        prefixes = h.prefixes;
+      };
+    })
+    (λ h. record {
+      more = record w { prefixes = w.prefixes ++ prefixes_in octets };
+      found = refl;
+      later = record {
+        requested = h.requested;
+        addresses = h.addresses;
+        temporaries = h.temporaries;
+        prefixes = h.prefixes
+            ∙ sym (append_assoc w.prefixes (prefixes_in octets) (flat_map prefixes_in (data_of IA_PD options)));
       };
     })
     (λ k other h. record {
@@ -230,6 +267,7 @@ wish_next w t octets options code =
         requested = rw other.request at h.requested;
         addresses = rw other.address at h.addresses;
         temporaries = rw other.temporary at h.temporaries;
+        prefixes = rw other.association at h.prefixes;
       };
     })
     code
@@ -239,8 +277,9 @@ wish_same w t h =
     ap (λ (x : Option (List ℕ)). record w { requested = x }) (sym h.requested)
     ∙ (ap (λ (x : List ℕ). record w { requested = t.requested; addresses = x })
     (sym (h.addresses ∙ append-nil w.addresses))
-    ∙ ap (λ (x : List ℕ). record { requested = t.requested; addresses = t.addresses; temporaries = x })
-    (sym (h.temporaries ∙ append-nil w.temporaries)))
+    ∙ (ap (λ (x : List ℕ). record w { requested = t.requested; addresses = t.addresses; temporaries = x })
+    (sym (h.temporaries ∙ append-nil w.temporaries))
+    ∙ ap (λ (x : List IaPd). record t { prefixes = x }) (sym (h.prefixes ∙ append-nil w.prefixes))))
 
 pub wishes_again : (options : List DhcpOption) (w t : Wishes) → AddsWishes w options t
     → folded wish_option w (whole options) ≡ Ok t

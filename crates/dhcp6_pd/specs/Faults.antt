@@ -2,15 +2,13 @@
 use Rattle.std.specs.Prelude.{ℕ, zero, suc, ◌==◌, ◌&&◌, option_map, Bool, true, false, List, [], ◌∷◌, ◌++◌, length, take, drop}
 use Rattle.std.specs.Prelude.{slice_index, Option, Some, None, Result, Ok, Err, nat_lt, if◌then◌else◌}
 use Rattle.std.specs.Str.{bytes_eq}
-use Rattle.byteorder.specs.Endian.{big_number}
-use Rattle.prefix_range.specs.Prefix.{Prefix}
 use Rattle.client_id.specs.Duid.{duid_in}
 use Rattle.client_id.specs.declared.error.ClientIdError.{ClientIdError}
 use Rattle.text_fields.specs.Parsing.{◌>>!◌}
 use Rattle.dhcp6_pd.specs.declared.error.PdFault.{PdFault}
 use Rattle.dhcp6_pd.specs.declared.error.PdFault.TheVariants.{Short, OptionLength, DuplicateId, NoClientId}
 use Rattle.dhcp6_pd.specs.declared.error.PdFault.TheVariants.{ServerIdPresent, ServerIdMissing, NotOurs, TooDeep}
-use Rattle.dhcp6_pd.specs.declared.error.PdFault.TheVariants.{TooManyIas, Ignored, BadPrefixLength}
+use Rattle.dhcp6_pd.specs.declared.error.PdFault.TheVariants.{TooManyIas, Ignored}
 use Rattle.dhcp6_pd.specs.declared.option_code.OptionCode.{OptionCode}
 use Rattle.dhcp6_pd.specs.declared.option_code.OptionCode.TheVariants as codes
 use Rattle.dhcp6_pd.specs.declared.message.ClientKind.{ClientKind}
@@ -28,36 +26,13 @@ use Rattle.dhcp6_pd.specs.declared.message.Relay.{Relay}
 use Rattle.dhcp6_pd.specs.declared.client_options.ClientOptions.{ClientOptions}
 use Rattle.dhcp6_pd.specs.declared.relay_options.RelayOptions.{RelayOptions}
 use Rattle.dhcp6_pd.specs.declared.untested.UntestedMessage.{UntestedMessage}
-use Rattle.dhcp6_pd.specs.declared.numbers.TheConstants.{IA_PREFIX, RELAY_MESSAGE, SOLICIT, REQUEST, RENEW, REBIND}
+use Rattle.dhcp6_pd.specs.declared.numbers.TheConstants.{RELAY_MESSAGE, SOLICIT, REQUEST, RENEW, REBIND}
 use Rattle.dhcp6_pd.specs.declared.numbers.TheConstants.{RELEASE, INFORMATION_REQUEST, RELAY_FORWARD, MAX_IAS}
 use Rattle.dhcp6_pd.specs.declared.numbers.TheConstants.{MAX_RELAYS}
 use Rattle.dhcp6_pd.specs.Options.{DhcpOption}
 use Rattle.dhcp6_pd.specs.Rows.{Row, Done, Broken, Next, row_of, code_of, folded}
-use Rattle.dhcp6_pd.specs.Grammar.{cleared, address_of}
+use Rattle.dhcp6_pd.specs.Associations.{ia_in}
 use Rattle.dhcp6_pd.specs.Wishes.{wishes_in, or_none}
-
--- ---- IA_PD (sections 21.21 and 21.22)
-
--- the data of an IAPREFIX: two lifetimes of four octets, the prefix's length, its address
-unfoldable pub prefix_in : List ℕ → Result Prefix PdFault
-prefix_in octets =
-    if nat_lt (length octets) 25 then Err OptionLength
-    else if nat_lt 128 (slice_index octets 8) then Err BadPrefixLength
-    else Ok (record { address = cleared (slice_index octets 8) (address_of octets); length = slice_index octets 8 })
-
--- the first IAPREFIX is the hint, and all others are skipped
-unfoldable pub with_hint : Option Prefix → DhcpOption → Result (Option Prefix) PdFault
-with_hint None o = if o.code == IA_PREFIX then (prefix_in o.octets >>! λ p. Ok (Some p)) else Ok None
-with_hint (Some p) o = Ok (Some p)
-
-abbrev pub ia_of : List ℕ → Option Prefix → IaPd
-ia_of octets hint = record { iaid = big_number 4 octets; hint = hint }
-
--- the data of an IA_PD: IAID, T1 and T2 of four octets each, options
-unfoldable pub ia_in : List ℕ → Result IaPd PdFault
-ia_in octets =
-    if nat_lt (length octets) 12 then Err OptionLength
-    else (folded with_hint None (row_of (drop 12 octets)) >>! λ hint. Ok (ia_of octets hint))
 
 -- ---- the options of a client's message
 
@@ -127,6 +102,7 @@ client_message kind octets kept wishes =
       client = kept.client;
       server = kept.server;
       ias = kept.ias;
+      prefixes = wishes.prefixes;
       requested = or_none wishes.requested;
       addresses = wishes.addresses;
       temporaries = wishes.temporaries;
@@ -251,6 +227,7 @@ identified own u =
       xid = u.xid;
       client = client;
       ias = u.ias;
+      prefixes = u.prefixes;
       requested = u.requested;
       addresses = u.addresses;
       temporaries = u.temporaries;
@@ -273,7 +250,7 @@ is_none (x ∷ xs) = false
 
 -- no identity association stands there
 abbrev pub has_no_ia : UntestedMessage → Bool
-has_no_ia u = is_none u.ias && (is_none u.addresses && is_none u.temporaries)
+has_no_ia u = is_none u.ias && (is_none u.prefixes && (is_none u.addresses && is_none u.temporaries))
 
 unfoldable pub inquired : List ℕ → UntestedMessage → Result InformationRequest PdFault
 inquired own u =

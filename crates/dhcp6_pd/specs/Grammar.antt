@@ -1,9 +1,9 @@
 -- Which octets are which client's message (RFC 8415).
-use Rattle.std.specs.Prelude.{◌≡◌, ℕ, ◌-◌, ◌%◌, ◌^◌, ◌<◌, ◌≤◌, nat_lt, if◌then◌else◌}
+use Rattle.std.specs.Prelude.{◌≡◌, ℕ, ◌^◌, ◌<◌, ◌≤◌, nat_lt, if◌then◌else◌}
 use Rattle.std.specs.Prelude.{List, [], ◌∷◌, length, take, drop, slice_index, Option, Some, None}
 use Rattle.std.specs.List.{AllByRecursion, flat_map}
 use Rattle.byteorder.specs.Endian.{big_number, big_bytes}
-use Rattle.prefix_range.specs.Prefix.{Prefix, size_of}
+use Rattle.prefix_range.specs.Prefix.{Prefix}
 use Rattle.client_id.specs.Duid.{IsDuid}
 use Rattle.dhcp6_pd.specs.declared.message.ClientKind.{ClientKind}
 use Rattle.dhcp6_pd.specs.declared.message.ClientKind.TheVariants.{Solicit, Request, Renew, Rebind, Release}
@@ -17,18 +17,12 @@ use Rattle.dhcp6_pd.specs.declared.numbers.TheConstants.{IA_PREFIX, SOLICIT, REQ
 use Rattle.dhcp6_pd.specs.declared.numbers.TheConstants.{REMOTE_ID, RELAY_FORWARD, MAX_IAS, MAX_RELAYS, IA_NA}
 use Rattle.dhcp6_pd.specs.declared.numbers.TheConstants.{IA_TA, OPTION_REQUEST, INFORMATION_REQUEST}
 use Rattle.dhcp6_pd.specs.declared.message.IaPd.{IaPd}
+use Rattle.dhcp6_pd.specs.declared.message.IaPart.TheVariants.{First}
 use Rattle.dhcp6_pd.specs.declared.message.Relay.{Relay}
 use Rattle.dhcp6_pd.specs.Options.{DhcpOption, AreOptions, data_of}
+use Rattle.dhcp6_pd.specs.Associations.{cleared, address_of, prefixes_in}
 
 -- ---- IA_PD (sections 21.21 and 21.22)
-
--- the address with the bits past the length cleared
-abbrev pub cleared : ℕ → ℕ → ℕ
-cleared length address = address - address % size_of length
-
--- the address behind two lifetimes and a length
-unfoldable pub address_of : List ℕ → ℕ
-address_of octets = big_number 16 (drop 9 octets)
 
 -- the data of an IAPREFIX option: eight octets of lifetimes, the prefix's length, its address, options
 pub record SpellsPrefix (octets : List ℕ) (p : Prefix) : Type 0 where
@@ -46,6 +40,7 @@ SpellsHint (first ∷ later) hint = (p : Prefix) × SpellsPrefix first p × (hin
 pub record SpellsIa (octets : List ℕ) (ia : IaPd) : Type 0 where
   pub whole : 12 ≤ length octets
   pub iaid : ia.iaid ≡ big_number 4 octets
+  pub part : ia.part ≡ First
   pub options : List DhcpOption
   pub spelled : AreOptions (drop 12 octets) options
   pub hint : SpellsHint (data_of IA_PREFIX options) ia.hint
@@ -113,6 +108,7 @@ pub record SpellsClient (octets : List ℕ) (u : UntestedMessage) : Type 0 where
   pub interface : length (data_of INTERFACE_ID options) ≤ 1
   pub ias : SpellIas (data_of IA_PD options) u.ias
   pub few : length u.ias ≤ MAX_IAS
+  pub prefixes : u.prefixes ≡ flat_map prefixes_in (data_of IA_PD options)
   pub requested : SpellsRequest (data_of OPTION_REQUEST options) u.requested
   pub addresses : u.addresses ≡ iaids_in 12 (data_of IA_NA options)
   pub temporaries : u.temporaries ≡ iaids_in 4 (data_of IA_TA options)
@@ -165,6 +161,7 @@ addressed own m = record {
   client = Some m.client;
   server = server_for own m.kind;
   ias = m.ias;
+  prefixes = m.prefixes;
   requested = m.requested;
   addresses = m.addresses;
   temporaries = m.temporaries;
@@ -185,6 +182,7 @@ inquiry server i = record {
   client = i.client;
   server = server;
   ias = [];
+  prefixes = [];
   requested = i.requested;
   addresses = [];
   temporaries = [];

@@ -3,6 +3,7 @@ pub mod Size
 pub mod Options
 pub mod Grammar
 pub mod Rows
+pub mod Associations
 pub mod Refusals
 pub mod Wishes
 pub mod Faults

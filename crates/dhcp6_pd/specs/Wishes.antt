@@ -1,13 +1,15 @@
--- What a client asks for beside prefixes (RFC 8415, sections 21.4, 21.5 and 21.7): what any octets say of it.
+-- What a client asks for beside the first prefix of each IA_PD (RFC 8415, sections 21.4, 21.5, 21.7 and 21.21): what any
+-- octets say of it.
 use Rattle.std.specs.Prelude.{ℕ, ◌%◌, ◌==◌, List, [], ◌∷◌, ◌++◌, length, Option, Some, None, Result, Ok, Err, nat_lt}
 use Rattle.std.specs.Prelude.{if◌then◌else◌}
 use Rattle.byteorder.specs.Endian.{big_number}
 use Rattle.text_fields.specs.Parsing.{◌>>!◌}
 use Rattle.dhcp6_pd.specs.declared.error.PdFault.{PdFault}
 use Rattle.dhcp6_pd.specs.declared.error.PdFault.TheVariants.{OptionLength, DuplicateId}
-use Rattle.dhcp6_pd.specs.declared.numbers.TheConstants.{OPTION_REQUEST, IA_NA, IA_TA}
+use Rattle.dhcp6_pd.specs.declared.numbers.TheConstants.{OPTION_REQUEST, IA_NA, IA_TA, IA_PD}
 use Rattle.dhcp6_pd.specs.declared.wishes.Wishes.{Wishes}
 use Rattle.dhcp6_pd.specs.Options.{DhcpOption}
+use Rattle.dhcp6_pd.specs.Associations.{prefixes_in}
 use Rattle.dhcp6_pd.specs.Rows.{row_of, folded}
 
 -- codes of two octets each, up to a last odd one
@@ -35,10 +37,11 @@ wish_option w o =
     then (request_once w.requested o.octets >>! λ requested. Ok (record w { requested = requested }))
     else if o.code == IA_NA then Ok (record w { addresses = with_iaid 12 w.addresses o.octets })
     else if o.code == IA_TA then Ok (record w { temporaries = with_iaid 4 w.temporaries o.octets })
+    else if o.code == IA_PD then Ok (record w { prefixes = w.prefixes ++ prefixes_in o.octets })
     else Ok w
 
 abbrev pub no_wishes : Wishes
-no_wishes = record { requested = None; addresses = []; temporaries = [] }
+no_wishes = record { requested = None; addresses = []; temporaries = []; prefixes = [] }
 
 abbrev pub wishes_in : List ℕ → Result Wishes PdFault
 wishes_in octets = folded wish_option no_wishes (row_of octets)

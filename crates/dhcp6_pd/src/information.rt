@@ -45,6 +45,7 @@ fn has_no_ia(message: &UntestedMessage) -> bool
     ensures { result ≡ has_no_ia message.now }
 {
     is_none(message.ias.as_slice())
+        && is_none(message.prefixes.as_slice())
         && is_none(message.addresses.as_slice())
         && is_none(message.temporaries.as_slice())
 }

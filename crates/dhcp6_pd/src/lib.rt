@@ -39,8 +39,8 @@ pub use decoding::decode;
 pub use error::{PdError, PdFault};
 pub use information::decode_information;
 pub use message::{
-    ClientKind, ClientMessage, IaPd, IaReply, IaReplyAnswer, InformationRequest, Relay, ServerKind,
-    ServerMessage,
+    ClientKind, ClientMessage, IaPart, IaPd, IaReply, IaReplyAnswer, InformationRequest, Relay,
+    ServerKind, ServerMessage,
 };
 pub use message_lists::{
     IaPdList, IaReplyList, IaidList, InterfaceId, RelayId, RelayList, RemoteId, RequestList,

@@ -1,5 +1,8 @@
 //! What messages say (RFC 8415): those of clients that are read, and those of the server that are written.
 
+ghost use Rattle.std.specs.Prelude.{◌≡◌};
+ghost use Rattle.dhcp6_pd.specs.Associations.{by_prefix};
+
 use crate::message_lists::{
     IaPdList, IaReplyList, IaidList, InterfaceId, RelayList, RemoteId, RequestList,
 };
@@ -27,12 +30,31 @@ pub struct ClientMessage {
     pub xid: [u8; 3],
     pub client: Duid,
     pub ias: IaPdList,
+    /// Its IA_PDs once for each of their prefixes, in its order: those of the IAPREFIXes that can be read.
+    pub prefixes: IaPdList,
     /// The codes of the options that it asks for (RFC 8415, section 21.7), in its order.
     pub requested: RequestList,
     /// The IA_NAs by which it asks for addresses (RFC 8415, section 21.4), in its order.
     pub addresses: IaidList,
     /// The IA_TAs by which it does (RFC 8415, section 21.5).
     pub temporaries: IaidList,
+}
+
+impl ClientMessage {
+    /// Returns a RELEASE whose IA_PDs stand once for each of their prefixes, since each is one to give back; any other
+    /// message as it is.
+    pub fn by_prefix(self) -> ClientMessage
+        ensures { result ≡ by_prefix self }
+    {
+        match self.kind {
+            ClientKind::Release => ClientMessage {
+                ias: self.prefixes,
+                prefixes: self.ias,
+                ..self
+            },
+            _ => self,
+        }
+    }
 }
 
 /// A client's request for options alone, and the relays that it came by (RFC 8415, section 18.2.6).
@@ -65,8 +87,18 @@ pub struct Relay {
 #[derive(Clone, Copy, Debug, PartialEq, Eq)]
 pub struct IaPd {
     pub iaid: Iaid,
-    /// The prefix of its first IAPREFIX.
+    /// The prefix of its first IAPREFIX, or of a further one.
     pub hint: Option<Prefix>,
+    pub part: IaPart,
+}
+
+/// Which of an IA_PD's prefixes is asked about.
+#[derive(Clone, Copy, Debug, PartialEq, Eq)]
+pub enum IaPart {
+    /// The first, or none where it names none.
+    First,
+    /// One behind the first: it goes with the one before it.
+    Further,
 }
 
 /// The types of the server's messages (RFC 8415, section 7.3).

@@ -26,6 +26,7 @@ pub struct UntestedMessage {
     pub client: Option<Duid>,
     pub server: Option<Duid>,
     pub ias: IaPdList,
+    pub prefixes: IaPdList,
     pub requested: RequestList,
     pub addresses: IaidList,
     pub temporaries: IaidList,
@@ -55,6 +56,7 @@ fn client_in(
         requested,
         addresses,
         temporaries,
+        prefixes,
     } = Wishes::of(alloc, &octets[4..])?;
     let mut xid = [0u8; 3];
     xid.copy_from_slice(&octets[1..4]);
@@ -65,6 +67,7 @@ fn client_in(
         client,
         server,
         ias,
+        prefixes,
         requested: or_none(alloc, requested),
         addresses,
         temporaries,

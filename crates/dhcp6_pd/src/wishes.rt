@@ -1,25 +1,28 @@
-//! What a client asks for beside prefixes.
+//! What a client asks for beside the first prefix of each IA_PD.
 
 ghost use Rattle.std.specs.Prelude.{◌≡◌, ◌≤◌, None, IfOk, Ok};
 ghost use Rattle.dhcp6_pd.specs.Answers.{Gives};
 ghost use Rattle.dhcp6_pd.specs.Wishes.{codes_of, request_in, request_once, with_iaid, wish_option, wishes_in, no_wishes, or_none};
 
 use crate::error::{PdError, PdFault};
+use crate::ia::add_prefixes;
 use crate::keeping::{Keeps, keep_all};
-use crate::message_lists::{IaidList, RequestList};
-use crate::numbers::{IA_NA, IA_TA, OPTION_REQUEST};
+use crate::message_lists::{IaPdList, IaidList, RequestList};
+use crate::numbers::{IA_NA, IA_PD, IA_TA, OPTION_REQUEST};
 use crate::options::{Options, RawOption};
 use byteorder::{BigEndian, ByteOrder};
 use client_id::Iaid;
 use lists::Listed;
 use std::alloc::{AllocError, Global};
 
-/// What the options of a client's message ask for beside prefixes, as far as they were parsed.
+/// What the options of a client's message ask for beside the first prefix of each IA_PD, as far as they were parsed.
 #[derive(Drop)]
 pub struct Wishes {
     pub requested: Option<RequestList>,
     pub addresses: IaidList,
     pub temporaries: IaidList,
+    /// The IA_PDs once for each of their prefixes.
+    pub prefixes: IaPdList,
 }
 
 /// The codes that octets spell, two each; a last odd one is left.
@@ -81,6 +84,7 @@ impl Wishes {
             requested: None,
             addresses: Listed::new(Vec::new(alloc)),
             temporaries: Listed::new(Vec::new(alloc)),
+            prefixes: Listed::new(Vec::new(alloc)),
         }
     }
 
@@ -105,6 +109,8 @@ impl Keeps for Wishes {
             add_iaid(&mut self.addresses, 12, option.octets)?;
         } else if option.code == IA_TA {
             add_iaid(&mut self.temporaries, 4, option.octets)?;
+        } else if option.code == IA_PD {
+            add_prefixes(&mut self.prefixes, option.octets)?;
         }
         Ok(())
     }

@@ -8,6 +8,8 @@ use Rattle.dhcp6_pd.specs.declared.message.ServerKind.TheVariants.{Advertise, Re
 use Rattle.dhcp6_pd.specs.declared.message.ClientMessage.{ClientMessage}
 use Rattle.dhcp6_pd.specs.declared.message.ServerMessage.{ServerMessage}
 use Rattle.dhcp6_pd.specs.declared.message.IaPd.{IaPd}
+use Rattle.dhcp6_pd.specs.declared.message.IaPart.{IaPart}
+use Rattle.dhcp6_pd.specs.declared.message.IaPart.TheVariants.{First, Further}
 use Rattle.dhcp6_pd.specs.declared.message.IaReply.{IaReply}
 use Rattle.dhcp6_pd.specs.declared.message.IaReplyAnswer.{IaReplyAnswer}
 use Rattle.dhcp6_pd.specs.declared.message.IaReplyAnswer.TheVariants.{Given as GivenReply, NoPrefix as NoPrefixReply}
@@ -49,12 +51,37 @@ abbrev pub and_reply : ℕ → Option IaReplyAnswer → List IaReply → List Ia
 and_reply iaid None replies = replies
 and_reply iaid (Some answer) replies = record { iaid = iaid; answer = answer } ∷ replies
 
--- the IA_PDs of the answer, in the message's order
+-- ---- an IA_PD that stands once for each of its prefixes
+
+-- what the first of them is told that is bound
+abbrev pub first_bound : IaAnswer → IaAnswer → IaAnswer
+first_bound NoBinding later = later
+first_bound answer later = answer
+
+abbrev pub if_further : IaPart → IaAnswer → IaAnswer → IaAnswer
+if_further First answer later = NoBinding
+if_further Further answer later = first_bound answer later
+
+-- what those in front are told that go with the IA_PD before them; NoBinding where there is none
+abbrev pub further_of : List IaPd → List IaAnswer → IaAnswer
+further_of [] answers = NoBinding
+further_of (ia ∷ ias) [] = NoBinding
+further_of (ia ∷ ias) (answer ∷ answers) = if_further ia.part answer (further_of ias answers)
+
+-- what an IA_PD is told, with those behind it: of all its prefixes at the first of them, and nothing at another
+abbrev pub at_first : IaPart → IaAnswer → IaAnswer → IaAnswer
+at_first First answer further = first_bound answer further
+at_first Further answer further = Released
+
+-- ---- the answer
+
+-- the IA_PDs of the answer, in the message's order, each once
 abbrev pub replies_of : Bool → List IaPd → List IaAnswer → List IaReply
 replies_of hidden [] answers = []
 replies_of hidden (ia ∷ ias) [] = []
 replies_of hidden (ia ∷ ias) (answer ∷ answers) =
-    and_reply ia.iaid (written_of hidden answer) (replies_of hidden ias answers)
+    and_reply ia.iaid (written_of hidden (at_first ia.part answer (further_of ias answers)))
+    (replies_of hidden ias answers)
 
 abbrev pub kind_of : ClientKind → ServerKind
 kind_of Solicit = Advertise

@@ -2,13 +2,14 @@
 
 ghost use Rattle.std.specs.Prelude.{◌≡◌, ◌≤◌, ◌++◌, [], length, IfOk, IfErr, OnOk};
 ghost use Rattle.server_book.specs.Messages.{asked_in, order_by, order_of, written_of, and_reply, replies_of};
+ghost use Rattle.server_book.specs.Messages.{first_bound, further_of, at_first};
 ghost use Rattle.server_book.specs.Messages.{kind_of, is_release, answer_of, information_answer};
 
 use crate::manner::{Manner, occasion_of, refused_addresses};
 use client_id::{Duid, Iaid};
 use dhcp6_pd::{
-    ClientKind, ClientMessage, IaPd, IaReply, IaReplyAnswer, InformationRequest, Relay, RelayId,
-    RelayList, ServerKind, ServerMessage,
+    ClientKind, ClientMessage, IaPart, IaPd, IaReply, IaReplyAnswer, InformationRequest, Relay,
+    RelayId, RelayList, ServerKind, ServerMessage,
 };
 use lists::Listed;
 use order_book::{Asked, BookError, Order};
@@ -93,6 +94,42 @@ fn add_reply(
     }
 }
 
+/// Returns what the first of two prefixes of an IA_PD is told that is bound.
+fn first_bound(answer: IaAnswer, later: IaAnswer) -> IaAnswer
+    ensures { result ≡ first_bound answer later }
+{
+    match answer {
+        IaAnswer::NoBinding => later,
+        _ => answer,
+    }
+}
+
+/// Returns what those in front are told that go with the IA_PD before them: the first of them that is bound.
+fn further_of(ias: &[IaPd], answers: &[IaAnswer]) -> IaAnswer
+    requires { length answers.now ≡ length ias.now }
+    ensures { result ≡ further_of ias.now answers.now }
+{
+    for (place, ia) in ias.iter().enumerate() {
+        match (ia.part, answers[place]) {
+            (IaPart::First, _) => return IaAnswer::NoBinding,
+            (IaPart::Further, IaAnswer::NoBinding) => {}
+            (IaPart::Further, answer) => return answer,
+        }
+    }
+    IaAnswer::NoBinding
+}
+
+/// Returns what is told of one with those behind it: of all prefixes of an IA_PD at the first, and nothing at another.
+fn at_first(part: IaPart, answer: IaAnswer, ias: &[IaPd], answers: &[IaAnswer]) -> IaAnswer
+    requires { length answers.now ≡ length ias.now }
+    ensures { result ≡ at_first part answer (further_of ias.now answers.now) }
+{
+    match part {
+        IaPart::First => first_bound(answer, further_of(ias, answers)),
+        IaPart::Further => IaAnswer::Released,
+    }
+}
+
 fn replies_of(
     alloc: Global,
     hidden: bool,
@@ -104,7 +141,9 @@ fn replies_of(
 {
     let mut replies = Vec::new(alloc);
     for (place, ia) in ias.iter().enumerate() {
-        add_reply(&mut replies, hidden, ia.iaid, &answers[place])?;
+        let next = place + 1;
+        let told = at_first(ia.part, answers[place], &ias[next..], &answers[next..]);
+        add_reply(&mut replies, hidden, ia.iaid, &told)?;
     }
     Ok(replies)
 }

@@ -5,6 +5,7 @@ use Rattle.dhcp6_pd.specs.declared.message.ClientMessage.{ClientMessage}
 use Rattle.dhcp6_pd.specs.declared.message.InformationRequest.{InformationRequest}
 use Rattle.dhcp6_pd.specs.declared.error.PdError.{PdError}
 use Rattle.dhcp6_pd.specs.declared.error.PdFault.TheVariants.{Ignored}
+use Rattle.dhcp6_pd.specs.Associations.{by_prefix}
 use Rattle.dhcp6_pd.specs.Grammar.{Spells, SpellsInformation}
 use Rattle.server_book.specs.declared.manner.Manner.{Manner}
 use Rattle.server_book.specs.Manner.{has_options}
@@ -67,6 +68,12 @@ IsInformed own manner peer datagram read was held (Uninformed why) =
 IsInformed own manner peer datagram read was held (Unread e) = IsUnread own manner datagram e × (held ≡ was)
 IsInformed own manner peer datagram read was held other = ⊥
 
+-- the datagram is this message; of a RELEASE its IA_PDs stand once for each of their prefixes
+pub record Brings (own datagram : List ℕ) (m : ClientMessage) : Type 0 where
+  pub message : ClientMessage
+  pub spelled : Spells own datagram message
+  pub each : m ≡ by_prefix message
+
 -- One answer more is held back: to the peer, at this reading, and it tells the message, by the permits that it was
 -- given, what the receipts say that its orders added, or again what stands. Or there is none, for a reason, and none
 -- more is held back.
@@ -74,14 +81,14 @@ abbrev pub IsHeard : {P : Type 0} → (Journal → ℕ → ClientMessage → Lis
     → RenewTerms → (peer : P) → (datagram : List ℕ) → (read : ℕ) → LiveState → LiveState → List (HeldAnswer P)
     → List (HeldAnswer P) → Heard → Type 0
 IsHeard {P} Lets own manner t peer datagram read old new was held (Answered kind) =
-    (m : ClientMessage) × (permits : List Permit) × (a : AnswerTo P) × Spells own datagram m
+    (m : ClientMessage) × (permits : List Permit) × (a : AnswerTo P) × Brings own datagram m
     × Lets old.served.journal read m permits × (kind ≡ m.kind) × (a.peer ≡ peer)
     × Tells (partner_of old.served.journal) t own manner m permits read (receipts_in old.served) (receipts_in new.served)
     a.octets a.line
     × (held ≡ was ++ record { answer = a; read = read } ∷ [])
 IsHeard Lets own manner t peer datagram read old new was held (Unanswered why) =
-    (m : ClientMessage) × Spells own datagram m × IsUnanswered Lets own manner m read old new why × (held ≡ was)
+    (m : ClientMessage) × Brings own datagram m × IsUnanswered Lets own manner m read old new why × (held ≡ was)
 IsHeard Lets own manner t peer datagram read old new was held TooMany =
-    (m : ClientMessage) × Spells own datagram m × (new ≡ old) × (held ≡ was)
+    (m : ClientMessage) × Brings own datagram m × (new ≡ old) × (held ≡ was)
 IsHeard Lets own manner t peer datagram read old new was held other =
     (new ≡ old) × IsInformed own manner peer datagram read was held other

@@ -13,7 +13,7 @@ ghost use Rattle.std.specs.List.{AllByRecursion};
 ghost use Rattle.served_book.specs.Served.{receipts_in, IsApplied};
 ghost use Rattle.server_run.specs.Owing.{IsOwed};
 ghost use Rattle.server_run.specs.Saying.{AreBacked, handed_of};
-ghost use Rattle.server_run.specs.Hearing.{IsHeard, IsInformed, partner_of};
+ghost use Rattle.server_run.specs.Hearing.{IsHeard, IsInformed, Brings, partner_of};
 ghost use Rattle.dhcp6_pd.specs.Answers.{Gives};
 ghost use Rattle.dhcp6_pd.specs.Faults.{message_of};
 ghost use Rattle.dhcp6_pd.specs.declared.message.ClientMessage.{ClientMessage as MessageValue};
@@ -24,7 +24,7 @@ use crate::live_volume::{LiveVolume, Unsettled};
 use admission::{Admission, Unheard};
 use client_id::Duid;
 use client_service::{Partner, Silence, answer_information};
-use dhcp6_pd::{PdError, PdFault, decode, decode_information};
+use dhcp6_pd::{ClientMessage, PdError, PdFault, decode, decode_information};
 use lead_time::Reading;
 use link_talk::{Handed, Talk};
 use locked_book::{Receipt, ServeError};
@@ -136,8 +136,8 @@ where
         self.volume.kept()
     }
 
-    /// Hears a datagram that came from a peer at a reading. Where it is a client's message to this server, its orders
-    /// are done, those that the admission lets be, or it is told again what it has; the answer is held back until the
+    /// Hears a datagram that came from a peer at a reading. Where it is a client's message to this server, its orders,
+    /// of a RELEASE one for each prefix, are done, those that the admission lets be, or it is told again what it has; the answer is held back until the
     /// next `settle`. Where it is a request for options alone, and the server's manner has some, so is the answer to that.
     pub fn hear<A: Admission>(
         &mut self,
@@ -152,7 +152,7 @@ where
         ensures grows { (added : List ReceiptValue) × Grows self.old.volume self.new.volume added }
         ensures rest { self.new ≡ record self.old { volume = self.new.volume; held = self.new.held } }
     {
-        let message = match decode(self.alloc, datagram, &self.own) {
+        let message = match message_in(self.alloc, datagram, &self.own) {
             Ok(message) => message,
             Err(error) => return self.inform(manner, read, datagram, peer, error),
         };
@@ -279,6 +279,17 @@ where
             },
             leaving: Leaving::new(held, frames),
         })
+    }
+}
+
+/// The client's message to a server that a datagram is; of a RELEASE its IA_PDs stand once for each of their prefixes.
+fn message_in(alloc: Global, datagram: &[u8], own: &Duid) -> Result<ClientMessage, PdError>
+    ensures brought { IfOk result (λ m. Brings own.now datagram.now m) }
+    ensures unread { IfErr result (λ e. Gives (λ (m : MessageValue). m) (Err e) (message_of own.now datagram.now)) }
+{
+    match decode(alloc, datagram, own) {
+        Ok(message) => Ok(message.by_prefix()),
+        Err(error) => Err(error),
     }
 }
 

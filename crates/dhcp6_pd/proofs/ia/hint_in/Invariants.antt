@@ -1,6 +1,6 @@
 use Rattle.std.specs.Prelude.{None}
 use Rattle.dhcp6_pd.specs.Rows.{row_of, folded}
-use Rattle.dhcp6_pd.specs.Faults.{with_hint}
+use Rattle.dhcp6_pd.specs.Associations.{with_hint}
 use Rattle.dhcp6_pd.proofs.Folding.{IsFolded, row_length}
 use Rattle.dhcp6_pd.proofs.ia.hint_in.Given as goal
 

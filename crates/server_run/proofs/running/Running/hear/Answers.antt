@@ -1,10 +1,11 @@
-use Rattle.std.proofs.Common.{refl, ◌∙◌, ap, subst, inr}
+use Rattle.std.proofs.Common.{refl, ◌∙◌, ap, subst, inl, inr}
 use Rattle.client_service.specs.Answering.{IsSilent}
 use Rattle.served_book.specs.Served.{receipts_in}
 use Rattle.server_run.specs.Hearing.{IsHeard, partner_of}
 use Rattle.server_run.specs.Owing.{HasReceipts, Tells}
 use Rattle.server_run.specs.declared.leaving.HeldAnswer.{HeldAnswer}
-use Rattle.server_run.specs.declared.heard.Heard.TheVariants.{Answered, Unanswered}
+use Rattle.client_service.specs.declared.silence.Silence.TheVariants.{Memory}
+use Rattle.server_run.specs.declared.heard.Heard.TheVariants.{Answered, Unanswered, TooMany}
 use Rattle.server_run.proofs.Owed.{same_grows, all_owed, one_more_owed, just_owed, held_as, held_more}
 use Rattle.server_run.proofs.Said.{talk_later}
 use Rattle.server_run.proofs.running.Running.hear.Goals as goal
@@ -41,7 +42,7 @@ returns-in-Ok-said-clause-heard g c =
       c.in-Ok.message,
       permits,
       c.in-Ok-said.answer,
-      c.in-Ok.ensures.found,
+      c.in-Ok.ensures.brought,
       subst (λ j. lets j c.args.read c.in-Ok.message permits) c.book.ensures c.in-Ok-permits.ensures,
       refl,
       c.in-Ok-said.ensures.back,
@@ -73,7 +74,7 @@ returns-clause-heard g c =
     subst (λ s. IsHeard lets s.own c.args.manner.now s.terms c.args.peer c.args.datagram.now c.args.read s.volume c.answer-said.new.self
     s.held c.reserve.new.self.items (Unanswered c.in-Err-said.why)) c.self.view_is (
       c.in-Ok.message,
-      c.in-Ok.ensures.found,
+      c.in-Ok.ensures.brought,
       inr (
         permits,
         subst (λ j. lets j c.args.read c.in-Ok.message permits) c.book.ensures c.in-Ok-permits.ensures,
@@ -86,3 +87,21 @@ returns-clause-heard g c =
       ),
       c.reserve.ensures.items,
     )
+
+pub returns-in-Err-reserve-clause-heard : goal.returns-in-Err-reserve-clause-heard
+returns-in-Err-reserve-clause-heard g c =
+    subst (λ s. IsHeard (g.A.Admission.lets c.args.admission.now) s.own c.args.manner.now s.terms c.args.peer
+    c.args.datagram.now c.args.read s.volume c.self.inside.volume s.held c.reserve.new.self.items (Unanswered Memory))
+    c.self.view_is (c.in-Ok.message, c.in-Ok.ensures.brought, inl (refl, refl), c.reserve.ensures.items)
+
+pub returns-in-Err-TooMany-clause-heard : goal.returns-in-Err-TooMany-clause-heard
+returns-in-Err-TooMany-clause-heard g c =
+    subst (λ s. IsHeard (g.A.Admission.lets c.args.admission.now) s.own c.args.manner.now s.terms c.args.peer
+    c.args.datagram.now c.args.read s.volume c.self.inside.volume s.held c.reserve.new.self.items TooMany)
+    c.self.view_is (c.in-Ok.message, c.in-Ok.ensures.brought, refl, c.reserve.ensures.items)
+
+pub returns-in-Err-Memory-clause-heard : goal.returns-in-Err-Memory-clause-heard
+returns-in-Err-Memory-clause-heard g c =
+    subst (λ s. IsHeard (g.A.Admission.lets c.args.admission.now) s.own c.args.manner.now s.terms c.args.peer
+    c.args.datagram.now c.args.read s.volume c.self.inside.volume s.held c.reserve.new.self.items (Unanswered Memory))
+    c.self.view_is (c.in-Ok.message, c.in-Ok.ensures.brought, inl (refl, refl), c.reserve.ensures.items)
