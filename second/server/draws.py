@@ -5,7 +5,9 @@ from .messages import option
 
 SHORT_TIMES = (0, 1, 2, 7, 3600, 0xFFFFFFFF)
 EDGE_LENGTHS = (0, 1, 2, 3, 4, 129, 130, 131, 200)
-FOREIGN_CODES = (3, 4, 5, 6, 7, 8, 14, 15, 16, 17, 20, 23, 37, 38, 39, 82, 83, 0, 255, 65_535)
+FOREIGN_CODES = (3, 4, 5, 7, 8, 14, 15, 16, 17, 20, 23, 37, 38, 39, 82, 83, 0, 255, 65_535)
+WISHED_CODES = (messages.DNS_SERVERS, messages.SEARCH_LIST, messages.SNTP_SERVERS, messages.REFRESH_TIME)
+OTHER_CODES = (0, 1, 3, 7, 12, 13, 21, 25, 39, 56, 82, 83, 6144, 65_535)
 LARGEST_BY_IPV4 = 65_507
 LARGEST_BY_IPV6 = 65_527
 
@@ -45,8 +47,8 @@ class Draws:
     def kind(self):
         if self.amiss(0.1):
             return self.random.randrange(256)
-        return self.pick(30, messages.SOLICIT, 30, messages.REQUEST, 18, messages.RENEW, 12, messages.REBIND,
-                         self.releases, messages.RELEASE)
+        return self.pick(30, messages.SOLICIT, 30, messages.REQUEST, 18, messages.RENEW, 14, messages.REBIND,
+                         self.releases, messages.RELEASE, 12, messages.INFORMATION_REQUEST)
 
     def hint(self, client, identifier):
         """A prefix that the client might name: its own, another's, any unit, or none of these."""
@@ -83,9 +85,10 @@ class Draws:
         length = self.pick(8, self.random.randrange(12), 1, self.random.randrange(300))
         return option(code, self.octets(length))
 
-    def association(self, client):
+    def association(self, client, kind):
         identifier = self.random.choice(self.identifiers)
-        parts = [self.prefix_option(client, identifier) for _ in range(self.pick(3, 0, 8, 1, 1, 2))]
+        count = self.pick(2, 0, 4, 1, 5, 2, 3, 3, 1, 7) if kind == messages.RELEASE else self.pick(3, 0, 8, 1, 1, 2)
+        parts = [self.prefix_option(client, identifier) for _ in range(count)]
         if self.chance(0.1):
             parts.append(self.foreign_option())
         if self.amiss(0.1):
@@ -97,15 +100,53 @@ class Draws:
             data = data[:self.random.randrange(len(data) + 1)]
         return option(messages.IA_PD, data)
 
-    def associations(self, client):
+    def associations(self, client, kind):
         count = self.pick(70, 1, 12, 2, 6, 3, 2, 5, 2, 16)
         if self.amiss(0.2):
             count = self.random.choice((0, 0, 15, 16, 17, 17, 18, 30))
-        return [self.association(client) for _ in range(count)]
+        if kind == messages.INFORMATION_REQUEST:
+            count = 1 if self.amiss(0.2) else 0
+        return [self.association(client, kind) for _ in range(count)]
+
+    def address_association(self):
+        """An IA_NA, or an IA_TA, of which nothing behind the identifier matters; at times one that is too short."""
+        code = self.pick(4, messages.IA_NA, 1, messages.IA_TA)
+        data = self.random.choice(self.identifiers).to_bytes(4, "big") + self.octets(self.pick(6, 8, 1, 0, 2, 40))
+        return option(code, data[:self.random.randrange(13)] if self.amiss(0.3) else data)
+
+    def address_associations(self, kind):
+        """None mostly; an INFORMATION-REQUEST may have none. At times so many that an answer hasn't room for all."""
+        if self.amiss(0.01):
+            return [option(messages.IA_NA, bytes(12))] * self.random.choice((2900, 2970, 3400))
+        often = 0.1 * self.faults if kind == messages.INFORMATION_REQUEST else 0.25
+        return [self.address_association() for _ in range(self.pick(6, 1, 2, 2, 1, 20))] if self.chance(often) else []
+
+    def wishes(self):
+        """The codes of an option request: those that may be handed out, others, some twice."""
+        found = self.random.sample(WISHED_CODES, self.random.randrange(len(WISHED_CODES) + 1))
+        found += self.random.choices(OTHER_CODES, k=self.pick(4, 0, 3, 2, 1, 9))
+        if self.chance(0.2):
+            found += self.random.choices(found or OTHER_CODES, k=self.pick(5, 2, 1, 300))
+        self.random.shuffle(found)
+        return b"".join(code.to_bytes(2, "big") for code in found)
+
+    def option_requests(self):
+        """What a client asks for: mostly one option request, at times of odd length or twice."""
+        if self.chance(0.2):
+            return []
+        data = self.wishes()
+        if self.amiss(0.05):
+            data = (data + b"\0") if self.chance(0.5) else data[:-1]
+        found = [option(messages.OPTION_REQUEST, data)]
+        if self.amiss(0.05):
+            found.append(self.random.choice((found[0], option(messages.OPTION_REQUEST, self.wishes()))))
+        return found
 
     def identifier_options(self, kind, client):
         """The client's and the server's identifier, at times wrong, missing or twice."""
         found = [option(messages.CLIENT_IDENTIFIER, client)]
+        if kind == messages.INFORMATION_REQUEST:
+            return self.information_identifiers(found)
         if kind not in messages.KINDS_WITHOUT_SERVER or self.amiss(0.08):
             name = self.own
             if self.amiss(0.1):
@@ -117,6 +158,14 @@ class Draws:
             found.append(self.random.choice(found))
         return found
 
+    def information_identifiers(self, found):
+        """Both may be missing; the server's is at times another's."""
+        if self.chance(0.3):
+            found = []
+        if self.chance(0.3):
+            found.append(option(messages.SERVER_IDENTIFIER, self.octets(10) if self.amiss(0.5) else self.own))
+        return found + found[:1] * self.amiss(0.1)
+
     def client(self):
         """A client's identifier, at times one that none should have, or the server's own."""
         if self.amiss(0.06):
@@ -127,7 +176,8 @@ class Draws:
 
     def client_message(self):
         kind, client = self.kind(), self.client()
-        parts = self.identifier_options(kind, client) + self.associations(client)
+        parts = self.identifier_options(kind, client) + self.associations(client, kind)
+        parts += self.address_associations(kind) + self.option_requests()
         parts += [self.foreign_option() for _ in range(self.pick(5, 0, 3, 1, 1, 3))]
         if self.amiss(0.06):
             parts += [option(self.random.choice((9, 18)), self.octets(3))] * self.random.choice((1, 1, 2))
@@ -207,7 +257,7 @@ class Draws:
             code = self.random.choice((messages.INTERFACE_IDENTIFIER, messages.INTERFACE_IDENTIFIER,
                                        messages.REMOTE_IDENTIFIER))
         else:
-            head, code = inner, 16
+            head, code = inner, self.random.choice((16, messages.OPTION_REQUEST))
         length = size - len(head) - 4
         return head + option(code, self.octets(length)) if length >= 0 else head
 

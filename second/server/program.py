@@ -1,11 +1,17 @@
-"""The node program as a child: its settings, its sockets, its journal."""
+"""The node program as a child: its settings, its sockets, its journal.
+
+`run` serves so many datagrams, `serve` until it is stopped.
+"""
 
 import ipaddress
+import pathlib
 import socket
 import subprocess
 import tempfile
 import time
 
+from . import journal
+from .manner import settings_rows
 from .values import prefix_text
 
 PATIENCE = 20
@@ -52,20 +58,18 @@ def now():
     return time.time_ns() // 1_000_000
 
 
-class Node:
-    """One run of the program."""
+class Program:
+    """One run of the program; the program's own words tell when it listens."""
 
-    def __init__(self, program, settings, count, host="127.0.0.1", link=None, partner_down=False):
+    listens = "listens for clients and relays"
+
+    def __init__(self, words, settings, host, text=""):
         self.settings = settings
-        self.count = count
-        self.address = (host, free_port(host))
-        self.text = settings_text(settings, address_text(*self.address), link)
         self.output = tempfile.TemporaryFile()
         self.errors = tempfile.NamedTemporaryFile()
         source = tempfile.TemporaryFile()
-        source.write(self.text.encode())
+        source.write(text.encode())
         source.seek(0)
-        words = [program, "run", "--count", str(count)] + (["--partner-down"] if partner_down else [])
         self.began = now()
         self.process = subprocess.Popen(words, stdin=source, stdout=self.output, stderr=self.errors)
         self.socket = socket.socket(family_of(host), socket.SOCK_DGRAM)
@@ -74,7 +78,7 @@ class Node:
         self.socket.settimeout(PATIENCE)
 
     def __enter__(self):
-        self.wait_for("listens for clients and relays")
+        self.wait_for(self.listens)
         self.socket.connect(self.address)
         return self
 
@@ -118,16 +122,73 @@ class Node:
             return True
         raise Difference(f"an answer that wasn't awaited: {octets.hex()}")
 
-    def journal(self):
-        """The printed journal, once the program has ended by itself."""
+    def wait_for_end(self):
+        """Waits until the program has ended by itself."""
         try:
             status = self.process.wait(PATIENCE)
         except subprocess.TimeoutExpired as late:
             raise Difference(f"the program doesn't end; it said {self.said()!r}") from late
         if status != 0:
             raise Difference(f"status {status}, and {self.said()!r}")
+
+
+class Node(Program):
+    """`run`, which prints its journal behind the last of its datagrams."""
+
+    def __init__(self, program, settings, count, host="127.0.0.1", link=None, partner_down=False):
+        self.count = count
+        self.address = (host, free_port(host))
+        self.text = settings_text(settings, address_text(*self.address), link)
+        words = [program, "run", "--count", str(count)] + (["--partner-down"] if partner_down else [])
+        super().__init__(words, settings, host, self.text)
+
+    def journal(self):
+        """The printed journal, once the program has ended by itself."""
+        self.wait_for_end()
         self.output.seek(0)
         return self.output.read().decode()
+
+
+# What `serve` is told, so that no answer depends on its limits or on the time, and no line comes of itself.
+UNLIMITED = ("heartbeat = 31536000", "renew_floor = 0", "ias_per_message = 0", "units_per_client = 0",
+             "units_per_port = 0", "client_rate = 0")
+
+
+def serve_settings_text(settings, listen, rows):
+    """The settings as `serve` reads them; `rows` are those beside prefixes and of the link."""
+    return "".join(row + "\n" for row in (*UNLIMITED, *rows)) + settings_text(settings, listen)
+
+
+class Daemon(Program):
+    """`serve` in a directory of its own: it is alone, or names a partner that doesn't listen.
+
+    With the lines of a past it goes on with these.
+    """
+
+    def __init__(self, program, settings, manner, host="127.0.0.1", has_link=False, past=()):
+        self.program = program
+        self.listens = "goes on with volume 1" if past else "begins volume 1"
+        self.folder = tempfile.TemporaryDirectory()
+        self.address = (host, free_port(host))
+        link = [f'link = "{address_text(host, free_port(host, socket.SOCK_STREAM))}"', 'link_key = "none"']
+        rows = settings_rows(manner, "silent" if has_link else "no-binding") + (link if has_link else ["alone = true"])
+        self.text = serve_settings_text(settings, address_text(*self.address), rows)
+        (pathlib.Path(self.folder.name) / "settings.toml").write_text(self.text)
+        self.volume = pathlib.Path(self.folder.name) / f"{settings.role}-0000001.journal"
+        if past:
+            self.volume.write_text(journal.write_open(settings.role, past))
+        super().__init__([program, "serve", "--dir", self.folder.name], settings, host)
+
+    def __exit__(self, *rest):
+        super().__exit__(*rest)
+        self.folder.cleanup()
+
+    def journal(self):
+        """The closed journal of a server that is told to stop."""
+        words = [self.program, "stop", "--close", "--dir", self.folder.name]
+        subprocess.run(words, check=True, stdout=subprocess.DEVNULL)
+        self.wait_for_end()
+        return self.volume.read_text()
 
 
 def settings_line(settings):

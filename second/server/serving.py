@@ -1,15 +1,24 @@
-"""Drawn datagrams to a node without a partner, each answer compared with the one computed here."""
+"""Drawn datagrams to a node without a partner, each answer compared with the one computed here.
+
+The program is asked by `run`, which knows nothing beside prefixes, and by `serve`, whose manner is drawn.
+"""
 
 import random
+from dataclasses import replace
 
 from . import answers, journal, messages
 from .book import Book
 from .draws import LARGEST_BY_IPV4, LARGEST_BY_IPV6, Draws
-from .program import Difference, Node, now, settings_line
-from .values import Settings, overlap, prefix_of
+from .manner import handed_out, settings_rows
+from .manner_draws import drawn_manner
+from .program import Daemon, Difference, Node, now, settings_line
+from .rules import TRANSIT_LIMIT
+from .units import FREE
+from .values import Line, Settings, overlap, prefix_of
 
 MOST_SILENT = 12
 MOST_SILENT_OCTETS = 60_000
+LONGEST_LIFE = 600_000
 POOLS = ("2001:db8::/48", "2001:db8:1::/48", "fd00::/8", "2001:db8:2::/56", "::/0", "fe80::/10", "2001:db8:3:4::/64",
          "2001:db8:ffff:ffff:ffff:ffff:ffff:fff0/124", "ffff:ffff:ffff:ffff:ffff:ffff:ffff:ffff/128", "::/128")
 
@@ -38,13 +47,24 @@ def drawn_settings(source):
                     source.choice((0, 0, 1, 500, 3_600_000)))
 
 
+def drawn_daemon_settings(source):
+    """The same for `serve`, which ends leases by its clock: none ends in a life of these."""
+    while True:
+        settings = drawn_settings(source)
+        settings.transit = source.choice((0, TRANSIT_LIMIT))
+        if 1000 * min(settings.mclt, settings.life) + 2 * settings.skew + settings.transit >= LONGEST_LIFE:
+            return settings
+
+
 class Session:
     """One run: each datagram goes to the program and to the model."""
 
-    def __init__(self, node, draws, book, tally):
+    def __init__(self, node, draws, book, tally, manner=answers.PLAIN):
         self.node = node
         self.draws = draws
         self.book = book
+        self.manner = manner
+        self.began = min([node.began, *(line.reading for line in book.lines if line.reading != 0)])
         self.tally = tally
         self.silent = []
         self.groups = []
@@ -55,14 +75,15 @@ class Session:
 
     def difference(self, wanted, got):
         since = "\n".join("  " + self.describe(*one) for one in self.silent)
-        raise Difference(f"{settings_line(self.node.settings)}\nafter {self.sent} datagrams, {len(self.book.lines)} "
-                         f"lines; datagrams since the last answer:\n{since}\nawaited {wanted.hex()}\n"
+        told = "\n".join((settings_line(self.node.settings), *settings_rows(self.manner)))
+        raise Difference(f"{told}\nafter {self.sent} datagrams, {len(self.book.lines)} lines; datagrams since the last "
+                         f"answer:\n{since}\nawaited {wanted.hex()}\n"
                          f"received {got.hex() if got is not None else 'nothing'}")
 
     def put(self, octets, name):
         """Sends one datagram, and compares the answer where one is due."""
         first, before = len(self.book.lines), now()
-        answer, read = answers.serve_datagram(self.book, self.node.settings.own, octets, 0)
+        answer, read = answers.serve_datagram(self.book, self.node.settings.own, octets, 0, self.manner)
         self.silent.append((octets, read))
         self.node.send(octets)
         self.sent += 1
@@ -76,8 +97,22 @@ class Session:
                 self.difference(answer, got)
             self.silent = []
             self.tally["answered"] += 1
-        self.tally["read: " + (read if isinstance(read, str) else messages.KIND_NAMES[read.kind])] += 1
+        self.count(read, answer, len(self.book.lines) - first)
         self.groups.append((first, len(self.book.lines), before))
+
+    def count(self, read, answer, lines):
+        """Keeps how the datagram was read, and what its answer had beside prefixes."""
+        self.tally["read: " + (read if isinstance(read, str) else messages.KIND_NAMES[read.kind])] += 1
+        if answer is None:
+            is_left = not isinstance(read, str) and read.kind == messages.REBIND and read.associations
+            self.tally["REBINDs left to the partner"] += bool(is_left)
+            return
+        for code, _ in handed_out(self.manner, read):
+            self.tally[f"option {code} handed out"] += 1
+        if answers.refused_addresses(self.manner, read):
+            self.tally["IA_NAs refused"] += 1
+        if read.kind == messages.RELEASE and any(len(association.prefixes) > 1 for association in read.associations):
+            self.tally[f"RELEASEs of several prefixes, {lines if lines < 2 else 'several'} given back"] += 1
 
     def wants_sentinel(self):
         octets = sum(len(octets) for octets, _ in self.silent)
@@ -106,7 +141,7 @@ class Session:
         readings = [line.reading for line in lines]
         if role != self.book.role or len(mine) != len(lines) or readings != sorted(readings):
             raise Difference(f"journal: {len(mine)} lines awaited, {len(lines)} found, or its readings fall")
-        if not self.node.began <= readings[0] <= readings[-1] <= now():
+        if not self.began <= readings[0] <= readings[-1] <= now():
             raise Difference("journal: readings that aren't of this run")
         for first, end, sent in self.groups:
             if len(set(readings[first:end])) > 1 or any(reading < sent for reading in readings[first:end]):
@@ -115,18 +150,50 @@ class Session:
         self.tally["journal lines"] += len(lines)
 
 
+def drawn_run(source, settings, reading=0):
+    """What a run draws beside its settings: the host, the book, and the datagrams."""
+    host = source.choice(("127.0.0.1", "::1"))
+    largest = LARGEST_BY_IPV4 if host == "127.0.0.1" else LARGEST_BY_IPV6
+    book = Book.open(reading, settings)
+    draws = Draws(source, settings.own, book, largest, source.choice((3, 20, 60)), source.choice((1, 3, 6)),
+                  source.choice((0.05, 0.2, 0.4, 1.0)))
+    return host, book, draws
+
+
 def serve_once(program, seed, count, tally, settings=None, given=()):
     """One run of the program under drawn settings."""
     source = random.Random(seed)
     settings = settings or drawn_settings(source)
-    host = source.choice(("127.0.0.1", "::1"))
-    largest = LARGEST_BY_IPV4 if host == "127.0.0.1" else LARGEST_BY_IPV6
-    book = Book.open(0, settings)
-    draws = Draws(source, settings.own, book, largest, source.choice((3, 20, 60)), source.choice((1, 3, 6)),
-                  source.choice((0.05, 0.2, 0.4, 1.0)))
+    host, book, draws = drawn_run(source, settings)
     with Node(program, settings, count, host) as node:
         Session(node, draws, book, tally).run(count, given)
     tally["runs"] += 1
+
+
+def drawn_past(source, book, draws):
+    """Adds the grants of a life before: some identity associations have several prefixes. Where there are none there is
+    nothing to go on with."""
+    free = [unit.prefix for unit in book.table.ordered if unit.status == FREE]
+    for _ in range(min(len(free) // 2, source.randrange(1, 60))):
+        prefix = free.pop(source.randrange(len(free)))
+        client, identifier = source.choice(draws.clients[:5]), source.choice(draws.identifiers)
+        valid = min(book.mclt, book.life)
+        book.append(Line(len(book.lines) + 1, book.lines[-1].reading, ("grant", client, identifier, prefix, valid)))
+    return any(line.event[0] == "grant" for line in book.lines)
+
+
+def serve_daemon_once(program, seed, count, tally, settings=None, manner=None, given=()):
+    """One life of the daemon under drawn settings and a drawn manner; some name a partner, which never comes."""
+    source = random.Random(seed)
+    settings = settings or drawn_daemon_settings(source)
+    manner = replace(manner or drawn_manner(source), releases_each=True)
+    host, book, draws = drawn_run(source, settings, now())
+    has_link = source.random() < 0.2
+    has_past = settings.role == "A" and not has_link and source.random() < 0.5 and drawn_past(source, book, draws)
+    past = book.lines if has_past else []
+    with Daemon(program, settings, manner, host, has_link, past) as daemon:
+        Session(daemon, draws, book, tally, manner).run(count, given)
+    tally["lives of the daemon"] += 1
 
 
 def plain_settings():
