@@ -9,7 +9,8 @@ use journal_lines::Journal;
 use journal_merge::placing_holds;
 use lead_time::Skew;
 use line_index::LineIndex;
-use pair_ruling::{Ruled, Ruling, rule_pair};
+use pair_ruling::{Ruled, Ruling};
+use pair_threads::rule_pair_by;
 use std::alloc::Global;
 use std::thread::Threads;
 
@@ -38,7 +39,7 @@ impl<'a> Case<'a> {
         ensures refused { IfErr result (λ e. e ≡ DeskError.Memory) }
     {
         placing_holds();
-        let merged = match rule_pair(alloc, primary, secondary, skew)? {
+        let merged = match rule_pair_by(rt, alloc, primary, secondary, skew)? {
             Ruled::Fit(merged) => merged,
             Ruled::Refused(ruling) => return Ok(Case::Refused(ruling)),
         };

@@ -13,3 +13,4 @@ pub mod OneAnswer
 pub mod TextVerdicts
 pub mod TextLaws
 pub mod Snapshots
+pub mod Known

@@ -6,3 +6,4 @@ pub mod Refusals
 pub mod Pair
 pub mod Texts
 pub mod Walks
+pub mod Known

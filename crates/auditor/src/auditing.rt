@@ -33,7 +33,7 @@ fn unless(is_met: bool, refusal: Verdict) -> Option<Verdict>
 }
 
 /// The refusal of a condition, or `None` where it is met.
-fn refusal_by<S: LineSource>(
+pub fn refusal_by<S: LineSource>(
     source: &S,
     certificate: &Certificate,
     condition: Condition,

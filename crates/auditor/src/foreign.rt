@@ -30,7 +30,7 @@ fn is_foreign(delegation: &Delegation, certificate: &Certificate) -> bool
 
 /// Returns whether the line tells of another client's delegation of a prefix that overlaps the one asked of, and no
 /// foreign entry names it.
-fn is_uncovered<L: Lines>(lines: &L, certificate: &Certificate, at: Ref) -> bool
+pub fn is_uncovered<L: Lines>(lines: &L, certificate: &Certificate, at: Ref) -> bool
     ensures { IsTrue result ↔ IsUncovered (L.journals lines.now) certificate.now at }
 {
     match delegation_at(lines, at) {

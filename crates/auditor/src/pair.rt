@@ -21,8 +21,13 @@ pub enum Checked {
     Refused(Verdict),
 }
 
-/// The refusal of a journal whose lines break a rule of its side, or `None` where they keep them all.
-fn broken_rule(alloc: Global, side: Role, journal: &Journal) -> Result<Option<Verdict>, AuditError>
+/// The refusal of a journal whose lines break a rule of its side, or `None` where they keep them all. `Memory` where a
+/// growth was refused.
+pub fn broken_rule(
+    alloc: Global,
+    side: Role,
+    journal: &Journal,
+) -> Result<Option<Verdict>, AuditError>
     ensures { IfOk result (λ refusal. MatchOption refusal (IsUnbroken side journal.now) (IsBroken side journal.now)) }
 {
     match Table::replay(alloc, side, journal.head, journal.lines.as_slice()) {
@@ -32,8 +37,9 @@ fn broken_rule(alloc: Global, side: Role, journal: &Journal) -> Result<Option<Ve
     }
 }
 
-/// Both journals' lines in one order, or what refuses their messages.
-fn ordered(alloc: Global, primary: &Journal, secondary: &Journal) -> Result<Checked, AuditError>
+/// Both journals' lines in one order, or what refuses their messages; no rule is asked. `Memory` where a growth was
+/// refused.
+pub fn ordered(alloc: Global, primary: &Journal, secondary: &Journal) -> Result<Checked, AuditError>
     requires few_primary { length primary.now.lines < 2 ^ 32 }
     requires few_secondary { length secondary.now.lines < 2 ^ 32 }
     ensures { IfOk result (IsOrdered (journals_of primary.now secondary.now)) }

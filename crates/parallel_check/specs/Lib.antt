@@ -2,3 +2,4 @@ pub mod Verdicts
 pub mod Counting
 pub mod Drawing
 pub mod Findings
+pub mod Sharing

@@ -5,12 +5,14 @@ ghost use Rattle.parallel_check.specs.declared.error.CheckError.TheVariants.{Wor
 ghost use Rattle.parallel_check.specs.Drawing.{IsFresh};
 ghost use Rattle.parallel_check.specs.Verdicts.{IsVerdictAt, AreVerdicts};
 ghost use Rattle.parallel_check.specs.Findings.{IsDone};
+ghost use Rattle.parallel_check.specs.Sharing.{AreKnown};
 
 use crate::batch::Batch;
 use crate::drawing::{Done, draw_all, seats_for};
 use crate::error::CheckError;
 use crate::gate::Gate;
 use crate::settling::settled;
+use crate::sharing::sharing_of;
 use crate::word::{Ticket, closed, opened};
 use attribution::Verdict;
 use auditor::LineSource;
@@ -25,8 +27,8 @@ use std::thread::Threads;
 const MOST_WORKERS: usize = 64;
 
 /// The verdict on each certificate, in order, by this many workers: each takes the next certificate that none has
-/// taken, until none is left. Where no thread can be made the caller works. `Workers` where they aren't 1 to 64,
-/// `Memory` where a growth was refused.
+/// taken, until none is left. What other clients had of a prefix is found once for those of one holder that ask of it.
+/// Where no thread can be made the caller works. `Workers` where they aren't 1 to 64, `Memory` where a growth was refused.
 pub fn audit_all<S: LineSource + Sync, G: Gate, R: Threads + Wait + Sync>(
     rt: &R,
     alloc: Global,
@@ -44,11 +46,14 @@ pub fn audit_all<S: LineSource + Sync, G: Gate, R: Threads + Wait + Sync>(
     if workers == 0 || workers > MOST_WORKERS {
         return Err(CheckError::Workers);
     }
+    let sharing = sharing_of(rt, alloc, source, certificates, workers)?;
     let batch = Batch {
         source,
         certificates,
         skew,
         transit,
+        known: &sharing.known,
+        places: &sharing.places,
     };
     let (claims, mut mine) = opened(alloc, certificates.len() as u64)?;
     let word = &claims.shared;
@@ -59,7 +64,8 @@ pub fn audit_all<S: LineSource + Sync, G: Gate, R: Threads + Wait + Sync>(
         seats,
         &|seat: Ticket| -> Done
             requires { (0 < word.now.table_id.words) × (word.now.key ≡ length batch.now.certificates.now)
-                × (seat.table_id ≡ word.now.table_id) × IsFresh (length batch.now.certificates.now) seat.me }
+                × (seat.table_id ≡ word.now.table_id) × IsFresh (length batch.now.certificates.now) seat.me
+                × AreKnown (S.journals batch.now.source.now) batch.now.known.now }
             ensures { IsDone (IsVerdictAt (S.journals batch.entry.now.source.now) batch.entry.now.skew
                 batch.entry.now.transit batch.entry.now.certificates.now)
                 (length batch.entry.now.certificates.now) word.entry.now.table_id result }

@@ -3,6 +3,7 @@
 ghost use Rattle.std.specs.Prelude.{◌≡◌, ◌-◌, ◌<◌, ◌≤◌, [], All, length, IfOk, OnOk};
 ghost use Rattle.parallel_check.specs.Drawing.{IsFresh, seat_of};
 ghost use Rattle.parallel_check.specs.Verdicts.{IsVerdictAt};
+ghost use Rattle.parallel_check.specs.Sharing.{AreKnown};
 ghost use Rattle.parallel_check.specs.Findings.{IsDone};
 
 use crate::batch::{Batch, verdict_at};
@@ -38,6 +39,7 @@ pub fn draw_all<S: LineSource, G: Gate, R: Wait>(
 ) -> Done
     requires word { (0 < word.now.table_id.words) × (word.now.key ≡ length batch.now.certificates.now) }
     requires seat { (seat.table_id ≡ word.now.table_id) × IsFresh (length batch.now.certificates.now) seat.me }
+    requires known { AreKnown (S.journals batch.now.source.now) batch.now.known.now }
     ensures { IsDone (IsVerdictAt (S.journals batch.now.source.now) batch.now.skew batch.now.transit
         batch.now.certificates.now) (length batch.now.certificates.now) word.now.table_id result }
 {

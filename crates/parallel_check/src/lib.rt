@@ -18,6 +18,7 @@ mod drawing;
 mod error;
 mod gate;
 mod settling;
+mod sharing;
 mod word;
 
 pub use auditing::audit_all;

@@ -1,0 +1,11 @@
+use Rattle.std.proofs.Common.{subst}
+use Rattle.attribution.specs.FirstRefusal.{IsVerdict}
+use Rattle.volume_heads.specs.NextHead.{AreLegal}
+use Rattle.attribution.proofs.Refusals.{accepted_from}
+use Rattle.attribution.proofs.Lawful.{lawful}
+use Rattle.attribution.proofs.Headline.{headline}
+use Rattle.auditor.proofs.knowing.audit_knowing.Goals as goal
+
+pub returns-clause-headline : goal.returns-clause-headline
+returns-clause-headline g c accepted = headline AreLegal lawful _ _ _ _
+    (accepted_from _ _ _ _ (subst (IsVerdict _ _ _ _) accepted c.judgment_knowing.ensures))
