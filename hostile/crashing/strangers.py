@@ -1,4 +1,4 @@
-"""Strangers at the port of a link: what they say, and what they say again of what the partner said before."""
+"""Strangers at the port of a link, and callers at a server's control socket: what they say, and what they say again of others."""
 import multiprocessing
 import random
 import select
@@ -23,6 +23,12 @@ FAR = 1 << 40
 PATIENCE = 0.3
 # How often each kind of stranger comes among drawn ones.
 KINDS = {"silent": 4, "slow": 2, "garbage": 6, "leaves": 3, "connects": 3, "far": 3, "again": 4, "reflected": 3, "resets": 2, "gone": 6}
+
+# What is no request at a control socket.
+NO_REQUESTS = [
+    b"\n", b"status \n", b" status\n", b"Stop\n", b"stop close now\n", b"roll 2\n", b"partner-down\n", b"partner-down the partner is stoppe\n", b"stop\0\n",
+    b"partner-down the partner is stopped \n", b"status json metrics\n", b"stop\r\n", b"\xff\xfe\n",
+]
 
 
 def connect_frame(role, last=0):
@@ -85,6 +91,9 @@ class Recorder(threading.Thread):
 class Strangers(multiprocessing.Process):
     """Drawn connections to a port, one behind another, some of which stay open; `old` is what the primary said before."""
 
+    # Not more stay open than this, so that the system has descriptors left.
+    kinds, stay, most = KINDS, ("silent", "slow"), 40
+
     def __init__(self, port, seed, old, pause):
         super().__init__(daemon=True)
         self.port, self.dice, self.old, self.pause = port, random.Random(seed), old, pause
@@ -101,22 +110,24 @@ class Strangers(multiprocessing.Process):
             if self.pause:
                 time.sleep(self.dice.expovariate(1 / self.pause))
 
+    def connected(self):
+        return socket.create_connection((HOST, self.port), timeout=PATIENCE)
+
     def come(self):
         try:
-            stream = socket.create_connection((HOST, self.port), timeout=PATIENCE)
+            stream = self.connected()
         except OSError:
             time.sleep(0.01)
             return
         self.number.value += 1
-        kind = self.dice.choices(list(KINDS), KINDS.values())[0]
+        kind = self.dice.choices(list(self.kinds), self.kinds.values())[0]
         try:
             self.speak(stream, kind)
         except OSError:
             pass
-        if kind in ("silent", "slow"):
+        if kind in self.stay:
             self.kept.append(stream)
-            # Not more stay open than this, so that the system has descriptors left.
-            if len(self.kept) > 40:
+            if len(self.kept) > self.most:
                 self.kept.pop(0).close()
         else:
             stream.close()
@@ -146,6 +157,48 @@ class Strangers(multiprocessing.Process):
         self.join(3)
         if self.is_alive():
             self.kill()
+
+
+class Callers(Strangers):
+    """Drawn connections to a control socket, by a process that may open it: none of them is a request that changes anything."""
+
+    kinds = {"silent": 4, "slow": 3, "garbage": 6, "no request": 6, "long": 1, "asks": 4, "asks twice": 2, "leaves": 3, "gone": 6}
+    # A server hears eight at a time, and closes the ninth unheard.
+    stay, most = ("silent", "slow", "asks twice"), 5
+
+    def __init__(self, path, seed, pause):
+        super().__init__(None, seed, b"", pause)
+        self.path = path
+
+    def connected(self):
+        stream = socket.socket(socket.AF_UNIX, socket.SOCK_STREAM)
+        stream.settimeout(PATIENCE)
+        try:
+            stream.connect(str(self.path))
+        except OSError:
+            stream.close()
+            raise
+        return stream
+
+    def speak(self, stream, kind):
+        if kind == "slow":
+            stream.sendall(b"status metrics"[: self.dice.randrange(1, 15)])
+        elif kind == "garbage":
+            stream.sendall(self.dice.randbytes(self.dice.randrange(1, 400)) + self.dice.choice([b"", b"\n"]))
+        elif kind == "no request":
+            stream.sendall(self.dice.choice(NO_REQUESTS))
+            stream.recv(4096)
+        elif kind == "long":
+            stream.sendall(b"status " * 40_000)
+        elif kind == "asks":
+            stream.sendall(self.dice.choice([b"status\n", b"status json\n", b"status metrics\n"]))
+            while stream.recv(4096):
+                pass
+        elif kind == "asks twice":
+            # it hears nothing of what it is told, and a second line is nobody's request
+            stream.sendall(b"status\nstop close\n")
+        elif kind == "leaves":
+            stream.sendall(b"status json\n")
 
 
 class FalseSecondary(threading.Thread):

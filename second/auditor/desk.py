@@ -1,10 +1,11 @@
-"""Answers as the desk does: `audit`, `batch`, `explain`, `timeline` and `clocks`."""
+"""Answers as the desk does: `audit`, `batch`, `explain`, `timeline`, `clocks` and `join`."""
 import sys
 from typing import NamedTuple
 
 from .auditing import audit
 from .certificates import read_certificate
 from .clocks import farthest, least_skew, refusal_of, takes_behind
+from .joining import asked_of, joined
 from .journals import MOST_TRANSIT, read_journal
 from .merging import Pair, merged
 from .report_text import report_text
@@ -205,9 +206,20 @@ def answer(words, text):
     return Answer(written, warned, int("refused" in written))
 
 
+def answer_of_files(words):
+    """What the program answers to `join`, which takes nothing from standard input."""
+    asked = asked_of(words)
+    if asked is None:
+        raise Usage
+    return Answer(*joined(asked))
+
+
 def main():
     try:
-        given = answer(sys.argv[1:], sys.stdin.buffer.read())
+        if sys.argv[1:2] == ["join"]:
+            given = answer_of_files(sys.argv[2:])
+        else:
+            given = answer(sys.argv[1:], sys.stdin.buffer.read())
     except Usage:
         sys.stderr.write("fault Usage\n")
         return 2

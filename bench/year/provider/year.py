@@ -5,7 +5,7 @@ import subprocess
 import time
 
 from .ledger import Ledger
-from .messages import REBIND, RELEASE, RENEW, REPLY, REQUEST, SOLICIT, answered
+from .messages import ADVERTISE, REBIND, RELEASE, RENEW, REPLY, REQUEST, SOLICIT, answered
 from .pair import STANDS
 from .routers import DAY, HOUR, PORTS_OF_A_RELAY, SECOND, Router
 from .weather import Weather
@@ -177,7 +177,7 @@ class Run:
         for server in pair.servers:
             for octets in server.answers():
                 answer = answered(octets)
-                if answer[1] in asked and self.dice.randrange(LOST):
+                if answer[1] in asked and is_for(answer[0], asked[answer[1]][1]) and self.dice.randrange(LOST):
                     asked[answer[1]][2].append((server.side, answer))
                 else:
                     self.lose(answer, asked, now)
@@ -198,9 +198,12 @@ class Run:
                 pair.send(side, octets)
 
     def lose(self, answer, asked, now):
-        """An answer is lost on its way, or comes for a question that is over."""
+        """An answer is lost on its way, or comes for a question that is over: a router's messages have one transaction here, and on a busy
+        machine an offer may come a step late."""
         kind, index, prefix, valid, _ = answer
         self.counts["answers lost"] += 1
+        if index in asked and not is_for(kind, asked[index][1]):
+            self.counts["late offers"] += 1
         if kind == REPLY and prefix and valid:
             self.ledger.lost(self.routers[index].client, prefix[0], now, now + valid * SECOND)
 
@@ -313,6 +316,11 @@ class Run:
 
     def on_relay_back(self, trouble, now):
         self.away.discard(trouble.who)
+
+
+def is_for(kind, question):
+    """Whether an answer of this kind is one to that question."""
+    return (kind == ADVERTISE) == (question == SOLICIT)
 
 
 def tear(volume, dice):

@@ -1,8 +1,8 @@
 //! What access records say of the grants that an answer of the desk rests on.
 //!
 //! An answer that gives a certificate has a line `piece REF ..` for each grant that carries a piece of it. Where the
-//! access records of REF's side have that grant and the port that its client was behind, [`access_lines`] gives the line
-//! `access REF LINK INTERFACE REMOTE`; of all pieces, in their order. A relay said so: such a line is no evidence.
+//! access records of REF's side have that grant and the port that its client was behind, [`access_lines`] gives the
+//! line `access REF LINK INTERFACE REMOTE`; of all pieces, in their order. A relay said so: such a line is no evidence.
 //! [`said_beside`] takes the records from the texts beside the files of the two volumes ([`AccessBeside`]).
 //!
 //! ```text

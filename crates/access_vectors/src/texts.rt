@@ -52,8 +52,8 @@ fn says_what_it_spells(rt: HostRuntime) -> Result<(), Fail> {
 }
 
 /// Each of these stands for a line behind the head line, and spells no record: two spaces, a leading zero, a number of
-/// 33 bits, an upper-case digit, half an octet, no word, a name without a link address, a short address, a sixth word, a
-/// carriage return.
+/// 33 bits, an upper-case digit, half an octet, no word, a name without a link address, a short address, a sixth word,
+/// a carriage return.
 const NO_LINES: [&[u8]; 10] = [
     b"7  - - - -",
     b"07 - - - -",

@@ -3,3 +3,4 @@ pub mod OneMore
 mod Pendings
 mod Saying
 mod Warned
+pub mod NoneUnread

@@ -17,6 +17,7 @@ use Rattle.archive_desk.specs.Who.{IsWhoTold}
 use Rattle.archive_desk.specs.Stretches.{IsFindTold}
 use Rattle.archive_desk.specs.Newest.{IsTimelineTold}
 use Rattle.archive_desk.specs.Certificates.{IsAuditTold, IsBatchTold}
+use Rattle.archive_desk.specs.Unread.{AllRead}
 
 -- a name is given where the settings of all volumes agree, unless the two servers' may differ
 abbrev pub agreement_for : Settings → Agreement
@@ -29,21 +30,24 @@ agreement_of (Who q settings) = agreement_for settings
 agreement_of _ = OfEach
 
 -- by the volumes of an archive
-abbrev pub IsAnswerOver : {A : Type 0} → (had : ℕ → List ℕ → Type 0) → (Says : ℕ → TextValue → Type 0) → List (PathBuf A)
-    → Archive → Question → Told → Type 0
+abbrev pub IsAnswerOver : {A : Type 0} → (had : ℕ → List ℕ → Type 0) → (Says : ℕ → TextValue → Type 0)
+    → List (PathBuf A) → Archive → Question → Told → Type 0
 IsAnswerOver had Says names archive (Who q settings) told = IsWhoTold had Says names archive q settings told
 IsAnswerOver had Says names archive (Find q) told = IsFindTold had names archive q told
 IsAnswerOver had Says names archive Timeline told = IsTimelineTold had names archive told
-IsAnswerOver had Says names archive (Audit text skew transit) told = IsAuditTold had names archive text.now skew transit told
+IsAnswerOver had Says names archive (Audit text skew transit) told =
+    IsAuditTold had names archive text.now skew transit told
 IsAnswerOver had Says names archive (Batch texts skew transit workers) told =
     IsBatchTold had names archive texts.now skew transit told
 
--- by the volumes that so many files are; standard error has something in front of that, of the other files
+-- by the volumes that so many files are, none of which is unknown since its file can't be read; standard error has
+-- something in front of that, of the other files
 pub record IsAnswer {A : Type 0} (had : ℕ → List ℕ → Type 0) (Says : ℕ → TextValue → Type 0) (count : ℕ)
     (names : List (PathBuf A)) (q : Question) (told : Told) : Type 0 where
   pub catalogue : Catalogue
   pub is_catalogue : IsCatalogue had count catalogue
   pub tied : AreTied had (agreement_of q) catalogue.archive.primary catalogue.archive.secondary
+  pub read : AllRead names catalogue.passed_over.items
   pub answer : Told
   pub is_answer : IsAnswerOver had Says names catalogue.archive q answer
   pub text : told.text ≡ answer.text

@@ -18,8 +18,8 @@ IsReplyOver pair shown q (Answered of found until) =
     × (until ≡ shown_until (skew_of q) shown)
 IsReplyOver pair shown q (Lacking side lack) = ⊥
 
--- The desk's answer over the journals that the pair of volumes shows which shows the moment; or which side lacks it, and
--- why.
+-- The desk's answer over the journals that the pair of volumes shows which shows the moment; or which side lacks it,
+-- and why.
 abbrev pub IsReplyAt : (had : ℕ → List ℕ → Type 0) → Archive → (moment : ℕ) → Search → Reply → Type 0
 IsReplyAt had archive moment q (Answered pair found until) =
     (shown : ShownPair) × IsShownAt had archive (skew_of q) (transit_of q) moment (ShownJournals pair shown)

@@ -9,5 +9,6 @@ pub mod Judging
 pub mod Waiting
 pub mod Warnings
 pub mod Certificates
-pub mod Answering
 pub mod Failing
+pub mod Unread
+pub mod Answering

@@ -55,7 +55,8 @@ AreStretchesTold had names archive q (s ∷ ss) before after =
     (reply : Reply) × (mid : Said) × IsFoundAt had archive s.from (stretch_of q s) reply
     × IsSaidMore names reply s.to before mid × AreStretchesTold had names archive q ss mid after
 
--- The stretches lie end to end from the interval's beginning to its end. Where it has no moment, it is asked of as it is.
+-- The stretches lie end to end from the interval's beginning to its end. Where it has no moment, it is asked of as it
+-- is.
 pub record IsFindTold {A : Type 0} (had : ℕ → List ℕ → Type 0) (names : List (PathBuf A)) (archive : Archive)
     (q : Query) (told : Told) : Type 0 where
   pub stretches : q.from < q.to → (spans : List Span)

@@ -10,6 +10,7 @@ use crate::newest::timeline;
 use crate::passing::passed_over;
 use crate::stretches::find;
 use crate::telling::Told;
+use crate::unread::expect_read;
 use access_lines::AccessBeside;
 use archive_files::{Agreement, FilesError, JournalFiles, catalogue_of};
 use desk_words::{Settings, Workers};
@@ -90,7 +91,8 @@ fn answer_over<F: JournalFiles + AccessBeside>(
 }
 
 /// Answers a question over the volumes that the files are; standard error says first which files are passed over.
-/// `OtherPair` or `Archive` where the volumes can't be of one pair of servers, `Changed` or `Faulty` where a file isn't
+/// `OtherPair` or `Archive` where the volumes can't be of one pair of servers, `Unread` where a file by the name of a
+/// volume's can't be read, `Changed` or `Faulty` where a file isn't
 /// any longer what it was when it was looked at, `Memory` where a growth was refused.
 pub fn answer<F: JournalFiles + AccessBeside>(
     rt: &(impl Threads + Wait + Sync),
@@ -102,6 +104,7 @@ pub fn answer<F: JournalFiles + AccessBeside>(
     ensures { IfOk result (IsAnswer (F.had files.now) (F.says files.now) (F.files files.now) names.now question.now) }
 {
     let catalogue = catalogue_of(alloc, files, agreement_of(question))?;
+    expect_read(names, &catalogue.passed_over)?;
     let mut notes = passed_over(alloc, names, &catalogue.passed_over)?;
     let told = answer_over(rt, alloc, files, names, &catalogue.archive, question)?;
     notes.extend_from_slice(&told.notes)?;

@@ -71,8 +71,8 @@ pub(crate) fn reply_over(
     }
 }
 
-/// What the files answer to a search of a moment, in milliseconds of true time. `Changed` or `Faulty` where a file isn't
-/// what the archive knows of it, `Memory` where a growth was refused.
+/// What the files answer to a search of a moment, in milliseconds of true time. `Changed` or `Faulty` where a file
+/// isn't what the archive knows of it, `Memory` where a growth was refused.
 pub fn ask_at<F: JournalFiles>(
     rt: &(impl Threads + Sync),
     alloc: Global,

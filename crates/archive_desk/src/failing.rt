@@ -2,6 +2,7 @@
 
 ghost use Rattle.std.specs.Prelude.{◌≡◌, ◌++◌, OnOk, IfOk};
 ghost use Rattle.archive_desk.specs.Failing.{file_word, refusal_line, other_pair_line, IsRefusal};
+ghost use Rattle.archive_desk.specs.Unread.{unread_line, IsFault};
 
 use crate::names::name_of;
 use crate::telling::Told;
@@ -82,7 +83,22 @@ fn of_two_pairs(
     })
 }
 
-/// What is told of a fault: standard error says which, and the status is 2.
+/// What is told where a file by the name of a volume's can't be read.
+fn unread(alloc: Global, names: &[PathBuf], file: usize) -> Result<Told, AllocError>
+    ensures { IfOk result (IsFault (unread_line names.now file)) }
+{
+    let mut notes = Vec::new(alloc);
+    notes.extend_from_slice(b"fault Path")?;
+    push_file(&mut notes, names, file)?;
+    notes.push(b'\n')?;
+    Ok(Told {
+        text: Vec::new(alloc),
+        status: 2,
+        notes,
+    })
+}
+
+/// What is told of another fault: standard error says which, and the status is 2.
 fn faulty(alloc: Global, names: &[PathBuf], error: &FilesError) -> Result<Told, AllocError> {
     let mut notes = Vec::new(alloc);
     match error {
@@ -96,9 +112,10 @@ fn faulty(alloc: Global, names: &[PathBuf], error: &FilesError) -> Result<Told, 
             let words = format!(in alloc; ": {fault}")?;
             notes.extend_from_slice(words.as_bytes())?;
         }
-        FilesError::Archive(_) | FilesError::OtherPair { .. } | FilesError::Memory => {
-            notes.extend_from_slice(b"fault Memory")?
-        }
+        FilesError::Archive(_)
+        | FilesError::OtherPair { .. }
+        | FilesError::Unread { .. }
+        | FilesError::Memory => { notes.extend_from_slice(b"fault Memory")? }
     }
     notes.push(b'\n')?;
     Ok(Told {
@@ -108,13 +125,14 @@ fn faulty(alloc: Global, names: &[PathBuf], error: &FilesError) -> Result<Told, 
     })
 }
 
-/// What is told where files answer nothing: status 1 where their volumes can't be of one pair of servers, which standard
-/// output says by name; else 2, and standard error says why. `AllocError` where a growth was refused.
+/// What is told where files answer nothing: status 1 where their volumes can't be of one pair of servers, which
+/// standard output says by name; else 2, and standard error says why. `AllocError` where a growth was refused.
 pub fn failure(alloc: Global, names: &[PathBuf], error: &FilesError) -> Result<Told, AllocError> {
     match error {
         FilesError::Archive(ArchiveError::Memory) => faulty(alloc, names, error),
         FilesError::Archive(refusal) => refused(alloc, names, refusal),
         FilesError::OtherPair { first, second } => of_two_pairs(alloc, names, *first, *second),
+        FilesError::Unread { file } => unread(alloc, names, *file),
         _ => faulty(alloc, names, error),
     }
 }

@@ -48,8 +48,9 @@ fn access_of<F: AccessBeside>(
     }
 }
 
-/// Who held the prefix at the moment, over the pair of volumes that shows it, and behind that what access records say of
-/// the grants that show it; `none` where no pair does. `Changed` or `Faulty` where a file isn't what the archive knows of it, `Memory` where a growth was refused.
+/// Who held the prefix at the moment, over the pair of volumes that shows it, and behind that what access records say
+/// of the grants that show it; `none` where no pair does. `Changed` or `Faulty` where a file isn't what the archive
+/// knows of it, `Memory` where a growth was refused.
 pub(crate) fn who<F: JournalFiles + AccessBeside>(
     rt: &(impl Threads + Sync),
     alloc: Global,

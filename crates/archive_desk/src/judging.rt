@@ -189,9 +189,9 @@ pub(crate) struct Judgement<'a> {
     pub(crate) warnings: Vec<u8>,
 }
 
-/// Judges certificates, each over the pair of volumes that shows where its interval begins; each such pair is read once,
-/// and forgotten before the next. `Changed` or `Faulty` where a file isn't what the archive knows of it, `Memory` where a
-/// growth was refused.
+/// Judges certificates, each over the pair of volumes that shows where its interval begins; each such pair is read
+/// once, and forgotten before the next. `Changed` or `Faulty` where a file isn't what the archive knows of it, `Memory`
+/// where a growth was refused.
 pub(crate) fn judge_all<'a, F: JournalFiles>(
     rt: &(impl Threads + Wait + Sync),
     alloc: Global,

@@ -23,6 +23,7 @@ mod newest;
 mod passing;
 mod stretches;
 mod telling;
+mod unread;
 mod waiting;
 
 pub use answering::{Question, answer};
@@ -30,6 +31,7 @@ pub use asking::{Reply, ask_at};
 pub use failing::failure;
 pub use judging::Judged;
 pub use lacks::{Bounds, lack_line, push_lack};
-pub use names::push_journals;
+pub use names::{name_of, push_journals};
 pub use passing::passed_over;
 pub use telling::Told;
+pub use unread::expect_read;

@@ -8,7 +8,7 @@ use std::alloc::AllocError;
 use std::path::PathBuf;
 
 /// The name of a file, by its count; none where there is no such file.
-pub(crate) fn name_of(names: &[PathBuf], file: usize) -> &str
+pub fn name_of(names: &[PathBuf], file: usize) -> &str
     ensures { result.now ≡ name_at names.now file }
 {
     match names.get(file) {

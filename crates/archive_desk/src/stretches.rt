@@ -117,8 +117,8 @@ fn told_over<F: JournalFiles>(
 /// The evidence that the client held the prefix over the interval: for each stretch that one pair of volumes shows, in
 /// order, a certificate behind the line that names the two files, as far as these bear each other out; `none` where no
 /// pair shows a stretch. An interval
-/// without a moment is asked of as it is, of the pair that shows its beginning. `Changed` or `Faulty` where a file isn't
-/// what the archive knows of it, `Memory` where a growth was refused.
+/// without a moment is asked of as it is, of the pair that shows its beginning. `Changed` or `Faulty` where a file
+/// isn't what the archive knows of it, `Memory` where a growth was refused.
 pub(crate) fn find<F: JournalFiles>(
     rt: &(impl Threads + Sync),
     alloc: Global,

@@ -2,3 +2,4 @@ pub mod Listed
 pub mod Asked
 mod Tied
 pub mod AnyParts
+pub mod Copied

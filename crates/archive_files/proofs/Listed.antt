@@ -5,12 +5,13 @@ use Rattle.std.proofs.lemmas.Bool.{cases_lt}
 use Rattle.binding_rules.specs.declared.role.Role.{Role}
 use Rattle.binding_rules.specs.declared.role.Role.TheVariants.{Primary, Secondary}
 use Rattle.journal_archive.specs.declared.outline.Filed.{Filed}
-use Rattle.journal_archive.specs.Shelves.{IsShelfOf}
+use Rattle.journal_archive.specs.Shelves.{IsShelfOf, AreTwo, AreDifferent}
 use Rattle.archive_files.specs.declared.found.Found.TheVariants.{Volume}
 use Rattle.archive_files.specs.declared.cataloguing.PassedOver.{PassedOver}
 use Rattle.archive_files.specs.declared.cataloguing.Catalogue.{Catalogue}
 use Rattle.archive_files.specs.Found.{IsFound}
-use Rattle.archive_files.specs.Catalogues.{IsIn, IsKept, IsCatalogue}
+use Rattle.archive_files.specs.Catalogues.{IsIn, AreFound, IsKept, IsCatalogue}
+use Rattle.archive_files.specs.Alike.{AreCopiesOf, AreUnlike}
 use Rattle.archive_files.specs.Telling.{AreTold}
 
 in_or : {X : Type 0} (xs : List X) (x y : X) (k : ℕ) → slice_get (xs ++ x ∷ []) k ≡ Some y → IsIn xs y ⊎ (x ≡ y)
@@ -33,7 +34,7 @@ in_its_file : (had : ℕ → List ℕ → Type 0) (file : ℕ) (v : Filed) → I
     → IsFound (had v.file) v.file (Volume v)
 in_its_file had file v found = subst (λ n. IsFound (had n) n (Volume v)) (sym found.0) found
 
-less_or : (count k : ℕ) → k < count + 1 → (k < count) ⊎ (k ≡ count)
+pub less_or : (count k : ℕ) → k < count + 1 → (k < count) ⊎ (k ≡ count)
 less_or count k lt = elim (cases_lt k count) [ inl a ↦ inl a | inr b ↦ inr (omega arith) ]
 
 pub none_told : (had : ℕ → List ℕ → Type 0) (vs : List Filed) (ps : List PassedOver) → vs ≡ [] → ps ≡ []
@@ -84,25 +85,51 @@ module _ (had : ℕ → List ℕ → Type 0) (count : ℕ) (vs : List Filed) (ps
 
 -- a volume that was told of stands on its side's shelf
 kept_by : (had : ℕ → List ℕ → Type 0) (file : ℕ) (files primary secondary : List Filed) (v : Filed) (side : Role)
-    → v.outline.side ≡ side → IsShelfOf Primary files primary → IsShelfOf Secondary files secondary → IsIn files v
+    → v.outline.side ≡ side → IsShelfOf Primary files primary → IsShelfOf Secondary files secondary
+    → AreCopiesOf had primary files → AreCopiesOf had secondary files → IsIn files v
     → IsFound (had file) file (Volume v) → IsKept had primary secondary file
-kept_by had file files primary secondary v Primary of one other a found =
+kept_by had file files primary secondary v Primary of one other copies copied a found =
     let r = one.all v a of in
-    (v, r.0, found, inl r.1, r.2)
-kept_by had file files primary secondary v Secondary of one other a found =
+    (v, r.0, found, inl r.1, r.2, copies a.0 v a.1 r.1.0 r.0 r.1.1 r.2)
+kept_by had file files primary secondary v Secondary of one other copies copied a found =
     let r = other.all v a of in
-    (v, r.0, found, inr r.1, r.2)
+    (v, r.0, found, inr r.1, r.2, copied a.0 v a.1 r.1.0 r.0 r.1.1 r.2)
 
 pub catalogued : (had : ℕ → List ℕ → Type 0) (count : ℕ) (files : List Filed) (c : Catalogue)
     → AreTold had count files c.passed_over.items → IsShelfOf Primary files c.archive.primary
-    → IsShelfOf Secondary files c.archive.secondary → IsCatalogue had count c
-catalogued had count files c told one other = record {
+    → IsShelfOf Secondary files c.archive.secondary → AreCopiesOf had c.archive.primary files
+    → AreCopiesOf had c.archive.secondary files → IsCatalogue had count c
+catalogued had count files c told one other copies copied = record {
   primary = λ v a. told.found v (one.each v a).0;
   secondary = λ v a. told.found v (other.each v a).0;
   passed_over = told.passed_over;
   all = λ k lt. elim (told.all k lt) [
     | inl p ↦ inl p
-    | inr h ↦ inr (kept_by had k files c.archive.primary c.archive.secondary h.0 h.0.outline.side refl one other h.1
-        h.2)
+    | inr h ↦ inr (kept_by had k files c.archive.primary c.archive.secondary h.0 h.0.outline.side refl one other copies
+        copied h.1 h.2)
   ];
+}
+
+-- a shelf's volumes were found in their files
+pub on_shelf_found : (had : ℕ → List ℕ → Type 0) (side : Role) (files vs : List Filed) → AreFound had files
+    → IsShelfOf side files vs → AreFound had vs
+on_shelf_found had side files vs found shelf v a = found v (shelf.each v a).0
+
+-- two files of which the edges say different things
+pub differ_told : (had : ℕ → List ℕ → Type 0) (files : List Filed) (first second : ℕ) → AreFound had files
+    → AreTwo files first second AreDifferent → AreUnlike had first second
+differ_told had files first second found two = record {
+  one = two.first;
+  other = two.second;
+  is_one = (
+    two.counted.0,
+    subst (λ n. IsFound (had n) n (Volume two.first)) two.counted.0 (found two.first two.has_first),
+  );
+  is_other = (
+    two.counted.1,
+    subst (λ n. IsFound (had n) n (Volume two.second)) two.counted.1 (found two.second two.has_second),
+  );
+  of_side = two.of_side;
+  numbered = two.are.0;
+  differ = inl two.are.1;
 }

@@ -5,6 +5,7 @@ use Rattle.archive_files.specs.declared.found.Found.TheVariants.{Volume}
 use Rattle.archive_files.specs.declared.cataloguing.PassedOver.{PassedOver}
 use Rattle.archive_files.specs.declared.cataloguing.Catalogue.{Catalogue}
 use Rattle.archive_files.specs.Found.{IsFound}
+use Rattle.archive_files.specs.Alike.{AreCopies}
 
 abbrev pub IsIn : {X : Type 0} → List X → X → Type 0
 IsIn xs x = (k : ℕ) × (slice_get xs k ≡ Some x)
@@ -21,11 +22,11 @@ ArePassedOver had ps = (p : PassedOver) → IsIn ps p → IsFound (had p.file) p
 abbrev pub IsPassedOver : List PassedOver → ℕ → Type 0
 IsPassedOver ps file = (p : PassedOver) × IsIn ps p × (p.file ≡ file)
 
--- its volume stands on one of the shelves, by this file or by another that says the same
+-- its volume stands on one of the shelves, by this file or by another that says the same and had the same octets
 abbrev pub IsKept : (ℕ → List ℕ → Type 0) → (primary secondary : List Filed) → ℕ → Type 0
 IsKept had primary secondary file =
     (v : Filed) × (w : Filed) × IsFound (had file) file (Volume v)
-    × (IsIn primary w ⊎ IsIn secondary w) × (w.outline ≡ v.outline)
+    × (IsIn primary w ⊎ IsIn secondary w) × (w.outline ≡ v.outline) × AreCopies had w v
 
 -- what so many files are: each stands in the archive or is passed over, and nothing else is said
 pub record IsCatalogue (had : ℕ → List ℕ → Type 0) (count : ℕ) (c : Catalogue) : Type 0 where

@@ -9,7 +9,8 @@ use Rattle.volume_edges.specs.Beginning.{IsHeaded}
 use Rattle.volume_edges.specs.Outlining.{outline_of, outline_by}
 use Rattle.archive_files.specs.Parts.{IsBeginning, IsEnd}
 use Rattle.archive_files.specs.declared.found.Glimpse.{Glimpse}
-use Rattle.archive_files.specs.declared.found.Glimpse.TheVariants.{Volume as IsVolume, NoJournal as IsNoJournal, Unclear}
+use Rattle.archive_files.specs.declared.found.Glimpse.TheVariants.{Volume as IsVolume, NoJournal as IsNoJournal}
+use Rattle.archive_files.specs.declared.found.Glimpse.TheVariants.{Unclear}
 use Rattle.archive_files.specs.declared.found.Found.{Found}
 use Rattle.archive_files.specs.declared.found.Found.TheVariants.{Volume, Unwritten, NoJournal, Faulty, Unreadable}
 

@@ -1,5 +1,6 @@
 pub mod Parts
 pub mod Found
+pub mod Alike
 pub mod Catalogues
 pub mod Ties
 pub mod Showing

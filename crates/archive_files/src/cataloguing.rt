@@ -1,16 +1,21 @@
 //! What files are, and the archive of their volumes.
 
 ghost use Rattle.std.specs.Prelude.{◌≡◌, ℕ, IfOk, IfErr};
-ghost use Rattle.archive_files.specs.declared.error.FilesError.TheVariants.{OtherPair};
-ghost use Rattle.archive_files.specs.Catalogues.{IsCatalogue};
+ghost use Rattle.binding_rules.specs.declared.role.Role.TheVariants.{Primary as A, Secondary as B};
+ghost use Rattle.journal_archive.specs.declared.error.ArchiveError.TheVariants.{Differ};
+ghost use Rattle.journal_archive.specs.Shelves.{IsShelfOf, AreTwo, AreDifferent};
+ghost use Rattle.archive_files.specs.declared.error.FilesError.TheVariants.{OtherPair, Archive as IsArchives};
+ghost use Rattle.archive_files.specs.Alike.{AreCopiesOf, DifferTruly, IsNoTies};
+ghost use Rattle.archive_files.specs.Catalogues.{AreFound, IsCatalogue};
 ghost use Rattle.archive_files.specs.Telling.{AreTold};
 ghost use Rattle.archive_files.specs.Ties.{AreTied, AreOfTwoPairs};
 
+use crate::copies::expect_copies;
 use crate::error::FilesError;
 use crate::files::JournalFiles;
 use crate::found::{Found, look_at};
 use crate::ties::{Agreement, tie};
-use journal_archive::{Archive, Filed};
+use journal_archive::{Archive, ArchiveError, Filed};
 use std::alloc::{AllocError, Global};
 
 /// A file that is no volume for the archive, and what it is.
@@ -53,9 +58,47 @@ fn look_at_all<F: JournalFiles>(alloc: Global, files: &F) -> Result<Told, AllocE
     })
 }
 
+/// The archive of volumes by what their edges say. `Archive` where they can't be of one pair of servers, `Memory` where
+/// a growth was refused.
+fn archive_by_edges(alloc: Global, volumes: &[Filed]) -> Result<Archive, FilesError>
+    ensures primary { IfOk result (λ archive. IsShelfOf A volumes.now archive.primary) }
+    ensures secondary { IfOk result (λ archive. IsShelfOf B volumes.now archive.secondary) }
+    ensures differ { IfErr result (λ e. (first second : ℕ) → e ≡ IsArchives (Differ first second)
+        → AreTwo volumes.now first second AreDifferent) }
+    ensures others { IfErr result IsNoTies }
+{
+    match Archive::new(alloc, volumes) {
+        Ok(archive) => Ok(archive),
+        Err(ArchiveError::Memory) => Err(FilesError::Memory),
+        Err(error) => Err(FilesError::Archive(error)),
+    }
+}
+
+/// The archive of volumes, of which those that count as one have the same octets. `Archive` where they can't be of one
+/// pair of servers, `Changed` where a file can't be read again, `Memory` where a growth was refused.
+fn archive_of<F: JournalFiles>(
+    alloc: Global,
+    files: &F,
+    volumes: &[Filed],
+) -> Result<Archive, FilesError>
+    requires { AreFound (F.had files.now) volumes.now }
+    ensures primary { IfOk result (λ archive. IsShelfOf A volumes.now archive.primary) }
+    ensures secondary { IfOk result (λ archive. IsShelfOf B volumes.now archive.secondary) }
+    ensures copies { IfOk result (λ archive. AreCopiesOf (F.had files.now) archive.primary volumes.now) }
+    ensures copied { IfOk result (λ archive. AreCopiesOf (F.had files.now) archive.secondary volumes.now) }
+    ensures differ { IfErr result (DifferTruly (F.had files.now)) }
+    ensures others { IfErr result IsNoTies }
+{
+    let archive = archive_by_edges(alloc, volumes)?;
+    expect_copies(alloc, files, archive.primary.volumes(), volumes)?;
+    expect_copies(alloc, files, archive.secondary.volumes(), volumes)?;
+    Ok(archive)
+}
+
 /// What the files are: the archive of those that are volumes, and what each other one is. `OtherPair` where two volumes
-/// that should agree say settings that differ, `Archive` where their volumes can't be of one pair of servers, `Changed`
-/// where a file can't be read again, `Memory` where a growth was refused.
+/// that should agree say settings that differ, `Archive` where their volumes can't be of one pair of servers: `Differ`
+/// of it too where two files that say the same of a volume have other octets, read whole. `Changed` where a file can't
+/// be read again, `Memory` where a growth was refused.
 pub fn catalogue_of<F: JournalFiles>(
     alloc: Global,
     files: &F,
@@ -66,17 +109,16 @@ pub fn catalogue_of<F: JournalFiles>(
         (λ c. AreTied (F.had files.now) agreement c.archive.primary c.archive.secondary) }
     ensures refused { IfErr result
         (λ e. (first second : ℕ) → e ≡ OtherPair first second → AreOfTwoPairs (F.had files.now) first second) }
+    ensures differ { IfErr result (DifferTruly (F.had files.now)) }
 {
     let Told {
         volumes,
         passed_over,
     } = look_at_all(alloc, files)?;
     tie(alloc, files, &volumes, agreement)?;
-    match Archive::new(alloc, &volumes) {
-        Ok(archive) => Ok(Catalogue {
-            archive,
-            passed_over,
-        }),
-        Err(error) => Err(FilesError::Archive(error)),
-    }
+    let archive = archive_of(alloc, files, &volumes)?;
+    Ok(Catalogue {
+        archive,
+        passed_over,
+    })
 }

@@ -17,6 +17,9 @@ pub enum FilesError {
     /// The settings of these two files' servers differ, though they should be of one pair.
     #[error("files {first} and {second} are of two pairs: their settings differ")]
     OtherPair { first: usize, second: usize },
+    /// This file has the name of a volume's and can't be read: who knows the names of the files tells.
+    #[error("file {file} can't be read")]
+    Unread { file: usize },
     /// This file couldn't be read again, or has another volume now.
     #[error("file {file} isn't what it was")]
     Changed { file: usize },

@@ -1,17 +1,20 @@
 //! Which journals of some files answer a question, whatever device has the files.
 //!
 //! [`catalogue_of`] looks at the edges of each file and says what it is: the outline of a volume, for the archive, or
-//! why it's passed over. Only where the edges don't tell is a file read whole. [`shown_at`] chooses the pair of volumes
-//! that shows a moment, reads these two whole, and gives the two journals that they show, or says what is lacking; a
-//! file with another volume than its edges said is refused there. The contracts speak of octets that a file had when it was read
-//! (`had` of [`JournalFiles`]): a file that a server writes on may have others each time.
+//! why it's passed over. Only where the edges don't tell, or two files have one volume, is a file read whole.
+//! [`shown_at`] chooses the pair of volumes that shows a moment, reads these two whole, and gives the two journals that
+//! they show, or says what is lacking; a file with another volume than its edges said is refused there. The contracts
+//! speak of octets that a file had when it was read (`had` of [`JournalFiles`]): a file that a server writes on may have
+//! others each time.
 //!
-//! All volumes of one server begin with the same settings, and so do its partner's where the two are set up alike: where
-//! they differ the files are of two pairs (`FilesError::OtherPair`). [`Agreement`] says whether the partner's are asked.
+//! All volumes of one server begin with the same settings, and so do its partner's where the two are set up alike:
+//! where they differ the files are of two pairs (`FilesError::OtherPair`). [`Agreement`] says whether the partner's are
+//! asked.
 //!
-//! Two files with one volume of a side count once where their outlines are the same: first and last reading, octets,
-//! and whether it's closed. Where these differ nothing is answered (`ArchiveError::Differ`): what stands between isn't
-//! compared.
+//! Two files with one volume of a side count once where they are copies. Where their outlines differ (first and last
+//! reading, octets, and whether it's closed) nothing is answered: `ArchiveError::Differ`. Where these are the same both
+//! are read whole and compared when the catalogue is made, as far as both go and no farther than they were outlined:
+//! where they differ nothing is answered either.
 //!
 //! ```text
 //! let catalogue = catalogue_of(alloc, &files, Agreement::OfBoth)?;
@@ -23,6 +26,7 @@
 #![tactic(auto)]
 
 mod cataloguing;
+mod copies;
 mod error;
 mod files;
 mod found;
@@ -37,6 +41,6 @@ pub use files::{JournalFiles, Unreadable};
 pub use found::Found;
 pub use laws::what_is_shown_is_what_is_asked;
 pub use reaching::shown_until;
-pub use showing::{Shown, shown_at, shown_by};
+pub use showing::{Shown, read_again, shown_at, shown_by};
 pub use ties::Agreement;
 pub use volume_edges::FileEnd;

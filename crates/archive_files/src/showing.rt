@@ -22,9 +22,9 @@ pub enum Shown {
     Lacking(Role, Lack),
 }
 
-/// The volume that a file has now: the one that was filed, with more lines perhaps, or with fewer where not all that its
-/// edges showed is on a disk. `Changed` where it's another or can't be read, `Faulty` where it's none.
-fn read_again<F: JournalFiles>(
+/// The volume that a file has now: the one that was filed, with more lines perhaps, or with fewer where not all that
+/// its edges showed is on a disk. `Changed` where it's another or can't be read, `Faulty` where it's none.
+pub fn read_again<F: JournalFiles>(
     alloc: Global,
     files: &F,
     filed: &Filed,

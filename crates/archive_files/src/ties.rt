@@ -3,6 +3,7 @@
 ghost use Rattle.std.specs.Prelude.{◌≡◌, ◌↔◌, ℕ, List, Some, IsTrue, IfOk, OnOk, IfErr, option_map};
 ghost use Rattle.volume_edges.specs.declared.settings.Setting.{Setting as SettingValue};
 ghost use Rattle.archive_files.specs.declared.error.FilesError.TheVariants.{OtherPair};
+ghost use Rattle.archive_files.specs.Alike.{IsNoArchives};
 ghost use Rattle.archive_files.specs.Ties.{IsSetUp, SaysNoOther, IsOfSide, AreSetUp, AreTiedBy, AreOfTwoPairs};
 
 use crate::error::FilesError;
@@ -40,6 +41,7 @@ fn settings_of<F: JournalFiles>(
 ) -> Result<Option<Vec<Setting>>, FilesError>
     ensures told { IfOk result (λ told. IsSetUp (F.had files.now file) (option_map (λ v. v.items) told)) }
     ensures refused { IfErr result (λ e. (first second : ℕ) → e ≡ OtherPair first second → ⊥) }
+    ensures others { IfErr result IsNoArchives }
 {
     let beginning = match files.beginning(alloc, file, HEAD_OCTETS) {
         Ok(beginning) => beginning,
@@ -69,6 +71,7 @@ fn says_no_other<F: JournalFiles>(
     ensures same { OnOk result (SaysNoOther (F.had files.now file) known.now.settings.items) }
     ensures refused { IfErr result
         (λ e. (first second : ℕ) → e ≡ OtherPair first second → AreOfTwoPairs (F.had files.now) first second) }
+    ensures others { IfErr result IsNoArchives }
 {
     let Some(settings) = settings_of(alloc, files, file)? else {
         return Ok(());
@@ -104,6 +107,7 @@ fn say_no_other<F: JournalFiles>(
     ensures same { OnOk result (AreSetUp (F.had files.now) side volumes.now known.now.settings.items) }
     ensures refused { IfErr result
         (λ e. (first second : ℕ) → e ≡ OtherPair first second → AreOfTwoPairs (F.had files.now) first second) }
+    ensures others { IfErr result IsNoArchives }
 {
     for volume in volumes {
         if is_of_side(volume, side) {
@@ -124,6 +128,7 @@ fn say_the_same<F: JournalFiles>(
     ensures same { OnOk result ((settings : List SettingValue) × AreSetUp (F.had files.now) side volumes.now settings) }
     ensures refused { IfErr result
         (λ e. (first second : ℕ) → e ≡ OtherPair first second → AreOfTwoPairs (F.had files.now) first second) }
+    ensures others { IfErr result IsNoArchives }
 {
     for volume in volumes {
         if !is_of_side(volume, side) {
@@ -140,8 +145,8 @@ fn say_the_same<F: JournalFiles>(
     Ok(())
 }
 
-/// Asks whether the volumes are of one pair of servers, by their settings. `OtherPair` where they aren't, `Changed` where
-/// a file can't be read again, `Memory` where a growth was refused.
+/// Asks whether the volumes are of one pair of servers, by their settings. `OtherPair` where they aren't, `Changed`
+/// where a file can't be read again, `Memory` where a growth was refused.
 pub(crate) fn tie<F: JournalFiles>(
     alloc: Global,
     files: &F,
@@ -151,6 +156,7 @@ pub(crate) fn tie<F: JournalFiles>(
     ensures tied { OnOk result (AreTiedBy (F.had files.now) agreement volumes.now) }
     ensures refused { IfErr result
         (λ e. (first second : ℕ) → e ≡ OtherPair first second → AreOfTwoPairs (F.had files.now) first second) }
+    ensures others { IfErr result IsNoArchives }
 {
     match agreement {
         Agreement::OfBoth => say_the_same(alloc, files, volumes, None),

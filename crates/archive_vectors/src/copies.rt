@@ -3,8 +3,9 @@
 ghost use Rattle.std.specs.Prelude.{⊤, length};
 
 use archive_files::{
-    Agreement, FileEnd, Found, JournalFiles, Shown, Unreadable, catalogue_of, shown_at,
+    Agreement, FileEnd, FilesError, Found, JournalFiles, Shown, Unreadable, catalogue_of, shown_at,
 };
+use journal_archive::ArchiveError;
 use journal_lines::Journal;
 use journal_text::write;
 use lead_time::{Skew, Transit};
@@ -51,6 +52,14 @@ const PRIMARY: &str = "\
 pd-journal 1 A
 1 1000 open 500 3600 3600
 2 9000 take 0 1 contact 0 0
+3 9500 state normal
+4 96";
+
+/// As many octets, and the same lines at both ends: it took another message.
+const PRIMARY_ALTERED: &str = "\
+pd-journal 1 A
+1 1000 open 500 3600 3600
+2 9000 take 0 2 contact 0 0
 3 9500 state normal
 4 96";
 
@@ -112,6 +121,29 @@ fn shows_two_copies_as_far_as_each_bears_out_the_other(rt: HostRuntime) -> Resul
     assert_eq!(rt;
         text_of(rt.alloc(), &shown.secondary)?.as_slice(),
         SECONDARY_SHOWN.as_bytes()
+    );
+    Ok(())
+}
+
+#[test]
+fn refuses_two_copies_of_one_volume_that_differ_within(rt: HostRuntime) -> Result<(), Fail> {
+    let same = Texts {
+        texts: &[PRIMARY, SECONDARY, PRIMARY],
+    };
+    let catalogue = catalogue_of(rt.alloc(), &same, Agreement::OfBoth)?;
+    assert_eq!(rt; catalogue.archive.primary.volumes().len(), 1);
+    let altered = Texts {
+        texts: &[PRIMARY, SECONDARY, PRIMARY_ALTERED],
+    };
+    let refused = catalogue_of(rt.alloc(), &altered, Agreement::OfBoth);
+    assert!(rt;
+        matches!(
+            refused,
+            Err(FilesError::Archive(ArchiveError::Differ {
+                first: 0,
+                second: 2
+            }))
+        )
     );
     Ok(())
 }

@@ -54,7 +54,8 @@ fn add_held(
     from: &[u8],
     to: &[u8],
 ) -> Result<(), AllocError>
-    ensures { OnOk result (out.new.items ≡ out.old.items ++ with_stops 10 (held_lines certificate.now from.now to.now)) }
+    ensures { OnOk result (out.new.items ≡ out.old.items ++ with_stops 10
+        (held_lines certificate.now from.now to.now)) }
 {
     add_holder(out, &certificate.holder)?;
     add_interval(out, certificate.from, certificate.to)?;

@@ -1,10 +1,10 @@
 //! The desk: a command line and standard input to one verdict line.
 //!
 //! `order_of` gives the [`Order`] of the words (`desk_words`), `run` carries out a command between a reader and a
-//! writer, and `judge` answers an input that is at hand. The input is journal A, journal B and the certificate, one after
-//! the other (`desk_intake`). `search_pair`, `timeline_of`, `ruling_on_journals` and `rulings_on_claims` answer over two journals
-//! that were read already, as one [`Case`]. specs/Answer says what is answered, specs/Rulings what is ruled on texts, specs/Find, Who and Clocks
-//! what searches answer.
+//! writer, and `judge` answers an input that is at hand. The input is journal A, journal B and the certificate, one
+//! after the other (`desk_intake`). `search_pair`, `timeline_of`, `ruling_on_journals` and `rulings_on_claims` answer
+//! over two journals that were read already, as one [`Case`]. specs/Answer says what is answered, specs/Rulings what is
+//! ruled on texts, specs/Find, Who and Clocks what searches answer.
 //!
 //! ```text
 //! let outcome = run(rt, alloc, &command, &mut reader, &mut writer)?; // status 0: accepted

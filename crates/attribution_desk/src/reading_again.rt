@@ -62,8 +62,8 @@ fn is_again<S: LineSource>(
     claim_same(certificate, found) && is_accepted(source, certificate, skew, transit)
 }
 
-/// Returns what the certificate's text is read as, where that claims the same and the auditor accepts it; none where the
-/// text is over the limits of a certificate's text. `Memory` where a growth was refused.
+/// Returns what the certificate's text is read as, where that claims the same and the auditor accepts it; none where
+/// the text is over the limits of a certificate's text. `Memory` where a growth was refused.
 pub(crate) fn read_again<S: LineSource>(
     alloc: Global,
     source: &S,

@@ -1,5 +1,5 @@
-//! Datagrams, and what goes back: `datagram A READING OWN OCTETS`, `told A READING PARTNER OWN OCTETS`, and `each` with the
-//! same words, as a server of years takes them.
+//! Datagrams, and what goes back: `datagram A READING OWN OCTETS`, `told A READING PARTNER OWN OCTETS`, and `each` with
+//! the same words, as a server of years takes them.
 //!
 //! OWN is the identifier of the book's server, PARTNER is `up` or `down`.
 

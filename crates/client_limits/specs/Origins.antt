@@ -1,5 +1,6 @@
 -- Where a message came from.
-use Rattle.std.specs.Prelude.{ℕ, List, [], ◌∷◌, ◌++◌, ◌-◌, length, slice_get, Option, Some, None, option_map, is_some, Bool, ◌||◌, if◌then◌else◌}
+use Rattle.std.specs.Prelude.{ℕ, List, [], ◌∷◌, ◌++◌, ◌-◌, length, slice_get, Option, Some, None, option_map, is_some}
+use Rattle.std.specs.Prelude.{Bool, ◌||◌, if◌then◌else◌}
 use Rattle.std.specs.Int.{w128, from_be_bytes}
 use Rattle.dhcp6_pd.specs.declared.message.Relay.{Relay}
 use Rattle.std.specs.declared.alloc.Global.{Global}

@@ -1,5 +1,5 @@
--- Which IA_PDs of a message may be ordered, by a server's limits (RFC 8415, section 18.3.2: a server may decline to give
--- a client more).
+-- Which IA_PDs of a message may be ordered, by a server's limits (RFC 8415, section 18.3.2: a server may decline to
+-- give a client more).
 use Rattle.std.specs.Prelude.{ℕ, ◌+◌, nat_le, Bool, true, false, not, ◌&&◌, ◌||◌, ◌==◌, List, [], ◌∷◌, length, filter}
 use Rattle.std.specs.Prelude.{Option, Some, None, if◌then◌else◌}
 use Rattle.std.specs.List.{list_any}

@@ -74,6 +74,14 @@ fn given_by(event: &Event) -> Option<(Duid, Prefix)> {
     }
 }
 
+/// Notes that a unit was given by a port, unless that is known.
+fn give_to(ports: &mut Holders, unit: Prefix, name: &[u8]) -> Result<(), AllocError> {
+    if ports.holder(unit.first()) == Some(name) {
+        return Ok(());
+    }
+    ports.give(unit, name)
+}
+
 impl Limiter {
     /// Nothing was granted yet.
     pub fn new(alloc: Global, limits: Limits) -> Limiter
@@ -131,12 +139,7 @@ impl Limiter {
                     name: Some(name),
                     ..
                 },
-            ) => {
-                if self.ports.holder(unit.first()) == Some(name.as_slice()) {
-                    return Ok(());
-                }
-                self.ports.give(unit, name)
-            }
+            ) => { give_to(&mut self.ports, unit, name) }
             _ => self.ports.forget(&unit),
         }
     }
@@ -158,8 +161,8 @@ impl Limiter {
         Ok(())
     }
 
-    /// Notes a line that no message's orders added. Of a unit that a volume began with, and whose port is known, a record
-    /// is kept.
+    /// Notes a line that no message's orders added. Of a unit that a volume began with, and whose port is known, a
+    /// record is kept.
     fn enter(&mut self, line: &Line) -> Result<(), AllocError>
         ensures limits { self.new.limits ≡ self.old.limits }
     {
@@ -230,7 +233,7 @@ impl Limiter {
         };
         match given_by(&line.event) {
             Some((_, unit)) => match name_by(self.alloc, &port)? {
-                Some(name) => self.ports.give(unit, &name),
+                Some(name) => give_to(&mut self.ports, unit, &name),
                 None => Ok(()),
             },
             None => Ok(()),

@@ -3,7 +3,9 @@
 ghost use Rattle.std.specs.Prelude.{◌≡◌, ◌+◌, IfOk, length, option_map};
 ghost use Rattle.order_book.specs.Replayed.{state_of};
 ghost use Rattle.unit_holders.specs.Holders.{units_of, holder_of};
-ghost use Rattle.client_limits.specs.Quotas.{has_unit, has_under, is_used, count_of, count_used, has_one, is_reached, may_ask, is_other, is_elsewhere, asks_for_more, is_port_full, is_full, is_denied, permit_by, may_take, permits_from, permits_of};
+ghost use Rattle.client_limits.specs.Quotas.{has_unit, has_under, is_used, count_of, count_used, has_one, is_reached};
+ghost use Rattle.client_limits.specs.Quotas.{may_ask, is_other, is_elsewhere, asks_for_more, is_port_full, is_full};
+ghost use Rattle.client_limits.specs.Quotas.{is_denied, permit_by, may_take, permits_from, permits_of};
 
 use crate::limits::{Limits, PortRule};
 use admission::Permit;
@@ -124,7 +126,8 @@ pub(crate) struct Asking<'a> {
 
 /// Returns whether an IA_PD comes from another port than its unit was given by.
 fn is_stray(known: &Known<'_>, asking: &Asking<'_>, iaid: Iaid) -> bool
-    ensures { result ≡ is_elsewhere (state_of known.now.book.now) known.now.ports.now asking.now.client.now iaid (units_of known.now.clients.now asking.now.client.now) (option_map (λ o. o.now) asking.now.port) }
+    ensures { result ≡ is_elsewhere (state_of known.now.book.now) known.now.ports.now asking.now.client.now iaid
+        (units_of known.now.clients.now asking.now.client.now) (option_map (λ o. o.now) asking.now.port) }
 {
     known.clients.units(asking.client.as_bytes()).iter().any(|unit| {
         has_under(known.book, asking.client, iaid, unit)
@@ -134,7 +137,8 @@ fn is_stray(known: &Known<'_>, asking: &Asking<'_>, iaid: Iaid) -> bool
 
 /// Returns whether an IA_PD asks for a unit, and its client has none under it.
 fn asks_for_more(known: &Known<'_>, asking: &Asking<'_>, iaid: Iaid) -> bool
-    ensures { result ≡ asks_for_more known.now.limits.now (state_of known.now.book.now) known.now.clients.now known.now.ports.now
+    ensures { result ≡ asks_for_more known.now.limits.now (state_of known.now.book.now) known.now.clients.now
+        known.now.ports.now
         asking.now.client.now (option_map (λ o. o.now) asking.now.port) asking.now.kind iaid }
 {
     may_ask(asking.kind)
@@ -148,8 +152,9 @@ fn asks_for_more(known: &Known<'_>, asking: &Asking<'_>, iaid: Iaid) -> bool
 
 /// Returns whether those behind the port of a message have as many units as they may, with so many more.
 fn is_port_full(known: &Known<'_>, asking: &Asking<'_>, more: usize) -> bool
-    ensures { result ≡ is_port_full known.now.limits.now (state_of known.now.book.now) known.now.clients.now known.now.ports.now
-        asking.now.client.now (option_map (λ o. o.now) asking.now.port) asking.now.kind (option_map (λ o. o.now) asking.now.port) more }
+    ensures { result ≡ is_port_full known.now.limits.now (state_of known.now.book.now) known.now.clients.now
+        known.now.ports.now asking.now.client.now (option_map (λ o. o.now) asking.now.port) asking.now.kind
+        (option_map (λ o. o.now) asking.now.port) more }
 {
     if known.limits.units_per_port == 0 {
         return false;
@@ -166,7 +171,8 @@ fn is_port_full(known: &Known<'_>, asking: &Asking<'_>, more: usize) -> bool
 
 /// Returns whether no unit more is given, at a place of a message, where so many before it may be given one more.
 fn is_full(known: &Known<'_>, asking: &Asking<'_>, place: usize, more: usize) -> bool
-    ensures { result ≡ is_full known.now.limits.now (state_of known.now.book.now) known.now.clients.now known.now.ports.now
+    ensures { result ≡ is_full known.now.limits.now (state_of known.now.book.now) known.now.clients.now
+        known.now.ports.now
         asking.now.client.now (option_map (λ o. o.now) asking.now.port) asking.now.kind place more }
 {
     is_reached(known.limits.ias_per_message, place, 0)
@@ -184,7 +190,8 @@ fn is_full(known: &Known<'_>, asking: &Asking<'_>, place: usize, more: usize) ->
 
 /// Returns whether an IA_PD is denied.
 fn is_denied(known: &Known<'_>, asking: &Asking<'_>, place: usize, more: usize, iaid: Iaid) -> bool
-    ensures { result ≡ is_denied known.now.limits.now (state_of known.now.book.now) known.now.clients.now known.now.ports.now
+    ensures { result ≡ is_denied known.now.limits.now (state_of known.now.book.now) known.now.clients.now
+        known.now.ports.now
         asking.now.client.now (option_map (λ o. o.now) asking.now.port) asking.now.kind place more iaid }
 {
     (known.limits.ports == PortRule::Bound && is_stray(known, asking, iaid))
@@ -204,7 +211,8 @@ fn permit_by(is_denied: bool) -> Permit
 
 /// Returns whether an IA_PD may be given a unit more.
 fn may_take(known: &Known<'_>, asking: &Asking<'_>, place: usize, more: usize, iaid: Iaid) -> bool
-    ensures { result ≡ may_take known.now.limits.now (state_of known.now.book.now) known.now.clients.now known.now.ports.now
+    ensures { result ≡ may_take known.now.limits.now (state_of known.now.book.now) known.now.clients.now
+        known.now.ports.now
         asking.now.client.now (option_map (λ o. o.now) asking.now.port) asking.now.kind place more iaid }
 {
     asks_for_more(known, asking, iaid) && !is_denied(known, asking, place, more, iaid)
@@ -217,7 +225,8 @@ fn permits(
     asking: &Asking<'_>,
     ias: &[IaPd],
 ) -> Result<Vec<Permit>, AllocError>
-    ensures { IfOk result (λ all. all.items ≡ permits_from known.now.limits.now (state_of known.now.book.now) known.now.clients.now known.now.ports.now
+    ensures { IfOk result (λ all. all.items ≡ permits_from known.now.limits.now (state_of known.now.book.now)
+        known.now.clients.now known.now.ports.now
         asking.now.client.now (option_map (λ o. o.now) asking.now.port) asking.now.kind 0 0 ias.now) }
 {
     let mut permits = Vec::new(alloc);

@@ -65,7 +65,8 @@ AreAgain MayHave t m permits now had _ _ _ = ⊥
 -- The octets are those of the server's answer to the message, which isn't a SOLICIT: it tells each IA_PD what its
 -- client has already, or its refusal. No line is written, and the number is that of the last line that it tells of.
 pub record IsToldAgain (MayHave : List Receipt → Journal → Type 0) (t : RenewTerms) (own : List ℕ) (manner : Manner)
-    (m : ClientMessage) (permits : List Permit) (now : ℕ) (had : List Receipt) (octets : List ℕ) (line : Option ℕ) : Type 0 where
+    (m : ClientMessage) (permits : List Permit) (now : ℕ) (had : List Receipt) (octets : List ℕ)
+    (line : Option ℕ) : Type 0 where
   pub answers : List IaAnswer
   pub numbers : List (Option ℕ)
   pub asks : m.kind ≢ Solicit

@@ -1,5 +1,6 @@
 -- What a client is told of its whole message, or why it is told nothing.
-use Rattle.std.specs.Prelude.{◌≡◌, ⊤, true, false, ℕ, ◌<◌, List, [], ◌∷◌, ◌++◌, length, take, drop, slice_get, Option, Some, None}
+use Rattle.std.specs.Prelude.{◌≡◌, ⊤, true, false, ℕ, ◌<◌, List, [], ◌∷◌, ◌++◌, length, take, drop, slice_get, Option}
+use Rattle.std.specs.Prelude.{Some, None}
 use Rattle.std.specs.Prelude.{Ok, Err}
 use Rattle.admission.specs.declared.permit.Permit.{Permit}
 use Rattle.admission.specs.declared.permit.Permit.TheVariants.{Ordered}
@@ -45,7 +46,8 @@ AreTold MayHave partner m permits now had _ _ added = ⊥
 -- The octets are those of the server's answer to the message: it tells each IA_PD what the receipts say that were
 -- added. The number is that of the last line that it tells of.
 pub record IsTold (MayHave : List Receipt → Journal → Type 0) (partner : Partner) (own : List ℕ) (manner : Manner)
-    (m : ClientMessage) (permits : List Permit) (now : ℕ) (had has : List Receipt) (octets : List ℕ) (line : Option ℕ) : Type 0 where
+    (m : ClientMessage) (permits : List Permit) (now : ℕ) (had has : List Receipt) (octets : List ℕ)
+    (line : Option ℕ) : Type 0 where
   pub answers : List IaAnswer
   pub added : List Receipt
   pub all : has ≡ had ++ added

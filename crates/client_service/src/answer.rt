@@ -94,7 +94,8 @@ fn written(
 ) -> Result<Vec<u8>, Silence>
     requires some { 1 ≤ length message.now.ias }
     requires each { length answers.now ≡ length message.now.ias }
-    ensures written { IfOk result (λ v. v.items ≡ message_octets (answer_of message.now own.now manner.now answers.now)) }
+    ensures written { IfOk result (λ v. v.items ≡ message_octets (answer_of message.now own.now manner.now
+        answers.now)) }
     ensures known { IfOk result (λ _. is_elsewhere message.now manner.now answers.now ≡ false) }
     ensures unwritten { IfErr result (IsUnwritten own.now manner.now message.now answers.now) }
 {
@@ -115,7 +116,8 @@ fn written(
 /// Those behind the end of the list may be ordered.
 ///
 /// There is no answer (`Silence`) where the message has no IA_PD, an order ends in what no client is told, nothing is
-/// known of a REBIND and the server's manner hides that, the answer is too long, or a growth is refused. The lines of IA_PDs that were served before stand.
+/// known of a REBIND and the server's manner hides that, the answer is too long, or a growth is refused. The lines of
+/// IA_PDs that were served before stand.
 pub fn answer_to<S: Service, P: Drop>(
     alloc: Global,
     service: &S,

@@ -56,6 +56,11 @@ impl Caller {
         self.stage == Stage::Over
     }
 
+    /// Returns whether its line hasn't come whole yet.
+    pub(crate) fn is_asking(&self) -> bool {
+        self.stage == Stage::Asking
+    }
+
     /// Returns whether it waits for its answer.
     pub(crate) fn waits(&self) -> bool {
         self.stage == Stage::Waiting

@@ -162,8 +162,8 @@ impl<S: Duplex> Connection<S> {
         }
     }
 
-    /// Puts the octets that have come at the front of the buffer. An error of the stream's is its end, and so is want of
-    /// memory.
+    /// Puts the octets that have come at the front of the buffer. An error of the stream's is its end, and so is want
+    /// of memory.
     pub fn read(&mut self, buffer: &mut [u8], now: Instant) -> Got
         ensures hears { OnlyHears self.old.sent self.new.sent }
         ensures count { (count : ℕ) → result ≡ Got.Octets count → count ≤ length buffer.new }

@@ -62,12 +62,27 @@ impl ControlSocket {
         })
     }
 
+    /// Makes room for one more: where all seats are taken, the one is put out that has waited longest and not asked
+    /// yet. Returns whether there is room.
+    fn make_room(&mut self) -> bool {
+        if self.callers.len() < MOST_CALLERS {
+            return true;
+        }
+        for index in 0..self.callers.len() {
+            if self.callers[index].is_asking() {
+                let _silent = self.callers.remove(index);
+                return true;
+            }
+        }
+        false
+    }
+
     /// Admits one who has come, where there is room: otherwise its connection is closed.
     fn admit(&mut self, now: Instant) {
         let Ok((mut stream, _)) = self.listener.accept() else {
             return;
         };
-        if self.callers.len() >= MOST_CALLERS || self.watched.add_both(&mut stream).is_err() {
+        if !self.make_room() || self.watched.add_both(&mut stream).is_err() {
             return;
         }
         let _ = self.callers.push(Caller::new(self.alloc, stream, now));

@@ -40,8 +40,8 @@ impl<S: Duplex> WaitingRoom<S> {
         }
     }
 
-    /// Returns whether another connection may wait. An end that calls has one connection; one that is called takes others
-    /// too while one stands, where the key tells who the partner is.
+    /// Returns whether another connection may wait. An end that calls has one connection; one that is called takes
+    /// others too while one stands, where the key tells who the partner is.
     pub fn has_room(&self, stands: bool) -> bool {
         match self.keeper.side {
             Side::Caller => !stands && self.seats.is_empty(),
@@ -49,8 +49,8 @@ impl<S: Duplex> WaitingRoom<S> {
         }
     }
 
-    /// Returns how many may come in one turn: as many as there are free seats, and one where all are taken, who puts out
-    /// another: so those that wait have some turns to show who they are.
+    /// Returns how many may come in one turn: as many as there are free seats, and one where all are taken, who puts
+    /// out another: so those that wait have some turns to show who they are.
     pub fn places(&self) -> usize {
         MOST_SEATS.saturating_sub(self.seats.len()).max(1)
     }
@@ -115,8 +115,8 @@ impl<S: Duplex> WaitingRoom<S> {
         None
     }
 
-    /// Goes on with all that wait, in the order in which they came, and gives the first that is let in now: no record was
-    /// put over it yet. Without a key all others are put out then.
+    /// Goes on with all that wait, in the order in which they came, and gives the first that is let in now: no record
+    /// was put over it yet. Without a key all others are put out then.
     pub fn go_on(&mut self, buffer: &mut [u8], now: Instant) -> Option<Connection<S>>
         ensures unused { IfSome result (λ c. IsUnused c.sent.passage) }
     {

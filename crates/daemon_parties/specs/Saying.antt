@@ -63,8 +63,8 @@ abbrev pub IsSame : Option Sent → Sent → Type 0
 IsSame None new = ⊥
 IsSame (Some old) new = OnlyHears old new
 
--- While a server hears, it gives nothing: what stands then is the one that stood, or another that was let in, over which
--- no record was put yet.
+-- While a server hears, it gives nothing: what stands then is the one that stood, or another that was let in, over
+-- which no record was put yet.
 abbrev pub MayStand : Option Sent → Option Sent → Type 0
 MayStand before None = ⊤
 MayStand before (Some new) = IsSame before new ⊎ IsUnused new.passage

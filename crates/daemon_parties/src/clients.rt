@@ -24,7 +24,7 @@ use volume_folder::Folder;
 const LONGEST: usize = 65_535;
 
 /// How many datagrams are heard in one turn, at most: their lines are put to the disk together.
-const MOST_HEARD: usize = 64;
+const MOST_HEARD: usize = 256;
 
 /// The clients of a server and their relays.
 #[derive(Drop)]
@@ -119,7 +119,7 @@ impl<G: Datagrams> Clients<G> {
         }
     }
 
-    /// Hears the datagrams that have come, 64 at most. The clock is read behind each: a line that was written for it
+    /// Hears the datagrams that have come, 256 at most. The clock is read behind each: a line that was written for it
     /// mustn't be older than what it answers. Their answers are held back. Returns how many came.
     pub fn hear<F: Folder + Drop, C: Clocks, L: Print>(
         &mut self,
@@ -153,7 +153,7 @@ impl<G: Datagrams> Clients<G> {
         Ok(MOST_HEARD)
     }
 
-    /// Passes over the datagrams that have come, 64 at most: nobody answers them later. Returns how many.
+    /// Passes over the datagrams that have come, 256 at most: nobody answers them later. Returns how many.
     pub fn pass_over(&mut self) -> Result<usize, HearingError>
         ensures hears { MayHear G.listens self.old.datagrams self.new.datagrams }
         ensures transit { self.new.transit ≡ self.old.transit }
@@ -168,8 +168,8 @@ impl<G: Datagrams> Clients<G> {
         Ok(MOST_HEARD)
     }
 
-    /// Takes the access records of what clients were granted since the last time, by the book that has the lines. For want
-    /// of memory a grant goes without one.
+    /// Takes the access records of what clients were granted since the last time, by the book that has the lines. For
+    /// want of memory a grant goes without one.
     pub fn take_records(&mut self, book: &Book) -> Vec<AccessRecord>
         ensures datagrams { self.new.datagrams ≡ self.old.datagrams }
         ensures transit { self.new.transit ≡ self.old.transit }
@@ -178,8 +178,8 @@ impl<G: Datagrams> Clients<G> {
         self.limiter.take_records()
     }
 
-    /// Tells of identity associations that came from another relay port than their units were given by, if there are more
-    /// than before.
+    /// Tells of identity associations that came from another relay port than their units were given by, if there are
+    /// more than before.
     fn tell_strays<L: Print>(&self, before: u64, now: Reading, log: &mut Log<'_, L>) {
         if self.limiter.strays() > before {
             log.tell_often(&Happening::Stray, now);

@@ -7,8 +7,7 @@
 //! clients.hear(&mut running, &manner, &clocks, &mut log)?;
 //! partner.hear(&mut running, &settings, &now, &clocks, &mut log)?;
 //! .. running.settle() ..
-//! clients.send(&answers, now.reading, &mut log);
-//! partner.say(&mut running, &frames, &now, &mut log);
+//! tell(&mut clients, &mut partner, &mut running, &answers, &frames, &now, &mut log);
 //! desk.tell(now.instant);
 //! ```
 #![tactic(auto)]
@@ -19,9 +18,11 @@ mod desk;
 mod hearing;
 mod partner;
 mod standing;
+mod telling;
 
 pub use clients::Clients;
 pub use clocks::{Clocks, Moment, SystemClocks};
 pub use desk::Desk;
 pub use hearing::HearingError;
 pub use partner::Partner;
+pub use telling::tell;

@@ -78,8 +78,8 @@ impl<D: Door> Partner<D> {
         self.standing.as_ref()?.heard
     }
 
-    /// Gives connections that have come a seat, as far as there is room. Where there is none the next is closed, and that
-    /// is told: returns whether one was.
+    /// Gives connections that have come a seat, as far as there is room. Where there is none the next is closed, and
+    /// that is told: returns whether one was.
     fn attend_door<L: Print>(&mut self, now: &Moment, log: &mut Log<'_, L>) -> bool
         ensures { self.new ≡ self.old }
     {
@@ -191,8 +191,8 @@ impl<D: Door> Partner<D> {
         Ok(has_come)
     }
 
-    /// Hears the partner: over the connection that stands, or by one that waited and is let in. Returns whether anything
-    /// came.
+    /// Hears the partner: over the connection that stands, or by one that waited and is let in. Returns whether
+    /// anything came.
     pub fn hear<F: Folder + Drop, P: Drop, C: Clocks, L: Print>(
         &mut self,
         running: &mut Running<F, P>,

@@ -1,6 +1,6 @@
 //! The desk as a program: its words are what is asked and where its texts come from, which is standard input or files;
-//! standard output gets the answer, standard error the warnings, and the status says whether everything was accepted (0),
-//! something was refused (1) or a fault kept the desk from answering (2).
+//! standard output gets the answer, standard error the warnings, and the status says whether everything was accepted
+//! (0), something was refused (1) or a fault kept the desk from answering (2).
 #![tactic(auto)]
 
 mod fault;
@@ -52,6 +52,8 @@ fn answered_input(
         Request::ExplainHolder(query, settings, telling) => {
             over_input::holder_explained(rt, handles, query, *settings, telling)
         }
+        // (volumes are put together out of files alone)
+        Request::Join(_) => Err(Fault::Usage(UsageError::Usage)),
     }
 }
 
@@ -77,6 +79,7 @@ fn answered_files(
         Request::ExplainHolder(query, settings, telling) => {
             over_files::holder_explained(rt, handles, query, *settings, telling, asked)
         }
+        Request::Join(query) => over_files::joined(rt, handles, query, asked),
     }
 }
 

@@ -6,7 +6,8 @@ use crate::zones::zone_named;
 use archive_desk::{Question, Told, answer, failure};
 use attribution_desk::{Command, UsageError};
 use desk_reports::{Style, explain_files, holder_in_files};
-use desk_words::{Settings, Telling};
+use desk_words::{JoinQuery, Settings, Telling};
+use join_desk::join_files;
 use journal_paths::{JournalPaths, PathError};
 use lead_time::{Skew, Transit};
 use plain_search::HolderQuery;
@@ -176,6 +177,23 @@ pub(crate) fn holder_explained(
             write_out(rt, &told)
         }
     }
+}
+
+/// Volumes of a side put together as one journal.
+pub(crate) fn joined(
+    rt: &HostRuntime,
+    net: &impl Net,
+    query: &JoinQuery,
+    asked: &FilesAsked,
+) -> Result<u8, Fault> {
+    let files = files_at(rt, net, asked.paths)?;
+    warn_of_silent(rt, &files);
+    let names = files.paths();
+    let told = match join_files(rt.alloc(), &files, names, query) {
+        Ok(told) => told,
+        Err(error) => failure(rt.alloc(), names, &error).map_err(|_| Fault::memory())?,
+    };
+    write_out(rt, &told)
 }
 
 /// The octets of a file. `Path` where it can't be read.

@@ -6,10 +6,13 @@ ghost use Rattle.std.specs.Io.KnownBytes.{Appends, ReadConsumes};
 ghost use Rattle.desk_intake.specs.declared.watched.TheConstants.{MAX_READS};
 
 use crate::error::DeskError;
-use std::io::{Read, Write};
+use std::io::{self, ErrorKind, Read, Write};
 
 /// How often a reader is asked.
 const MAX_READS: u32 = 1_048_576;
+
+/// How often a read that a signal interrupts is tried again.
+const MAX_INTERRUPTIONS: u32 = 1_024;
 
 /// A reader or a writer, whether a call of it has failed, and how often it may still be asked to read.
 #[derive(Drop)]
@@ -48,6 +51,20 @@ impl<D> Watched<D> {
     }
 }
 
+/// One read, tried again where a signal interrupted it.
+fn read_whole<D: Read>(device: &mut D, buffer: &mut [u8]) -> io::Result<usize>
+    ensures bound { ReadsAtMost result buffer.new }
+    ensures bytes { ReadConsumes (D.remaining device.old) (D.remaining device.new) result buffer.new }
+{
+    for _ in 0..MAX_INTERRUPTIONS {
+        match device.read(buffer) {
+            Err(error) if error.kind() == ErrorKind::Interrupted => {}
+            ended => return ended,
+        }
+    }
+    device.read(buffer)
+}
+
 impl<D: Read> Watched<D> {
     /// One read. A failure of the device is kept, and nothing else is; `Read` too where it was asked as often as it may
     /// be.
@@ -63,7 +80,7 @@ impl<D: Read> Watched<D> {
             return Err(DeskError::Read);
         };
         self.turns = left;
-        let Ok(count) = self.device.read(buffer) else {
+        let Ok(count) = read_whole(&mut self.device, buffer) else {
             self.failed = true;
             return Err(DeskError::Read);
         };

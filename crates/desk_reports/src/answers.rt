@@ -2,8 +2,8 @@
 
 use archive_desk::Told;
 use attribution_desk::Command;
-use report_data::{text_of, time_of};
-use serde_json::{Value, json};
+use report_data::{Object, text_of, time_of};
+use serde_json::Value;
 use std::alloc::{AllocError, Global};
 use text_fields::number_of;
 
@@ -107,8 +107,8 @@ fn name_of(command: &Command) -> &'static str {
     }
 }
 
-/// Writes what is told of a command as one JSON object, and a line feed: the lines that say one thing, who held the prefix
-/// and when, the certificates, the access records, and the notes. `AllocError` where a growth was refused.
+/// Writes what is told of a command as one JSON object, and a line feed: the lines that say one thing, who held the
+/// prefix and when, the certificates, the access records, and the notes. `AllocError` where a growth was refused.
 pub fn answer_data(alloc: Global, command: &Command, told: &Told) -> Result<Vec<u8>, AllocError> {
     let mut parts = Parts::new(alloc);
     let text = told.text.strip_suffix(b"\n").unwrap_or(&told.text);
@@ -125,17 +125,17 @@ pub fn answer_data(alloc: Global, command: &Command, told: &Told) -> Result<Vec<
         certificate: _certificate,
         access,
     } = parts;
-    let value = json!(in alloc; {
-        "command": name_of(command),
-        "status": told.status,
-        "lines": Value::Array(lines),
-        "holder": holder,
-        "from": from,
-        "to": to,
-        "certificates": Value::Array(certificates),
-        "access": Value::Array(access),
-        "notes": notes
-    })?;
+    let value = Object::new(alloc)
+        .with("command", name_of(command))?
+        .with("status", told.status)?
+        .with("lines", Value::Array(lines))?
+        .with("holder", holder)?
+        .with("from", from)?
+        .with("to", to)?
+        .with("certificates", Value::Array(certificates))?
+        .with("access", Value::Array(access))?
+        .with("notes", notes)?
+        .into_value();
     let mut text = value.to_string(alloc)?;
     text.push('\n')?;
     Ok(text.into_bytes())

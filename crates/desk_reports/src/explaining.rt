@@ -57,8 +57,8 @@ fn explain_indexed<'a>(
     })
 }
 
-/// The ruling on a certificate over the primary's journal and the secondary's, and what it rests on: what stands against
-/// the two journals; else the verdict, and all that the certificate shows. `Memory` where a growth was refused.
+/// The ruling on a certificate over the primary's journal and the secondary's, and what it rests on: what stands
+/// against the two journals; else the verdict, and all that the certificate shows. `Memory` where a growth was refused.
 pub fn explain_journals<'a>(
     rt: &(impl Threads + Sync),
     alloc: Global,
@@ -81,8 +81,8 @@ pub fn explain_journals<'a>(
 }
 
 /// The ruling on what two texts are as journals and on what a third was read to, and what it rests on: the first of the
-/// faults of A's journal, of B's and of the certificate's text; else that of `explain_journals`. `Memory` where a growth
-/// was refused.
+/// faults of A's journal, of B's and of the certificate's text; else that of `explain_journals`. `Memory` where a
+/// growth was refused.
 pub fn explain_read<'a>(
     rt: &(impl Threads + Sync),
     alloc: Global,

@@ -7,7 +7,7 @@ ghost use Rattle.archive_files.specs.Showing.{AreClosed};
 
 use crate::holders::holder_told;
 use crate::telling::{Style, explain_told};
-use archive_desk::{Bounds, Told, lack_line, passed_over, push_journals, push_lack};
+use archive_desk::{Bounds, Told, expect_read, lack_line, passed_over, push_journals, push_lack};
 use archive_files::{
     Agreement, FilesError, JournalFiles, PassedOver, Shown, catalogue_of, shown_at,
 };
@@ -104,8 +104,8 @@ fn noted(
     })
 }
 
-/// The report on a certificate over the pair of volumes that shows where its interval begins; of its text alone where that
-/// is at fault.
+/// The report on a certificate over the pair of volumes that shows where its interval begins; of its text alone where
+/// that is at fault.
 fn explain_over<F: JournalFiles>(
     rt: &(impl Threads + Sync),
     alloc: Global,
@@ -204,6 +204,7 @@ pub fn explain_files<F: JournalFiles>(
 ) -> Result<Told, FilesError> {
     let bounds = Bounds { skew, transit };
     let catalogue = catalogue_of(alloc, files, Agreement::OfEach)?;
+    expect_read(names, &catalogue.passed_over)?;
     let told = explain_over(
         rt,
         alloc,
@@ -232,6 +233,7 @@ pub fn holder_in_files<F: JournalFiles>(
         Settings::MayDiffer => Agreement::OfEach,
     };
     let catalogue = catalogue_of(alloc, files, agreement)?;
+    expect_read(names, &catalogue.passed_over)?;
     let told = holder_over(
         rt,
         alloc,

@@ -124,8 +124,8 @@ fn why_told(
     })
 }
 
-/// What a search for a holder answers over two texts as journals, and a report on it: what the certificate shows, or why
-/// nobody is named. `Memory` where a growth was refused.
+/// What a search for a holder answers over two texts as journals, and a report on it: what the certificate shows, or
+/// why nobody is named. `Memory` where a growth was refused.
 pub fn holder_told(
     rt: &(impl Threads + Sync),
     alloc: Global,

@@ -128,8 +128,8 @@ fn warnings_on(
 }
 
 /// The report on a certificate's text over two texts as journals, with clocks within this skew of true time and answers
-/// that reach their clients within this transit; status 0 where the certificate is accepted. `Memory` where a growth was
-/// refused.
+/// that reach their clients within this transit; status 0 where the certificate is accepted. `Memory` where a growth
+/// was refused.
 pub fn explain_told(
     rt: &(impl Threads + Sync),
     alloc: Global,

@@ -1,5 +1,6 @@
 pub mod Words
 pub mod Given
+pub mod Joins
 pub mod Requests
 pub mod Sources
 pub mod Orders

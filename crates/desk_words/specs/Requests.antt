@@ -8,8 +8,9 @@ use Rattle.desk_words.specs.declared.request.ReportForm.{ReportForm}
 use Rattle.desk_words.specs.declared.request.ReportForm.TheVariants.{Plain, Page, Json}
 use Rattle.desk_words.specs.declared.request.Telling.{Telling}
 use Rattle.desk_words.specs.declared.request.Request.{Request}
-use Rattle.desk_words.specs.declared.request.Request.TheVariants.{Answer, Explain, ExplainHolder}
+use Rattle.desk_words.specs.declared.request.Request.TheVariants.{Answer, Explain, ExplainHolder, Join}
 use Rattle.desk_words.specs.Given.{IsSkew, IsTransit, IsHolderQuery, IsSettings, IsGiven}
+use Rattle.desk_words.specs.Joins.{IsJoinQuery}
 
 -- the flag stands among the words
 abbrev pub IsSet : Text → List Row → Type 0
@@ -49,6 +50,7 @@ IsAsked found (Explain skew transit telling) =
 IsAsked found (ExplainHolder query settings telling) =
     (found.0 ≡ codes "who") × IsSet (codes "explain") found.1 × IsHolderQuery found.1 query
     × IsSettings (first_of (codes "settings-differ") found.1) settings × IsTelling found.1 telling
+IsAsked found (Join query) = (found.0 ≡ codes "join") × IsJoinQuery found.1 query
 
 -- they ask nothing
 abbrev pub IsNoRequest : Text × List Row → Type 0

@@ -11,13 +11,17 @@ option_rule name required = record (new_rule name) { long = Some name; required 
 abbrev pub flag_rule : List ℕ → Rule
 flag_rule name = record (new_rule name) { long = Some name; action = Some SetTrue }
 
--- an option with a value, which may be given again
-abbrev pub list_rule : List ℕ → Rule
-list_rule name = record (new_rule name) { long = Some name; action = Some Append }
+-- an option with a value, which may be given again, and must be given where it is required
+abbrev pub list_rule : List ℕ → Bool → Rule
+list_rule name required = record (new_rule name) { long = Some name; required = required; action = Some Append }
 
 -- the command takes its journals from files too
 abbrev pub with_journals : App → App
-with_journals app = with_rule app (list_rule (codes "journals"))
+with_journals app = with_rule app (list_rule (codes "journals") false)
+
+-- from files alone
+abbrev pub over_journals : App → App
+over_journals app = with_rule app (list_rule (codes "journals") true)
 
 -- and its certificates
 abbrev pub with_certificate : App → App
@@ -88,9 +92,17 @@ who_app =
 abbrev pub timeline_app : App
 timeline_app = with_journals (new_app (codes "timeline"))
 
+-- of which side, from which volume to which
+abbrev pub join_app : App
+join_app =
+    with_rule (with_rule (with_rule (over_journals (new_app (codes "join"))) (option_rule (codes "side") true))
+    (option_rule (codes "from") false)) (option_rule (codes "to") false)
+
 abbrev pub searching_app : App
 searching_app = with_subcommand (with_subcommand claims_app find_app.top) who_app.top
 
+abbrev pub showing_app : App
+showing_app = with_subcommand (with_subcommand searching_app timeline_app.top) (new_app (codes "clocks")).top
+
 abbrev pub desk : App
-desk =
-    with_subcommand (with_subcommand searching_app timeline_app.top) (new_app (codes "clocks")).top
+desk = with_subcommand showing_app join_app.top

@@ -3,7 +3,7 @@
 ghost use Rattle.std.specs.Prelude.{◌≡◌, IfOk, codes, false};
 ghost use Rattle.clap.specs.Words.{app_of, rule_of, with_rule};
 ghost use Rattle.clap.specs.declared.builder.command.Command.TheViews.{out-Command};
-ghost use Rattle.desk_words.specs.Words.{option_rule, flag_rule, list_rule, with_journals};
+ghost use Rattle.desk_words.specs.Words.{option_rule, flag_rule, list_rule, with_journals, over_journals};
 
 use clap::{Arg, ArgAction, Command as ClapCommand};
 use std::alloc::{AllocError, Global};
@@ -55,11 +55,14 @@ pub(crate) fn with_flag<'a>(
 }
 
 /// An option with a value, which may be given again.
-fn list_option<'a>(alloc: Global, name: &'a str) -> Arg<'a>
-    ensures rule { rule_of result ≡ list_rule name.entry.now }
+fn list_option<'a>(alloc: Global, name: &'a str, required: bool) -> Arg<'a>
+    ensures rule { rule_of result ≡ list_rule name.entry.now required }
     ensures local { result.global ≡ false }
 {
-    Arg::new(alloc, name).long(name).action(ArgAction::Append)
+    Arg::new(alloc, name)
+        .long(name)
+        .required(required)
+        .action(ArgAction::Append)
 }
 
 /// A command with `[--journals PATH]..`.
@@ -71,5 +74,17 @@ pub(crate) fn with_journals<'a>(
     ensures local { (out-Command command.entry).has_globals ≡ false
         → IfOk result (λ c. (out-Command c).has_globals ≡ false) }
 {
-    command.arg(list_option(alloc, "journals"))
+    command.arg(list_option(alloc, "journals", false))
+}
+
+/// A command with `--journals PATH..`, of which there is one at least.
+pub(crate) fn over_journals<'a>(
+    alloc: Global,
+    command: ClapCommand<'a>,
+) -> Result<ClapCommand<'a>, AllocError>
+    ensures app { IfOk result (λ c. app_of c ≡ over_journals (app_of command.entry)) }
+    ensures local { (out-Command command.entry).has_globals ≡ false
+        → IfOk result (λ c. (out-Command c).has_globals ≡ false) }
+{
+    command.arg(list_option(alloc, "journals", true))
 }

@@ -1,6 +1,7 @@
 //! What is asked of the desk, and in which form it is answered.
 
 use crate::command::Command;
+use crate::join_words::JoinQuery;
 use crate::settings::Settings;
 use lead_time::{Skew, Transit};
 use plain_search::HolderQuery;
@@ -47,4 +48,6 @@ pub enum Request<'a> {
     },
     /// Which client held a prefix at a moment, and a report on that, or on why nobody is named.
     ExplainHolder(HolderQuery, Settings, Telling<'a>),
+    /// Volumes of one side put together as one journal.
+    Join(JoinQuery),
 }

@@ -13,6 +13,7 @@ ghost use Rattle.desk_words.specs.Requests.{IsAnswerForm, IsAsked, IsNoRequest};
 
 use crate::command::{command_given, skew_given, transit_given};
 use crate::error::UsageError;
+use crate::join_words::join_query_given;
 use crate::request::{AnswerForm, ReportForm, Request, Telling};
 use crate::settings::settings_given;
 use crate::who_words::holder_query_given;
@@ -123,6 +124,14 @@ fn holder_explained<'a>(alloc: Global, options: &ArgMatches<'a>) -> Result<Reque
     Ok(Request::ExplainHolder(query, settings_given(options), telling))
 }
 
+/// `join`.
+fn joined<'a>(options: &ArgMatches<'a>) -> Option<Request<'a>>
+    ensures given { IfSome result (IsAsked (codes "join", rows_of (found_of options.now))) }
+    ensures none { result ≡ None → IsNoRequest (codes "join", rows_of (found_of options.now)) }
+{
+    Some(Request::Join(join_query_given(options)?))
+}
+
 /// A command, and the form of its answer.
 fn answered<'a>(
     alloc: Global,
@@ -158,6 +167,12 @@ pub(crate) fn request_given<'a>(
 {
     if name == "explain" {
         return match explained(options) {
+            Some(request) => Ok(request),
+            None => Err(UsageError::Usage),
+        };
+    }
+    if name == "join" {
+        return match joined(options) {
             Some(request) => Ok(request),
             None => Err(UsageError::Usage),
         };

@@ -5,9 +5,9 @@ ghost use Rattle.clap.specs.Words.{app_of};
 ghost use Rattle.clap.specs.declared.builder.command.Command.TheViews.{out-Command};
 ghost use Rattle.desk_words.specs.Words.{claim_app, with_telling, audit_app, explain_app, batch_app, asking_app};
 ghost use Rattle.desk_words.specs.Words.{find_app, moment_app, who_app, timeline_app, judging_app, claims_app};
-ghost use Rattle.desk_words.specs.Words.{searching_app, desk};
+ghost use Rattle.desk_words.specs.Words.{join_app, searching_app, showing_app, desk};
 
-use crate::arguments::{with_flag, with_journals, with_option};
+use crate::arguments::{over_journals, with_flag, with_journals, with_option};
 use clap::Command as ClapCommand;
 use std::alloc::{AllocError, Global};
 
@@ -112,6 +112,17 @@ fn timeline_command<'a>(alloc: Global) -> Result<ClapCommand<'a>, AllocError>
     with_journals(alloc, ClapCommand::new(alloc, "timeline"))
 }
 
+/// `join --journals PATH.. --side A|B [--from N] [--to N]`.
+fn join_command<'a>(alloc: Global) -> Result<ClapCommand<'a>, AllocError>
+    ensures app { IfOk result (λ c. app_of c ≡ join_app) }
+    ensures local { IfOk result (λ c. (out-Command c).has_globals ≡ false) }
+{
+    let join = over_journals(alloc, ClapCommand::new(alloc, "join"))?;
+    let join = with_option(alloc, join, "side", true)?;
+    let join = with_option(alloc, join, "from", false)?;
+    with_option(alloc, join, "to", false)
+}
+
 /// The commands that judge certificates.
 fn judging_command<'a>(alloc: Global) -> Result<ClapCommand<'a>, AllocError>
     ensures { IfOk result (λ c. app_of c ≡ judging_app) }
@@ -144,12 +155,21 @@ fn searching_command<'a>(alloc: Global) -> Result<ClapCommand<'a>, AllocError>
     claims.subcommand(find)?.subcommand(who)
 }
 
-/// All commands.
-pub(crate) fn desk_command<'a>(alloc: Global) -> Result<ClapCommand<'a>, AllocError>
-    ensures { IfOk result (λ c. app_of c ≡ desk) }
+/// Those and the commands that show two journals.
+fn showing_command<'a>(alloc: Global) -> Result<ClapCommand<'a>, AllocError>
+    ensures { IfOk result (λ c. app_of c ≡ showing_app) }
 {
     let timeline = timeline_command(alloc)?;
     searching_command(alloc)?
         .subcommand(timeline)?
         .subcommand(ClapCommand::new(alloc, "clocks"))
+}
+
+/// All commands.
+pub(crate) fn desk_command<'a>(alloc: Global) -> Result<ClapCommand<'a>, AllocError>
+    ensures { IfOk result (λ c. app_of c ≡ desk) }
+{
+    let showing = showing_command(alloc)?;
+    let join = join_command(alloc)?;
+    showing.subcommand(join)
 }

@@ -1,5 +1,5 @@
--- What a client asks for beside the first prefix of each IA_PD (RFC 8415, sections 21.4, 21.5, 21.7 and 21.21): what any
--- octets say of it.
+-- What a client asks for beside the first prefix of each IA_PD (RFC 8415, sections 21.4, 21.5, 21.7 and 21.21): what
+-- any octets say of it.
 use Rattle.std.specs.Prelude.{ℕ, ◌%◌, ◌==◌, List, [], ◌∷◌, ◌++◌, length, Option, Some, None, Result, Ok, Err, nat_lt}
 use Rattle.std.specs.Prelude.{if◌then◌else◌}
 use Rattle.byteorder.specs.Endian.{big_number}

@@ -83,8 +83,8 @@ fn asked(alloc: Global, octets: &[u8], own: &Duid) -> Result<InformationRequest,
 }
 
 /// The INFORMATION-REQUEST to the server `own`, or to any, that octets spell, all of them (RFC 8415, sections 16.12
-/// and 18.2.6); else the first fault, or `Memory` where a growth was refused. `Ignored` are messages of all other types,
-/// and requests with an identity association; `NotOurs` those to another server.
+/// and 18.2.6); else the first fault, or `Memory` where a growth was refused. `Ignored` are messages of all other
+/// types, and requests with an identity association; `NotOurs` those to another server.
 pub fn decode_information(
     alloc: Global,
     octets: &[u8],

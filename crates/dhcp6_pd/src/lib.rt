@@ -1,8 +1,8 @@
 //! DHCPv6 messages with prefix delegation (RFC 8415): what clients send, by relays or not, and a server's answers.
 //!
 //! `decode` takes a datagram to a `ClientMessage` for this server, or names the first fault from the front;
-//! `decode_information` takes one to a request for options alone; `encode` takes a `ServerMessage` to the octets that go
-//! back by the same relays. None of them decides anything.
+//! `decode_information` takes one to a request for options alone; `encode` takes a `ServerMessage` to the octets that
+//! go back by the same relays. None of them decides anything.
 //!
 //! What they promise stands at their calls: which octets are which message in specs/Grammar, why a message is refused
 //! for its type, its relays or its identifiers in specs/Refusals, the first fault of any octets in specs/Faults, the

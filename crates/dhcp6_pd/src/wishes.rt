@@ -2,7 +2,8 @@
 
 ghost use Rattle.std.specs.Prelude.{◌≡◌, ◌≤◌, None, IfOk, Ok};
 ghost use Rattle.dhcp6_pd.specs.Answers.{Gives};
-ghost use Rattle.dhcp6_pd.specs.Wishes.{codes_of, request_in, request_once, with_iaid, wish_option, wishes_in, no_wishes, or_none};
+ghost use Rattle.dhcp6_pd.specs.Wishes.{codes_of, request_in, request_once, with_iaid, wish_option, wishes_in};
+ghost use Rattle.dhcp6_pd.specs.Wishes.{no_wishes, or_none};
 
 use crate::error::{PdError, PdFault};
 use crate::ia::add_prefixes;

@@ -12,7 +12,8 @@ use Rattle.attribution.specs.declared.condition.Condition.{Condition}
 use Rattle.attribution.specs.declared.condition.Condition.TheVariants.{Moment, Shown, Tiled, Granted, Opened}
 use Rattle.attribution.specs.declared.condition.Condition.TheVariants.{Discharged, Covered, Reasoned}
 use Rattle.attribution.specs.declared.verdict.Verdict.{Verdict}
-use Rattle.attribution.specs.declared.verdict.Verdict.TheVariants.{Accepted, EmptyInterval, PastEnd, PieceGap, PieceGrant}
+use Rattle.attribution.specs.declared.verdict.Verdict.TheVariants.{Accepted, EmptyInterval, PastEnd, PieceGap}
+use Rattle.attribution.specs.declared.verdict.Verdict.TheVariants.{PieceGrant}
 use Rattle.attribution.specs.declared.verdict.Verdict.TheVariants.{BeforeOpen, PieceRelease, Uncovered, Reason}
 use Rattle.attribution.specs.Acceptance.{HasEarlier, IsGrantedAfterOpen, IsForeign, IsNamed, ReasonHolds}
 use Rattle.attribution.specs.FirstRefusal.{IsFirstNot, begin_at, IsInPlace, CutsShort}
@@ -35,7 +36,8 @@ use Rattle.evidence_report.specs.Faults.{FailsPiece, FailsForeign}
 abbrev pub IsOpenedLate : Journals → (skew transit : ℕ) → Certificate → Role → (needed from : ℕ) → Type 0
 IsOpenedLate js skew transit c side needed from =
     HasEarlier js side
-    × ((l : Line) × Names js (open_of side) l × (needed ≡ l.reading + skew + transit) × (from ≡ c.from) × (from < needed))
+    × ((l : Line) × Names js (open_of side) l × (needed ≡ l.reading + skew + transit) × (from ≡ c.from)
+    × (from < needed))
 
 -- the partner of the server that granted the piece has some, and the grant isn't shown to have come behind them
 abbrev pub IsBeforeOpen : Journals → ℕ → Piece → Role → Type 0
@@ -75,7 +77,8 @@ IsFailure js skew transit c (Uncovered r) (Unnamed at delegation) =
     (at ≡ r) × IsForeign js c r delegation × (IsNamed c r → ⊥)
 IsFailure js skew transit c (Reason r) (Unreasoned at fault) =
     (at ≡ r)
-    × ((k : ℕ) × (f : Foreign) × (slice_get c.foreign k ≡ Some f) × (f.grant ≡ r) × FailsForeign js skew transit c f fault)
+    × ((k : ℕ) × (f : Foreign) × (slice_get c.foreign k ≡ Some f) × (f.grant ≡ r)
+    × FailsForeign js skew transit c f fault)
 IsFailure js skew transit c _ _ = ⊥
 
 -- the condition of a certificate that a verdict refuses by
@@ -103,7 +106,8 @@ side_in shown Secondary = shown.secondary
 
 -- the failure says why the grant doesn't carry the piece of this number
 abbrev pub IsUncarried : Journals → (skew transit : ℕ) → Certificate → Piece → ℕ → Failure → Type 0
-IsUncarried js skew transit c p n failure = (fault : PieceFault) × (failure ≡ Uncarried n fault) × FailsPiece js skew transit c p fault
+IsUncarried js skew transit c p n failure =
+    (fault : PieceFault) × (failure ≡ Uncarried n fault) × FailsPiece js skew transit c p fault
 
 -- it says why the reason of the first entry doesn't hold, of those whose reason doesn't
 abbrev pub IsUnreasoned : Journals → (skew transit : ℕ) → Certificate → Failure → Type 0

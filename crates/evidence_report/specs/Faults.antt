@@ -1,5 +1,5 @@
--- Why a grant doesn't carry a piece, and why a foreign entry's reason doesn't hold: the first comparison that fails, with
--- its numbers. Each speaks of what `IsGranted` and `ReasonHolds` ask, in their order.
+-- Why a grant doesn't carry a piece, and why a foreign entry's reason doesn't hold: the first comparison that fails,
+-- with its numbers. Each speaks of what `IsGranted` and `ReasonHolds` ask, in their order.
 use Rattle.std.specs.Prelude.{◌≡◌, ◌≢◌, ℕ, ◌+◌, ◌*◌, ◌<◌, ◌≤◌, ◌⊎◌, IsTrue, Option, Some, None}
 use Rattle.prefix_range.specs.Prefix.{Contains}
 use Rattle.journal_lines.specs.declared.event.Lease.{Lease}
@@ -25,7 +25,8 @@ use Rattle.evidence_report.specs.declared.faults.PieceFault.TheVariants.{NoGrant
 use Rattle.evidence_report.specs.declared.faults.PieceFault.TheVariants.{BegunLate, NoChainTo, EndsEarly}
 use Rattle.evidence_report.specs.declared.faults.ForeignFault.{ForeignFault}
 use Rattle.evidence_report.specs.declared.faults.ForeignFault.TheVariants.{NoDelegation, NoChain, Endless, EndsLate}
-use Rattle.evidence_report.specs.declared.faults.ForeignFault.TheVariants.{Carried, BeginsEarly, NotGivenBack, NotBehind}
+use Rattle.evidence_report.specs.declared.faults.ForeignFault.TheVariants.{Carried, BeginsEarly, NotGivenBack}
+use Rattle.evidence_report.specs.declared.faults.ForeignFault.TheVariants.{NotBehind}
 use Rattle.evidence_report.specs.declared.faults.ForeignFault.TheVariants.{GivenBackLate}
 
 -- ---- pieces

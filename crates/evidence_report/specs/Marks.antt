@@ -28,7 +28,8 @@ abbrev pub IsLatestMark : Journals → List Ref → Ref → Option Mark → Type
 IsLatestMark js chain r None = (x : ℕ) → WrittenBy js chain r x → ⊥
 IsLatestMark js chain r (Some m) = WrittenBy js chain r m.reading × EndsWith chain m.at
 
--- the first line of the chain to r: at its reading less the skew, or later, r was written; none where it is no chain to r
+-- the first line of the chain to r: at its reading less the skew, or later, r was written; none where it is no chain to
+-- r
 abbrev pub IsEarliestMark : Journals → List Ref → Ref → Option Mark → Type 0
 IsEarliestMark js chain r None = (x : ℕ) → WrittenFrom js chain r x → ⊥
 IsEarliestMark js chain r (Some m) = WrittenFrom js chain r m.reading × BeginsWith chain m.at

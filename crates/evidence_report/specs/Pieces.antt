@@ -68,7 +68,8 @@ pub record IsPieceReport (js : Journals) (skew : ℕ) (p : Piece) (shown : Piece
 -- ---- for bodies
 
 -- the releases of this delegation, each once
-pub record AreReportsOf (js : Journals) (skew : ℕ) (p : Piece) (d : Delegation) (shown : List ReleaseReport) : Type 0 where
+pub record AreReportsOf (js : Journals) (skew : ℕ) (p : Piece) (d : Delegation)
+    (shown : List ReleaseReport) : Type 0 where
   pub releases : AreReleases js d (releases_in shown)
   pub once : AreRising (releases_in shown)
   pub each : (s : ReleaseReport) → Has shown s → IsReleaseReport js skew p s

@@ -26,7 +26,8 @@ pub enum PieceFault {
     EndsEarly { needed: u64, shown: u64 },
 }
 
-/// Why a foreign entry's reason doesn't hold: the first that holds, in this order. Numbers are milliseconds of true time.
+/// Why a foreign entry's reason doesn't hold: the first that holds, in this order. Numbers are milliseconds of true
+/// time.
 #[derive(Clone, Copy, Debug, PartialEq, Eq)]
 pub enum ForeignFault {
     /// The line that it names tells of no delegation.
@@ -63,8 +64,8 @@ pub enum Failure {
         needed: u64,
         closed: Reading,
     },
-    /// The piece of this number, from 1, must begin at `must`, and begins at `begins`, with its end at `ends`; behind the
-    /// last one there is none, and the last ends at `must`, which isn't the interval's end.
+    /// The piece of this number, from 1, must begin at `must`, and begins at `begins`, with its end at `ends`; behind
+    /// the last one there is none, and the last ends at `must`, which isn't the interval's end.
     PieceGap {
         number: u64,
         must: Reading,
@@ -75,8 +76,8 @@ pub enum Failure {
         number: u64,
         fault: PieceFault,
     },
-    /// This side has earlier volumes, whose answers had surely reached their clients by `needed`, which is later than the
-    /// interval's beginning.
+    /// This side has earlier volumes, whose answers had surely reached their clients by `needed`, which is later than
+    /// the interval's beginning.
     BeforeOpen {
         side: Role,
         needed: u64,

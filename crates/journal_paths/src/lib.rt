@@ -14,9 +14,9 @@
 ghost use Rattle.std.specs.Prelude.{◌≤◌, ⊤, length, IfOk};
 
 use access_lines::AccessBeside;
-use access_records::AccessText;
+use access_records::{AccessError, AccessText};
 use archive_files::{FileEnd, JournalFiles, Unreadable};
-use std::alloc::Global;
+use std::alloc::{AllocError, Global};
 use std::fs::{self, File};
 use std::io::{self, Error, ErrorKind, Read, Seek, SeekFrom};
 use std::net::Net;
@@ -53,15 +53,18 @@ fn is_no_file(rt: &HostRuntime, path: Path<'_>) -> bool {
 /// What the name of a file of access records ends with, behind a stop.
 const ACCESS: &str = "access";
 
-/// Adds the files of a directory, but those of access records, and none deeper.
+/// Adds the files of a directory by their names, but those of access records, and none deeper.
 fn add_files_in(rt: &HostRuntime, paths: &mut Vec<PathBuf>, folder: Path<'_>) -> io::Result<()> {
+    let mut inside = Vec::new(rt.alloc());
     for entry in fs::read_dir(rt, folder)? {
         let path = folder.join(rt.alloc(), entry?.file_name())?;
         let has_records = path.as_path().extension() == Some(ACCESS);
         if !has_records && !is_no_file(rt, path.as_path()) {
-            paths.push(path)?;
+            inside.push(path)?;
         }
     }
+    inside.sort()?;
+    paths.append(&mut inside)?;
     Ok(())
 }
 
@@ -94,8 +97,8 @@ pub struct PathError {
 }
 
 impl<'a> JournalPaths<'a> {
-    /// The files that these words name, in the order of the words, and of a directory's in the system's. The first word
-    /// that names nothing, or what can't be looked at.
+    /// The files that these words name, in the order of the words, and of a directory's in that of their names. The first
+    /// word that names nothing, or what can't be looked at.
     pub fn at(
         rt: &'a HostRuntime,
         net: &impl Net,
@@ -120,6 +123,8 @@ impl<'a> JournalPaths<'a> {
     /// Adds what a path names: a file, or the files of a directory.
     fn add(&mut self, net: &impl Net, path: Path<'_>) -> io::Result<()> {
         if !fs::metadata(self.rt, path)?.is_dir() {
+            // (a file that is named and can't be opened isn't passed over)
+            File::open(self.rt, path)?;
             self.paths.push(path.to_path_buf(self.rt.alloc())?)?;
             return Ok(());
         }
@@ -209,6 +214,16 @@ fn read_end(rt: &HostRuntime, path: Path<'_>, octets: u32) -> io::Result<FileEnd
     }
 }
 
+/// What a file of access records says.
+fn read_access(rt: &HostRuntime, path: Path<'_>) -> Result<AccessText, Unreadable> {
+    let content = fs::read(rt, path).map_err(|error| unreadable(&error))?;
+    match access_records::read(rt.alloc(), &content) {
+        Ok(text) => Ok(text),
+        Err(AccessError::Memory) => Err(Unreadable::Memory),
+        Err(_) => Err(Unreadable::Device),
+    }
+}
+
 impl JournalFiles for JournalPaths<'_> {
     ghost had = { λ s file octets. ⊤ };
 
@@ -247,9 +262,15 @@ impl JournalFiles for JournalPaths<'_> {
 impl AccessBeside for JournalPaths<'_> {
     ghost says = { λ s file text. ⊤ };
 
-    fn beside(&self, alloc: Global, file: usize) -> Option<AccessText> {
-        let path = self.path(file)?.with_extension(alloc, ACCESS).ok()?;
-        let content = fs::read(self.rt, path.as_path()).ok()?;
-        access_records::read(alloc, &content).ok()
+    fn beside(&self, alloc: Global, file: usize) -> Result<Option<AccessText>, AllocError> {
+        let Some(path) = self.path(file) else {
+            return Ok(None);
+        };
+        let path = path.with_extension(alloc, ACCESS)?;
+        match read_access(self.rt, path.as_path()) {
+            Ok(text) => Ok(Some(text)),
+            Err(Unreadable::Memory) => Err(AllocError),
+            Err(Unreadable::Device) => Ok(None),
+        }
     }
 }

@@ -1,9 +1,9 @@
 //! Who is let in as the partner, and how octets go over its connection.
 //!
 //! Each connection waits first ([`Waiting`]): with a key until its other end has proved that it has it, and without one
-//! until it has said the partner's first frame, CONNECT. Until then nothing that it says counts, and whatever else comes
-//! refuses it alone ([`EntryFault`]). Who was let in ([`Entrant`]) goes on by a [`Passage`]: octets as they are, or in
-//! records that only who has the key can make (`link_records`).
+//! until it has said the partner's first frame, CONNECT. Until then nothing that it says counts, and whatever else
+//! comes refuses it alone ([`EntryFault`]). Who was let in ([`Entrant`]) goes on by a [`Passage`]: octets as they are,
+//! or in records that only who has the key can make (`link_records`).
 //!
 //! ```text
 //! let mut waiting = keeper.begin(alloc, nonce);

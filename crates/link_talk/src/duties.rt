@@ -10,6 +10,10 @@ use failover_message::FrameKind;
 use locked_book::{Receipt, Work};
 use std::alloc::{AllocError, Global};
 
+/// How many updates may be under way, at most: with so many unanswered an end reads on, so that neither end writes
+/// while the other doesn't read.
+pub(crate) const MOST_IN_FLIGHT: usize = 256;
+
 /// The updates that the partner asked to be told again (RFC 8156, section 5: UPDREQ, UPDREQALL).
 #[derive(Clone, Copy, PartialEq, Eq)]
 pub(crate) enum Again {
@@ -36,11 +40,29 @@ pub(crate) enum Matter {
     Change,
 }
 
+/// What was told: all that the lines up to here left to tell, in this term.
+#[derive(Clone, Copy, PartialEq, Eq)]
+pub(crate) struct Settled {
+    pub lines: LineCount,
+    pub term: u32,
+}
+
+/// How far it is known what there is to tell.
+#[derive(Clone, Copy)]
+pub(crate) enum Standing {
+    /// Nothing.
+    Settled,
+    /// What the lines of this pass since then left.
+    Since(Settled),
+    /// It has to be looked for: a round is under way, or nobody knows.
+    Unknown,
+}
+
 /// A round over the units of which there is something to tell: it may go on in a later turn.
 #[derive(Clone, Copy)]
 pub(crate) struct Round {
-    /// The lines at which it began, and those that it has sent since.
-    pub lines: LineCount,
+    /// What is told once it is at its end: the lines at which it began. Of later ones a later turn tells.
+    pub settles: Settled,
     pub matter: Matter,
     /// The address from which on it goes on.
     pub from: u128,
@@ -61,8 +83,8 @@ pub(crate) struct Duties {
     pub awaits_units: bool,
     /// The round that isn't at its end.
     pub round: Option<Round>,
-    /// Where no line was added since then, there is nothing to be told.
-    pub settled: Option<LineCount>,
+    /// How far all is told. None where it isn't known: then a round looks for it.
+    pub settled: Option<Settled>,
     /// How many updates were sent of which no reply came yet.
     pub in_flight: usize,
 }
@@ -145,11 +167,16 @@ impl Duties {
         self.round = None;
     }
 
-    /// Returns whether all was told at these lines.
-    pub(crate) fn is_settled(&self, lines: &LineCount) -> bool {
-        match &self.settled {
-            Some(settled) => self.again == Again::Nothing && *settled == *lines,
-            None => false,
+    /// Returns how far it is known what there is to tell at these lines and in this term.
+    pub(crate) fn standing(&self, now: &Settled) -> Standing {
+        if self.again != Again::Nothing || self.round.is_some() {
+            return Standing::Unknown;
+        }
+        match self.settled {
+            Some(settled) if settled == *now => Standing::Settled,
+            Some(settled) if settled.term == now.term && settled.lines.others == now.lines.others =>
+                { Standing::Since(settled) }
+            _ => Standing::Unknown,
         }
     }
 }

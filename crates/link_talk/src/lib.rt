@@ -30,6 +30,7 @@ mod error;
 mod memory;
 mod messages;
 mod outbox;
+mod recent;
 mod returning;
 mod sending;
 mod shared;

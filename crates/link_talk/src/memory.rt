@@ -41,7 +41,7 @@ pub(crate) struct Told {
     /// How many of the receipts were looked at.
     seen: usize,
     /// The term of the book's messages, as far as the receipts tell.
-    term: u32,
+    pub term: u32,
     /// The serial of the message that was sent last: 0 where none was.
     pub sent: Counter,
     /// A serial that the partner has taken: the greatest of an update that it replied to, of the changes of the open
@@ -110,6 +110,20 @@ impl Told {
             if telling.mine == reply.of && telling.serial > self.answered {
                 self.answered = telling.serial;
             }
+        }
+    }
+
+    /// How many updates are under way behind a reply, where so many were before it. One that the partner dropped, or
+    /// answered together with a later one, gets none: so they are at most as many as the messages that were sent behind
+    /// the update that is answered, since the partner took all up to that.
+    pub(crate) fn under_way_behind(&self, reply: &BindReply, before: usize) -> usize {
+        let left = before.saturating_sub(1);
+        match self.updates.get(&reply.prefix.first()) {
+            Some(telling) if telling.mine == reply.of => {
+                let behind = self.sent.number().saturating_sub(telling.serial.number());
+                left.min(behind as usize)
+            }
+            _ => left,
         }
     }
 

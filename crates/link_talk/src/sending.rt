@@ -5,7 +5,7 @@ ghost use Rattle.link_talk.specs.Handed.{said_of, sends_above, answer};
 ghost use Rattle.link_talk.specs.Talking.{Says};
 
 use crate::book::{PairBook, Receipts};
-use crate::duties::{Again, Duties, Matter, Round, lines_at};
+use crate::duties::{Again, Duties, MOST_IN_FLIGHT, Matter, Round, Settled, Standing, lines_at};
 use crate::end::{End, Fate};
 use crate::error::TalkError;
 use crate::memory::last_taken;
@@ -18,13 +18,9 @@ use order_book::Order;
 use prefix_range::Prefix;
 use std::alloc::{AllocError, Global};
 
-/// How many updates may be under way, at most: with so many unanswered an end reads on, so that neither end writes
-/// while the other doesn't read.
-const MOST_IN_FLIGHT: usize = 256;
-
 /// How far a turn's telling came.
 #[derive(Clone, Copy)]
-enum Progress {
+pub(crate) enum Progress {
     /// All of it was told.
     All,
     /// A later turn goes on.
@@ -104,21 +100,25 @@ impl<'a, B: PairBook> End<'a, B> {
         Ok(!duties.told.was_sent(prefix, status, unit.mine))
     }
 
-    /// Sends a unit's update, if it is to be sent.
+    /// Sends a unit's update, if it is to be sent. None where there is none.
     #[tactic(auto, using(crate::proofs::Saying::saying))]
-    fn tell(
+    pub(crate) fn tell(
         &self,
         pass: &mut B::Pass,
         duties: &mut Duties,
         matter: Matter,
         prefix: &Prefix,
-    ) -> Result<Fate, TalkError>
+    ) -> Result<Option<Fate>, TalkError>
         ensures { Says (B.Pass.receipts pass.old) (B.Pass.receipts pass.new) duties.old.out.items duties.new.out.items }
     {
         if !self.is_to_tell(pass, duties, matter, prefix)? {
-            return Ok(Fate::Refused);
+            return Ok(None);
         }
-        self.order(pass, duties, &Order::SendUpdate(*prefix))
+        let fate = self.order(pass, duties, &Order::SendUpdate(*prefix))?;
+        if let Fate::Done = fate {
+            duties.in_flight = duties.in_flight.saturating_add(1);
+        }
+        Ok(Some(fate))
     }
 
     /// Sends each pending reply, the lowest unit's first. False where there was no room for it.
@@ -180,13 +180,8 @@ impl<'a, B: PairBook> End<'a, B> {
             let Some(prefix) = self.next_of(pass, round.matter, round.from)? else {
                 return Ok(Progress::All);
             };
-            match self.tell(pass, duties, round.matter, &prefix)? {
-                Fate::NoRoom => return Ok(Progress::NoRoom),
-                Fate::Refused => {}
-                Fate::Done => {
-                    duties.in_flight = duties.in_flight.saturating_add(1);
-                    round.lines.own = round.lines.own.saturating_add(1);
-                }
+            if let Some(Fate::NoRoom) = self.tell(pass, duties, round.matter, &prefix)? {
+                return Ok(Progress::NoRoom);
             }
             let Some(from) = prefix.first().checked_add(1) else {
                 return Ok(Progress::All);
@@ -230,20 +225,7 @@ impl<'a, B: PairBook> End<'a, B> {
         self.work(pass, 0)
     }
 
-    /// Notes that what was asked for again was sent.
-    fn finish_again(&self, duties: &mut Duties) -> Result<(), TalkError>
-        ensures { said_of duties.new.out.items ≡ said_of duties.old.out.items }
-    {
-        match duties.again {
-            Again::Nothing => {}
-            Again::Due => duties.say(FrameKind::UpdateDone)?,
-            Again::All => duties.owes_done = true,
-        }
-        duties.again = Again::Nothing;
-        Ok(())
-    }
-
-    /// Notes how far a round came.
+    /// Notes how far a round came, and that what was asked for again was sent, once it is at its end.
     fn end_round(
         &self,
         duties: &mut Duties,
@@ -252,38 +234,80 @@ impl<'a, B: PairBook> End<'a, B> {
     ) -> Result<(), TalkError>
         ensures { said_of duties.new.out.items ≡ said_of duties.old.out.items }
     {
-        match progress {
-            Progress::All => {
-                duties.round = None;
-                duties.settled = Some(round.lines);
-                self.finish_again(duties)
+        duties.round = match progress {
+            Progress::Part => Some(*round),
+            Progress::All | Progress::NoRoom => None,
+        };
+        if let Progress::All = progress {
+            duties.settled = Some(round.settles);
+            match duties.again {
+                Again::Nothing => {}
+                Again::Due => duties.say(FrameKind::UpdateDone)?,
+                Again::All => duties.owes_done = true,
             }
-            Progress::Part => {
-                duties.round = Some(*round);
-                Ok(())
-            }
-            Progress::NoRoom => {
-                duties.round = None;
-                Ok(())
-            }
+            duties.again = Again::Nothing;
         }
+        Ok(())
     }
 
-    /// Goes on with a round, and notes how far it came.
+    /// Goes on with the round over all that is to be told, or begins one.
     #[tactic(auto, using(crate::proofs::Saying::saying))]
-    fn tell_round(
+    pub(crate) fn tell_all(
         &self,
         pass: &mut B::Pass,
         duties: &mut Duties,
-        round: &mut Round,
+        now: &Settled,
     ) -> Result<(), TalkError>
         ensures { Says (B.Pass.receipts pass.old) (B.Pass.receipts pass.new) duties.old.out.items duties.new.out.items }
     {
-        let progress = self.go_round(pass, duties, round)?;
-        self.end_round(duties, round, progress)
+        let mut round = match duties.round {
+            Some(round) => round,
+            None => Round {
+                settles: *now,
+                matter: Matter::Mark,
+                from: 0,
+            },
+        };
+        let progress = self.go_round(pass, duties, &mut round)?;
+        self.end_round(duties, &round, progress)
     }
 
-    /// Goes on with the round over all that is to be told, or begins one, unless no line was added since the last one.
+    /// How far the lines went when the turn's telling began, and in which term.
+    fn told_by_now(
+        &self,
+        pass: &mut B::Pass,
+        duties: &mut Duties,
+        work: &Work,
+    ) -> Result<Settled, TalkError>
+        ensures pass { B.Pass.receipts pass.new ≡ B.Pass.receipts pass.old }
+        ensures out { duties.new.out.items ≡ duties.old.out.items }
+    {
+        duties.told.catch_up(pass.receipts())?;
+        Ok(Settled {
+            lines: lines_at(work, pass.receipts().len()),
+            term: duties.told.term,
+        })
+    }
+
+    /// Sends what is to be told: by the new lines where these say it, else by a round.
+    #[tactic(auto, using(crate::proofs::Saying::saying))]
+    fn tell_by(
+        &self,
+        pass: &mut B::Pass,
+        duties: &mut Duties,
+        now: &Settled,
+        standing: Standing,
+    ) -> Result<(), TalkError>
+        ensures { Says (B.Pass.receipts pass.old) (B.Pass.receipts pass.new) duties.old.out.items duties.new.out.items }
+    {
+        match standing {
+            Standing::Settled => Ok(()),
+            Standing::Since(settled) => self.tell_since(pass, duties, settled, now),
+            Standing::Unknown => self.tell_all(pass, duties, now),
+        }
+    }
+
+    /// Sends each pending reply and what is to be told, unless no line was added since all was.
     #[tactic(auto, using(crate::proofs::Saying::saying))]
     fn tell_news(
         &self,
@@ -293,24 +317,15 @@ impl<'a, B: PairBook> End<'a, B> {
     ) -> Result<(), TalkError>
         ensures { Says (B.Pass.receipts pass.old) (B.Pass.receipts pass.new) duties.old.out.items duties.new.out.items }
     {
-        let lines = lines_at(work, pass.receipts().len());
-        if duties.is_settled(&lines) {
+        let now = self.told_by_now(pass, duties, work)?;
+        let standing = duties.standing(&now);
+        if let Standing::Settled = standing {
             return Ok(());
         }
         if !self.reply_all(pass, duties, work.reply)? {
             return Ok(());
         }
-        let replies = pass.receipts().len().saturating_sub(lines.own);
-        let mut round = match duties.round {
-            Some(round) => round,
-            None => Round {
-                lines,
-                matter: Matter::Mark,
-                from: 0,
-            },
-        };
-        round.lines.own = round.lines.own.saturating_add(replies);
-        self.tell_round(pass, duties, &mut round)
+        self.tell_by(pass, duties, &now, standing)
     }
 
     /// Ends the lowest lease that has ended, and sends what is to be sent. A turn in which there is nothing new costs

@@ -129,7 +129,8 @@ impl<'a, B: PairBook> End<'a, B> {
     {
         match body {
             Body::Reply(reply) => {
-                duties.in_flight = duties.in_flight.saturating_sub(1);
+                duties.told.catch_up(pass.receipts())?;
+                duties.in_flight = duties.told.under_way_behind(reply, duties.in_flight);
                 self.ask_back(pass, duties, reply)
             }
             Body::Contact { ask, .. } => {

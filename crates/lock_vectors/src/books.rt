@@ -7,7 +7,8 @@ use std::alloc::Global;
 use std::test::Fail;
 
 const PRIMARY: &[u8] =
-    b"role = \"primary\"\nduid = \"00030001020000000009\"\nskew_ms = 2000\nmclt = 3600\nlife = 3600\n[[pool]]\nprefix = \"2001:db8::/48\"\nunit = 56\n";
+    b"role = \"primary\"\nduid = \"00030001020000000009\"\nskew_ms = 2000\nmclt = 3600\nlife = 3600\n[[pool]]\n\
+    prefix = \"2001:db8::/48\"\nunit = 56\n";
 
 /// The primary's book, opened at 500: it has two lines.
 pub fn opened(alloc: Global) -> Result<Book, Fail> {

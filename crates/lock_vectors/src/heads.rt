@@ -11,8 +11,10 @@ use std::alloc::Global;
 use std::test::Fail;
 
 /// A second volume that carries one lease.
-const SECOND: &[u8] =
-    b"pd-journal 2 A 2\n1 1000000 open 2000 3600 3600\n2 1000000 pool 2001:0db8:0000:0000:0000:0000:0000:0000/48 56\n3 1000000 base 0 0 0 0 0\n4 1000000 carry 00030001020000000001 00000001 2001:0db8:0000:0000:0000:0000:0000:0000/56 3610000\n5 1000000 close\nend 5\n";
+const SECOND: &[u8] = b"pd-journal 2 A 2\n1 1000000 open 2000 3600 3600\n\
+    2 1000000 pool 2001:0db8:0000:0000:0000:0000:0000:0000/48 56\n3 1000000 base 0 0 0 0 0\n\
+    4 1000000 carry 00030001020000000001 00000001 2001:0db8:0000:0000:0000:0000:0000:0000/56 3610000\n\
+    5 1000000 close\nend 5\n";
 
 /// How many leases are carried. With three lines of settings before them there is room for three grants and the close,
 /// but the next head has two lines more for each grant: 2^20 in all.

@@ -1,5 +1,6 @@
 -- What the members of a TOML document say of how a server answers.
-use Rattle.std.specs.Prelude.{◌≡◌, ◌⊎◌, ⊤, ◌==◌, ℕ, Bool, true, false, nat_le, List, codes, Option, Some, None, if◌then◌else◌}
+use Rattle.std.specs.Prelude.{◌≡◌, ◌⊎◌, ⊤, ◌==◌, ℕ, Bool, true, false, nat_le, List, codes, Option, Some, None}
+use Rattle.std.specs.Prelude.{if◌then◌else◌}
 use Rattle.std.specs.Str.{bytes_eq}
 use Rattle.toml.specs.Data.{Data, Members, get_member, as_str}
 use Rattle.text_fields.specs.Parsing.{◌>>=◌}
@@ -12,7 +13,8 @@ use Rattle.server_book.specs.declared.manner.AddressRule.{AddressRule}
 use Rattle.server_book.specs.declared.manner.AddressRule.TheVariants.{PassOver, Refuse}
 use Rattle.manner_settings.specs.declared.error.MannerError.{MannerError}
 use Rattle.manner_settings.specs.declared.error.MannerError.TheVariants.{Dns, Search, Sntp, InformationRefresh}
-use Rattle.manner_settings.specs.declared.error.MannerError.TheVariants.{Preference, Unicast, RebindUnknown as OtherRebind}
+use Rattle.manner_settings.specs.declared.error.MannerError.TheVariants.{Preference, Unicast}
+use Rattle.manner_settings.specs.declared.error.MannerError.TheVariants.{RebindUnknown as OtherRebind}
 use Rattle.manner_settings.specs.declared.error.MannerError.TheVariants.{IaNa, Memory}
 use Rattle.manner_settings.specs.Values.{number_at, address_at, addresses_at, names_at}
 

@@ -3,7 +3,8 @@
 ghost use Rattle.std.specs.Prelude.{◌≡◌, MatchResult};
 ghost use Rattle.toml.specs.View.{view, table_view};
 ghost use Rattle.text_fields.specs.Parsing.{Finds};
-ghost use Rattle.manner_settings.specs.Keys.{rebind_word, rebind_in, address_rule_of, address_rule_in, IsManner, IsMannerFault};
+ghost use Rattle.manner_settings.specs.Keys.{rebind_word, rebind_in, address_rule_of, address_rule_in, IsManner};
+ghost use Rattle.manner_settings.specs.Keys.{IsMannerFault};
 
 use crate::error::MannerError;
 use crate::options::options_in;
@@ -69,7 +70,8 @@ fn address_rule_in(table: &Table) -> Option<AddressRule>
 /// `Preference`, `Unicast`, `RebindUnknown` or `IaNa`, in this order, where that key has nothing within its limits;
 /// `Memory` where a growth was refused.
 pub fn manner_in(alloc: Global, table: &Table, is_alone: bool) -> Result<Manner, MannerError>
-    ensures { MatchResult result (IsManner is_alone (table_view table.now)) (IsMannerFault is_alone (table_view table.now)) }
+    ensures { MatchResult result (IsManner is_alone (table_view table.now)) (IsMannerFault is_alone (table_view
+        table.now)) }
 {
     let given = options_in(alloc, table)?;
     let options = match given.ready(alloc) {

@@ -4,7 +4,8 @@ ghost use Rattle.std.specs.Prelude.{◌≡◌, None, Some, MatchResult};
 ghost use Rattle.toml.specs.Data.{get_member};
 ghost use Rattle.toml.specs.View.{view, table_view, items_view};
 ghost use Rattle.text_fields.specs.Parsing.{Finds};
-ghost use Rattle.manner_settings.specs.Values.{Misses, number_of, number_at, address_word, address_of, addresses_of, addresses_at, address_at};
+ghost use Rattle.manner_settings.specs.Values.{Misses, number_of, number_at, address_word, address_of, addresses_of};
+ghost use Rattle.manner_settings.specs.Values.{addresses_at, address_at};
 ghost use Rattle.manner_settings.specs.Values.{name_of, names_of, names_at};
 
 use crate::error::MannerError;
@@ -60,7 +61,8 @@ pub(crate) fn number_at(
 /// The address that a word spells: that of the prefix of all 128 bits.
 #[tactic(auto, unfolding(crate::specs::Values::address_word))]
 fn address_word(alloc: Global, word: &str, fault: MannerError) -> Result<u128, MannerError>
-    ensures { MatchResult result (λ a. address_word word.now ≡ Some a) (λ e. Misses fault e (address_word word.now ≡ None)) }
+    ensures { MatchResult result (λ a. address_word word.now ≡ Some a) (λ e. Misses fault e (address_word word.now ≡
+        None)) }
 {
     let Ok(mut text) = word.as_bytes().to_vec(alloc) else {
         return Err(MannerError::Memory);

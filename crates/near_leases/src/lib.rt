@@ -2,8 +2,8 @@
 //!
 //! [`near_leases`] finds each delegation of an address of a prefix that may have been a client's within a day of a
 //! moment, by the reading of the line that tells of it, and says of each what that shows of the moment
-//! ([`AtMoment`]). [`why_nobody`] says what all of them come to. Nobody is named by it. Only the lines' own readings are
-//! looked at: chains of messages may show more, and a search looks for those. specs/Near says what is shown.
+//! ([`AtMoment`]). [`why_nobody`] says what all of them come to. Nobody is named by it. Only the lines' own readings
+//! are looked at: chains of messages may show more, and a search looks for those. specs/Near says what is shown.
 #![tactic(auto)]
 
 mod at_moment;

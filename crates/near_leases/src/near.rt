@@ -6,7 +6,8 @@ ghost use Rattle.causal_order.specs.Journals.{Journals};
 ghost use Rattle.attribution.specs.Acceptance.{Tells};
 ghost use Rattle.evidence_report.specs.Marks.{Reads};
 ghost use Rattle.near_leases.specs.Near.{asked_of, IsNear};
-ghost use Rattle.near_leases.specs.Leases.{AreReleaseMarks, AreMarksOf, AreConcerning, IsNearLease, IsNearAt, AreNearLeases, found_list};
+ghost use Rattle.near_leases.specs.Leases.{AreReleaseMarks, AreMarksOf, AreConcerning, IsNearLease, IsNearAt};
+ghost use Rattle.near_leases.specs.Leases.{AreNearLeases, found_list};
 
 use crate::at_moment::{AtMoment, state_at};
 use crate::sums::ends_by;
@@ -120,8 +121,8 @@ fn concerns(line: &Mark, delegation: &Delegation, query: &HolderQuery) -> bool
     delegation.prefix.overlaps(&query.prefix) && is_near(line, &delegation.lasting, query)
 }
 
-/// What the line shows, if it tells of a delegation of an address of the prefix that may have been its client's within a
-/// day of the moment.
+/// What the line shows, if it tells of a delegation of an address of the prefix that may have been its client's within
+/// a day of the moment.
 #[tactic(auto, using(crate::proofs::Listed::untold, crate::proofs::Listed::unconcerned))]
 fn near_at<S: LineSource>(
     alloc: Global,
@@ -173,8 +174,9 @@ fn push_found(leases: &mut Vec<NearLease>, found: Option<NearLease>) -> Result<(
     }
 }
 
-/// Each delegation of an address of the prefix that may have been a client's within a day of the moment, by the line that
-/// tells of it: the primary's lines before the secondary's, and then by number. `AllocError` where a growth was refused.
+/// Each delegation of an address of the prefix that may have been a client's within a day of the moment, by the line
+/// that tells of it: the primary's lines before the secondary's, and then by number. `AllocError` where a growth was
+/// refused.
 #[tactic(auto, using(crate::proofs::Listed::none_near, crate::proofs::Listed::looked, crate::proofs::Listed::all_near))]
 pub fn near_leases<S: LineSource>(
     alloc: Global,

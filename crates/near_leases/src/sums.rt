@@ -15,7 +15,8 @@ pub fn begun_by(reading: Reading, skew: Skew, transit: Transit) -> u64
     reading.milliseconds() + skew.milliseconds() + transit.milliseconds()
 }
 
-/// The moment before which what was granted at this reading surely wasn't its client's: the reading less the skew, or 0.
+/// The moment before which what was granted at this reading surely wasn't its client's: the reading less the skew, or
+/// 0.
 pub fn may_begin(reading: Reading, skew: Skew) -> u64
     ensures { result ≡ may_begin reading skew }
 {

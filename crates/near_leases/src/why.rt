@@ -39,7 +39,8 @@ pub enum WhyNobody {
 
 /// Returns why the side's journal doesn't show the moment, or `None` where it does.
 fn unseen<S: LineSource>(source: &S, side: Role, query: &HolderQuery) -> Option<WhyNobody>
-    ensures { IfSome result (λ why. (leases : List NearLease) → IsWhy (S.journals source.now) (asked_of query.now) leases why) }
+    ensures { IfSome result (λ why. (leases : List NearLease) → IsWhy (S.journals source.now) (asked_of query.now)
+        leases why) }
 {
     let at = query.at.milliseconds();
     let closed = source.close_reading(side);

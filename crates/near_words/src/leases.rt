@@ -199,6 +199,9 @@ fn push_carried(
     )
 }
 
+const CARRIED: &str =
+    " it may have been its client's, but this journal doesn't show when it began.";
+
 /// What is so at the moment asked about.
 fn push_state(
     alloc: Global,
@@ -209,67 +212,36 @@ fn push_state(
     ensures { OnOk result (Tells (state_told at state.now ∷ []) out.old.items out.new.items) }
 {
     let at = at.milliseconds();
-    let words = match state {
-        AtMoment::NotBegun => [
-            Word::Prose("At "),
-            Word::Moment(at),
-            Word::Prose(" it surely had not begun."),
-            Word::Prose(""),
-            Word::Prose(""),
-        ],
-        AtMoment::Ended(end) => [
-            Word::Prose("At "),
-            Word::Moment(at),
-            Word::Prose(" it had surely ended: by "),
-            Word::Moment(*end),
-            Word::Prose("."),
-        ],
-        AtMoment::GivenBack(release) => [
-            Word::Prose("At "),
-            Word::Moment(at),
-            Word::Prose(" it had surely been given back: by line "),
-            Word::Line(release.at),
-            Word::Prose("."),
-        ],
-        AtMoment::Carried => [
-            Word::Prose("At "),
-            Word::Moment(at),
-            Word::Prose(
-                " it may have been its client's, but this journal doesn't show when it began.",
-            ),
-            Word::Prose(""),
-            Word::Prose(""),
-        ],
-        AtMoment::Beginning(begun) => [
-            Word::Prose("At "),
-            Word::Moment(at),
-            Word::Prose(" it may not have begun yet: the moment is too early by "),
-            Word::Milliseconds(begun.saturating_sub(at)),
-            Word::Prose("."),
-        ],
-        AtMoment::Ending(end) => [
-            Word::Prose("At "),
-            Word::Moment(at),
-            Word::Prose(" it may have ended: the last moment that is shown was earlier by "),
-            Word::Milliseconds((at + 1).saturating_sub(*end)),
-            Word::Prose("."),
-        ],
-        AtMoment::MayBeGivenBack(release) => [
-            Word::Prose("At "),
-            Word::Moment(at),
-            Word::Prose(" it may have been given back: by line "),
-            Word::Line(release.at),
-            Word::Prose("."),
-        ],
-        AtMoment::Shown => [
-            Word::Prose("At "),
-            Word::Moment(at),
-            Word::Prose(" it was its client's."),
-            Word::Prose(""),
-            Word::Prose(""),
-        ],
+    let (said, value) = match state {
+        AtMoment::NotBegun => (" it surely had not begun.", None),
+        AtMoment::Ended(end) => (" it had surely ended: by ", Some(Word::Moment(*end))),
+        AtMoment::GivenBack(release) => (
+            " it had surely been given back: by line ",
+            Some(Word::Line(release.at)),
+        ),
+        AtMoment::Carried => (CARRIED, None),
+        AtMoment::Beginning(begun) => (
+            " it may not have begun yet: the moment is too early by ",
+            Some(Word::Milliseconds(begun.saturating_sub(at))),
+        ),
+        AtMoment::Ending(end) => (
+            " it may have ended: the last moment that is shown was earlier by ",
+            Some(Word::Milliseconds((at + 1).saturating_sub(*end))),
+        ),
+        AtMoment::MayBeGivenBack(release) => (
+            " it may have been given back: by line ",
+            Some(Word::Line(release.at)),
+        ),
+        AtMoment::Shown => (" it was its client's.", None),
     };
-    push_block(alloc, out, Kind::Item, &words)
+    let (front, moment, said) = (Word::Prose("At "), Word::Moment(at), Word::Prose(said));
+    match value {
+        Some(value) => {
+            let words = [front, moment, said, value, Word::Prose(".")];
+            push_block(alloc, out, Kind::Item, &words)
+        }
+        None => push_block(alloc, out, Kind::Item, &[front, moment, said]),
+    }
 }
 
 /// All that is told of a delegation near the moment.

@@ -14,7 +14,8 @@ pub fn push_block(
     kind: Kind,
     words: &[Word],
 ) -> Result<(), AllocError>
-    ensures { OnOk result (Tells (record { kind = kind; values = values_of words.now } ∷ []) out.old.items out.new.items) }
+    ensures { OnOk result (Tells (record { kind = kind; values = values_of words.now } ∷ []) out.old.items
+        out.new.items) }
 {
     let mut own = Vec::new(alloc);
     own.extend_from_slice(words)?;

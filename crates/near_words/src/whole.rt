@@ -1,12 +1,14 @@
 //! Why nobody is named, in words.
 
-ghost use Rattle.std.specs.Prelude.{◌≡◌, IfOk, OnOk, map};
+ghost use Rattle.std.specs.Prelude.{◌≡◌, ◌∷◌, [], IfOk, OnOk, map};
 ghost use Rattle.std.specs.List.{flat_map};
 ghost use Rattle.report_words.specs.Telling.{told_of, Tells};
-ghost use Rattle.near_words.specs.Reasons.{question_told, why_told, lease_told, reasons_told};
+ghost use Rattle.near_words.specs.Reasons.{question_told, reason_told, why_told, lease_told, reasons_told};
 
 use crate::leases::push_lease;
 use crate::moments::push_block;
+use binding_rules::Role;
+use lead_time::Reading;
 use near_leases::{NearLease, WhyNobody};
 use plain_search::HolderQuery;
 use report_words::{Block, Kind, Word};
@@ -35,74 +37,84 @@ fn push_question(alloc: Global, out: &mut Vec<Block>, query: &HolderQuery) -> Re
     )
 }
 
-/// Why nobody is named.
-fn push_why(alloc: Global, out: &mut Vec<Block>, why: &WhyNobody) -> Result<(), AllocError>
-    ensures { OnOk result (Tells (why_told why.now) out.old.items out.new.items) }
+/// A moment that a journal ends before.
+fn push_past_end(
+    alloc: Global,
+    out: &mut Vec<Block>,
+    side: Role,
+    needed: u64,
+    closed: Reading,
+) -> Result<(), AllocError>
+    ensures { OnOk result (Tells (reason_told (WhyNobody.PastEnd side needed closed) ∷ []) out.old.items out.new.items) }
 {
     push_block(
         alloc,
         out,
-        Kind::Heading,
-        &[Word::Prose("Why nobody is named")],
-    )?;
+        Kind::Paragraph,
+        &[
+            Word::Prose("The moment is outside of what journal "),
+            Word::Side(side),
+            Word::Prose(" covers: at its close line the clock showed "),
+            Word::Reading(closed.milliseconds()),
+            Word::Prose(", and the moment's end with the skew is "),
+            Word::Reading(needed),
+            Word::Prose("."),
+        ],
+    )
+}
+
+/// A moment that isn't surely behind a server's earlier volumes.
+fn push_before_open(
+    alloc: Global,
+    out: &mut Vec<Block>,
+    side: Role,
+    needed: u64,
+) -> Result<(), AllocError>
+    ensures { OnOk result (Tells (reason_told (WhyNobody.BeforeOpen side needed) ∷ []) out.old.items out.new.items) }
+{
+    push_block(
+        alloc,
+        out,
+        Kind::Paragraph,
+        &[
+            Word::Prose("The moment is outside of what journal "),
+            Word::Side(side),
+            Word::Prose(" covers: answers of its earlier volumes may have come up to "),
+            Word::Moment(needed),
+            Word::Prose(". Ask the volume before it."),
+        ],
+    )
+}
+
+const NOBODY: &str =
+    "Nobody had it: by the lines of both journals no address of the prefix can have been a client's at \
+    the moment.";
+
+const NOT_SHOWN: &str =
+    "A client may have had it, but that isn't shown: the moment is too near to a beginning, an end \
+    or a release for what the clocks showed, or a part of the prefix was its alone, or its lease began in an \
+    earlier volume (desk join puts the volumes together).";
+
+const SEVERAL: &str =
+    "Two clients or more may have had addresses of it: the moment is too near to where one's lease ended \
+    and another's began.";
+
+/// Why nobody is named.
+fn push_why(alloc: Global, out: &mut Vec<Block>, why: &WhyNobody) -> Result<(), AllocError>
+    ensures { OnOk result (Tells (why_told why.now) out.old.items out.new.items) }
+{
+    let heading = [Word::Prose("Why nobody is named")];
+    push_block(alloc, out, Kind::Heading, &heading)?;
     match why {
         WhyNobody::PastEnd {
             side,
             needed,
             closed,
-        } => push_block(
-            alloc,
-            out,
-            Kind::Paragraph,
-            &[
-                Word::Prose("The moment is outside of what journal "),
-                Word::Side(*side),
-                Word::Prose(" covers: at its close line the clock showed "),
-                Word::Reading(closed.milliseconds()),
-                Word::Prose(", and the moment's end with the skew is "),
-                Word::Reading(*needed),
-                Word::Prose("."),
-            ],
-        ),
-        WhyNobody::BeforeOpen { side, needed } => push_block(
-            alloc,
-            out,
-            Kind::Paragraph,
-            &[
-                Word::Prose("The moment is outside of what journal "),
-                Word::Side(*side),
-                Word::Prose(" covers: answers of its earlier volumes may have come up to "),
-                Word::Moment(*needed),
-                Word::Prose(". Ask the volume before it."),
-            ],
-        ),
-        WhyNobody::Nobody => push_block(
-            alloc,
-            out,
-            Kind::Paragraph,
-            &[Word::Prose(
-                "Nobody had it: by the lines of both journals no address of the prefix can have been a client's at the \
-            moment.",
-            )],
-        ),
-        WhyNobody::NotShown => push_block(
-            alloc,
-            out,
-            Kind::Paragraph,
-            &[Word::Prose(
-                "A client may have had it, but that isn't shown: the moment is too near to a beginning, an end or a release \
-            for what the clocks showed, or a part of the prefix was its alone.",
-            )],
-        ),
-        WhyNobody::Several => push_block(
-            alloc,
-            out,
-            Kind::Paragraph,
-            &[Word::Prose(
-                "Two clients or more may have had addresses of it: the moment is too near to where one's lease ended and \
-            another's began.",
-            )],
-        ),
+        } => push_past_end(alloc, out, *side, *needed, *closed),
+        WhyNobody::BeforeOpen { side, needed } => push_before_open(alloc, out, *side, *needed),
+        WhyNobody::Nobody => push_block(alloc, out, Kind::Paragraph, &[Word::Prose(NOBODY)]),
+        WhyNobody::NotShown => push_block(alloc, out, Kind::Paragraph, &[Word::Prose(NOT_SHOWN)]),
+        WhyNobody::Several => push_block(alloc, out, Kind::Paragraph, &[Word::Prose(SEVERAL)]),
     }
 }
 
@@ -121,8 +133,8 @@ fn push_leases(
     Ok(())
 }
 
-/// Why a search for a holder names nobody, as blocks of a report: the question, the reason, and each delegation near the
-/// moment. `AllocError` where a growth was refused.
+/// Why a search for a holder names nobody, as blocks of a report: the question, the reason, and each delegation near
+/// the moment. `AllocError` where a growth was refused.
 pub fn why_blocks(
     alloc: Global,
     query: &HolderQuery,

@@ -4,6 +4,7 @@ ghost use Rattle.std.specs.Prelude.{◌≤◌, length};
 
 use crate::MOST_OCTETS;
 use node_threads::NodeSettings;
+use serve_settings::{ServeSettings, ServeSettingsError};
 use server_book::OpenError;
 use settings_advice::{
     KEYS, Key, POOL_KEYS, Place, lead_doubt, line_ends, link_doubt, pool_doubt, reasons_of,
@@ -107,4 +108,27 @@ pub fn advise<P: Print>(
         }
     }
     warn_of_keys(notes, &table);
+}
+
+/// Tells a person what `serve` would refuse in settings that are fit for `run`, a missing partner or key of the link
+/// apart, and whether its volumes are short. What finds no memory isn't told.
+pub fn advise_to_serve<P: Print>(notes: &P, alloc: Global, text: &[u8]) {
+    match ServeSettings::read(alloc, text) {
+        Ok(settings) => {
+            if settings.upkeep.is_short_for(settings.node.server.life()) {
+                let _ = println!(notes;
+                    "node: warning: volume_hours: a volume ends before the seventh renewal of a lease: where one volume of each server names nobody, desk join puts several together"
+                );
+            }
+        }
+        Err(
+            ServeSettingsError::Node(_)
+            | ServeSettingsError::NoPartner
+            | ServeSettingsError::PartnerOfAlone
+            | ServeSettingsError::NoLinkKey,
+        ) => {}
+        Err(error) => {
+            let _ = println!(notes; "node: warning: serve refuses {error}");
+        }
+    }
 }

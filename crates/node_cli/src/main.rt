@@ -1,7 +1,7 @@
-//! A node as a program: its words are the command. Of `check` and `run` standard input has the settings, standard output
-//! gets what they are worth or the journal, and the status says whether the node ran (0), its settings were refused (1)
-//! or a fault kept it from that (2). `serve` serves a directory as a daemon, and ends by 3 where the disk failed; the
-//! others ask the daemon of a directory, and print what it answers.
+//! A node as a program: its words are the command. Of `check` and `run` standard input has the settings, standard
+//! output gets what they are worth or the journal, and the status says whether the node ran (0), its settings were
+//! refused (1) or a fault kept it from that (2). `serve` serves a directory as a daemon, and ends by 3 where the disk
+//! failed; the others ask the daemon of a directory, and print what it answers.
 #![tactic(auto)]
 
 ghost use Rattle.std.specs.Prelude.{◌<◌, ◌^◌, length, IsErrOf};
@@ -12,7 +12,7 @@ mod fault;
 mod link_key;
 mod serving;
 
-use advising::advise;
+use advising::{advise, advise_to_serve};
 use asking::ask;
 use fault::Fault;
 use node_run::{Run, run_node};
@@ -106,6 +106,7 @@ where
             Ok(Outcome::of(line.into_bytes(), 1))
         }
         (Once::Check, Ok(settings)) => {
+            advise_to_serve(notes, alloc, text);
             let units = units_of(&settings);
             let line = format!(in alloc; "ok {units}\n")?;
             Ok(Outcome::of(line.into_bytes(), 0))

@@ -2,12 +2,12 @@
 //!
 //! A [`Daemon`] runs a server (`server_run`) over devices that don't wait (`daemon_devices`), a turn after another: it
 //! hears clients, the partner and the control socket (`daemon_parties`), does what is owed, puts all new lines to the
-//! disk by one write and one sync, and only then tells: answers to their clients, frames to the partner, and the control
-//! socket. So nothing is told that a loss of power could take back: [`Daemon::run`] promises it.
+//! disk by one write and one sync, and only then tells: answers to their clients, frames to the partner, and the
+//! control socket. So nothing is told that a loss of power could take back: [`Daemon::run`] promises it.
 //!
 //! While its clock is too far behind its journal (`server_start::is_behind`), it answers nobody, and says so. A disk
-//! that fails ends it: what was held back is never told, and it goes on with what its folder leads to when it is started
-//! again.
+//! that fails ends it: what was held back is never told, and it goes on with what its folder leads to when it is
+//! started again.
 //!
 //! [`serve`] is the program: it takes the lock on a directory, starts with what that leads to, opens the system's
 //! sockets, and runs.

@@ -23,12 +23,12 @@ use server_status::SyncTimes;
 use server_upkeep::Told;
 use std::alloc::{AllocError, Global};
 use std::fs::Files;
-use std::io;
 use std::net::{Net, SocketAddr};
 use std::path::Path;
 use std::random::RandomSource;
 use std::sync::Wait;
 use std::time::Clock as Handle;
+use std::{fs, io};
 use thiserror::Error;
 
 /// The name of the control socket in its directory.
@@ -325,8 +325,16 @@ fn daemon_of<'a, R: Net + RandomSource + Handle, L: Print>(
     })
 }
 
-/// Serves a directory by settings until a person tells it to stop. Where there is a key of the link, nobody is taken for
-/// the partner who hasn't it. What happens meanwhile is told in notes, a line each. The refusals are those of
+/// Removes the control socket of a server that stopped as it was told: all that it wrote is on the disk, and a socket
+/// at which nobody answers would say that it may not be. The caller still has the lock on the directory.
+fn remove_control<R: Files>(rt: &R, alloc: Global, directory: &str) {
+    if let Ok(path) = Path::new(directory).join(alloc, CONTROL) {
+        let _ = fs::remove_file(rt, path.as_path());
+    }
+}
+
+/// Serves a directory by settings until a person tells it to stop. Where there is a key of the link, nobody is taken
+/// for the partner who hasn't it. What happens meanwhile is told in notes, a line each. The refusals are those of
 /// [`ServeFailure`]. Both handles are of one runtime.
 pub fn serve<R: Wait + Files + Net + RandomSource + Handle, L: Print>(
     rt: &HostRuntime,
@@ -369,8 +377,9 @@ pub fn serve<R: Wait + Files + Net + RandomSource + Handle, L: Print>(
     ) else {
         return Err(ServeFailure::Ended(DaemonError::Memory));
     };
-    match daemon.run(handles, running) {
-        Ok(()) => Ok(()),
-        Err(error) => Err(ServeFailure::Ended(error)),
+    if let Err(error) = daemon.run(handles, running) {
+        return Err(ServeFailure::Ended(error));
     }
+    remove_control(handles, alloc, directory);
+    Ok(())
 }

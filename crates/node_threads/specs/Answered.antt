@@ -46,7 +46,8 @@ module _ {Mail Peer : Type 0} (Sends : Mail → Peer → List ℕ → Mail → T
   IsReplied partner own peer now m old new had has (Ok (Unanswered why)) =
       (new ≡ old) × MayGoOn why × IsSilent AnyJournal partner own plain m [] now had has why
   IsReplied partner own peer now m old new had has (Err Net) =
-      (octets : List ℕ) × (line : Option ℕ) × IsTold AnyJournal partner own plain m [] now had has octets line × Fails old new
+      (octets : List ℕ) × (line : Option ℕ) × IsTold AnyJournal partner own plain m [] now had has octets line
+      × Fails old new
   IsReplied partner own peer now m old new had has (Err (Serve e)) =
       (new ≡ old) × IsStranger e × IsSilent AnyJournal partner own plain m [] now had has (Refused e)
   IsReplied partner own peer now m old new had has result = ⊥

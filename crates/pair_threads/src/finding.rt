@@ -39,7 +39,8 @@ fn broken_rules<T: Threads + Sync>(
     primary: &Journal,
     secondary: &Journal,
 ) -> (Broken, Broken)
-    ensures primary { IfOk result.0 (λ refusal. MatchOption refusal (IsUnbroken A primary.now) (IsBroken A primary.now)) }
+    ensures primary { IfOk result.0 (λ refusal. MatchOption refusal (IsUnbroken A primary.now) (IsBroken A
+        primary.now)) }
     ensures secondary { IfOk result.1
         (λ refusal. MatchOption refusal (IsUnbroken B secondary.now) (IsBroken B secondary.now)) }
 {

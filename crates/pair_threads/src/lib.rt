@@ -1,7 +1,7 @@
 //! What the desk rules on two journals, found by threads.
 //!
-//! `rule_pair_by` answers what `rule_pair` of `pair_ruling` answers. The rules of both journals are found side by side, and
-//! then what merging the two comes to beside the first take that is early; the first refusal in the order of
+//! `rule_pair_by` answers what `rule_pair` of `pair_ruling` answers. The rules of both journals are found side by side,
+//! and then what merging the two comes to beside the first take that is early; the first refusal in the order of
 //! `rule_pair` counts, whatever the others came to.
 //!
 //! ```text

@@ -12,24 +12,30 @@ use std::test::Fail;
 
 /// A pool of 256 units.
 pub const PRIMARY: &[u8] =
-    b"role = \"primary\"\nduid = \"00030001020000000009\"\nskew_ms = 2000\nmclt = 3600\nlife = 3600\n[[pool]]\nprefix = \"2001:db8::/48\"\nunit = 56\n";
+    b"role = \"primary\"\nduid = \"00030001020000000009\"\nskew_ms = 2000\nmclt = 3600\nlife = 3600\n[[pool]]\n\
+    prefix = \"2001:db8::/48\"\nunit = 56\n";
 
 pub const SECONDARY: &[u8] =
-    b"role = \"secondary\"\nduid = \"00030001020000000008\"\nskew_ms = 2000\nmclt = 3600\nlife = 3600\n[[pool]]\nprefix = \"2001:db8::/48\"\nunit = 56\n";
+    b"role = \"secondary\"\nduid = \"00030001020000000008\"\nskew_ms = 2000\nmclt = 3600\nlife = 3600\n[[pool]]\n\
+    prefix = \"2001:db8::/48\"\nunit = 56\n";
 
 /// A pool of one unit.
 pub const ONE_PRIMARY: &[u8] =
-    b"role = \"primary\"\nduid = \"00030001020000000009\"\nskew_ms = 2000\nmclt = 3600\nlife = 3600\n[[pool]]\nprefix = \"2001:db8::/56\"\nunit = 56\n";
+    b"role = \"primary\"\nduid = \"00030001020000000009\"\nskew_ms = 2000\nmclt = 3600\nlife = 3600\n[[pool]]\n\
+    prefix = \"2001:db8::/56\"\nunit = 56\n";
 
 pub const ONE_SECONDARY: &[u8] =
-    b"role = \"secondary\"\nduid = \"00030001020000000008\"\nskew_ms = 2000\nmclt = 3600\nlife = 3600\n[[pool]]\nprefix = \"2001:db8::/56\"\nunit = 56\n";
+    b"role = \"secondary\"\nduid = \"00030001020000000008\"\nskew_ms = 2000\nmclt = 3600\nlife = 3600\n[[pool]]\n\
+    prefix = \"2001:db8::/56\"\nunit = 56\n";
 
 /// A pool of four units.
 pub const FOUR_PRIMARY: &[u8] =
-    b"role = \"primary\"\nduid = \"00030001020000000009\"\nskew_ms = 2000\nmclt = 3600\nlife = 3600\n[[pool]]\nprefix = \"2001:db8::/54\"\nunit = 56\n";
+    b"role = \"primary\"\nduid = \"00030001020000000009\"\nskew_ms = 2000\nmclt = 3600\nlife = 3600\n[[pool]]\n\
+    prefix = \"2001:db8::/54\"\nunit = 56\n";
 
 pub const FOUR_SECONDARY: &[u8] =
-    b"role = \"secondary\"\nduid = \"00030001020000000008\"\nskew_ms = 2000\nmclt = 3600\nlife = 3600\n[[pool]]\nprefix = \"2001:db8::/54\"\nunit = 56\n";
+    b"role = \"secondary\"\nduid = \"00030001020000000008\"\nskew_ms = 2000\nmclt = 3600\nlife = 3600\n[[pool]]\n\
+    prefix = \"2001:db8::/54\"\nunit = 56\n";
 
 pub const FIRST: &[u8] = b"2001:db8::/56";
 

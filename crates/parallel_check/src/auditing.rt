@@ -28,7 +28,8 @@ const MOST_WORKERS: usize = 64;
 
 /// The verdict on each certificate, in order, by this many workers: each takes the next certificate that none has
 /// taken, until none is left. What other clients had of a prefix is found once for those of one holder that ask of it.
-/// Where no thread can be made the caller works. `Workers` where they aren't 1 to 64, `Memory` where a growth was refused.
+/// Where no thread can be made the caller works. `Workers` where they aren't 1 to 64, `Memory` where a growth was
+/// refused.
 pub fn audit_all<S: LineSource + Sync, G: Gate, R: Threads + Wait + Sync>(
     rt: &R,
     alloc: Global,

@@ -1,11 +1,11 @@
 //! How many units the secondary gets, and which.
 
-use crate::arguments::Arguments;
 use crate::unit_words::status;
 use binding_rules::Status;
 use line_words::{add_number, add_prefix, add_word};
 use pool_balance::{choose, target};
 use prefix_range::{Prefix, unit};
+use probe_lines::Arguments;
 use std::alloc::{AllocError, Global};
 
 /// `target FREE BACKUP`.

@@ -2,12 +2,12 @@
 
 ghost use Rattle.std.specs.Prelude.{◌≤◌, ◌<◌, ◌^◌};
 
-use crate::arguments::Arguments;
 use crate::texts::add_answer;
 use crate::unit_words;
 use crate::unit_words::{add_role, add_unit};
 use binding_rules::{Counter, Outcome, grantable, renewable, take_reply, take_update};
 use line_words::add_word;
+use probe_lines::Arguments;
 use std::alloc::AllocError;
 
 /// `update ROLE NOW WAITING UNIT UPDATE`, WAITING being `waits` or `-`: what the server answers, and its unit then.

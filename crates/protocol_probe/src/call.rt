@@ -33,18 +33,10 @@ pub enum Call {
     Frame,
     Feed,
     Pieces,
-    Datagram,
-    Answer,
-    Fronts,
-    Altered,
-    Wishes,
-    Information,
-    Informed,
-    Advertised,
 }
 
 /// Each call by its name.
-const NAMES: [(&[u8], Call); 38] = [
+const NAMES: [(&[u8], Call); 30] = [
     (b"cuts", Call::Cuts),
     (b"number", Call::Number),
     (b"octets", Call::Octets),
@@ -75,14 +67,6 @@ const NAMES: [(&[u8], Call); 38] = [
     (b"frame", Call::Frame),
     (b"feed", Call::Feed),
     (b"pieces", Call::Pieces),
-    (b"datagram", Call::Datagram),
-    (b"answer", Call::Answer),
-    (b"fronts", Call::Fronts),
-    (b"altered", Call::Altered),
-    (b"wishes", Call::Wishes),
-    (b"information", Call::Information),
-    (b"informed", Call::Informed),
-    (b"advertised", Call::Advertised),
 ];
 
 impl Call {

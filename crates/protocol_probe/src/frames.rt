@@ -2,12 +2,12 @@
 
 ghost use Rattle.std.specs.Prelude.{◌≤◌, ◌<◌};
 
-use crate::arguments::Arguments;
 use crate::prefixes::add_error;
 use crate::unit_words::{add_reply, add_role, add_update};
 use binding_rules::{Counter, Role, ServerState};
 use failover_message::{Feed, Frame, FrameKind, LinkError, decode, encode};
 use line_words::{add_number, add_word};
+use probe_lines::Arguments;
 use std::alloc::{AllocError, Global};
 use text_fields::push_octets;
 

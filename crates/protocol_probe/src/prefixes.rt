@@ -1,10 +1,10 @@
 //! Prefixes and identifiers.
 
-use crate::arguments::Arguments;
 use crate::texts::add_answer;
 use client_id::{ClientIdError, Duid, Iaid};
 use line_words::{add_iaid, add_prefix, add_word};
 use prefix_range::{Prefix, PrefixError, read_canonical, unit, write_text};
+use probe_lines::Arguments;
 use std::alloc::{AllocError, Global};
 use std::fmt::Debug;
 

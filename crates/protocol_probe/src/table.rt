@@ -2,7 +2,6 @@
 
 ghost use Rattle.std.specs.Prelude.{◌≤◌, ◌<◌, ◌^◌};
 
-use crate::arguments::Arguments;
 use crate::unit_words::due;
 use binding_rules::{
     Acknowledgement, BindReply, Binding, Counter, Outcome, Role, Status, Unit, UnitStatus, Update,
@@ -11,6 +10,7 @@ use binding_rules::{
 use client_id::{Duid, Iaid};
 use lead_time::{End, Reading};
 use prefix_range::Prefix;
+use probe_lines::Arguments;
 use std::alloc::AllocError;
 
 /// The updates, each a column.

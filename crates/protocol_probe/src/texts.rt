@@ -1,8 +1,7 @@
 //! Cuts, numbers, octets and words.
 
-use crate::arguments::Arguments;
-use crate::octets::octets_in;
 use line_words::{SPACE, Words, add_number, add_word};
+use probe_lines::{Arguments, octets_in};
 use std::alloc::{AllocError, Global};
 use text_fields::{Cuts, number_of, push_octets};
 

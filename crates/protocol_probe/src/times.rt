@@ -1,6 +1,5 @@
 //! Lead times, and what bounds readings.
 
-use crate::arguments::Arguments;
 use crate::prefixes::add_error;
 use crate::texts::add_answer;
 use lead_time::{
@@ -8,6 +7,7 @@ use lead_time::{
     takeover, told_end,
 };
 use line_words::{add_number, add_word};
+use probe_lines::Arguments;
 use std::alloc::{AllocError, Global};
 
 fn add_bounded(

@@ -1,7 +1,9 @@
 -- What stands in the fields of a report as JSON.
 use Rattle.std.specs.Prelude.{◌≡◌, ◌⊎◌, ℕ, List, Some}
-use Rattle.serde_json.specs.Data.{Data, number, unsigned, string, null}
+use Rattle.serde_json.specs.Data.{Data, Members, number, unsigned, string, null, put as with_member}
 use Rattle.serde_json.specs.Find.{get}
+use Rattle.serde_json.specs.View.{view}
+use Rattle.serde_json.specs.declared.value.Value.{Value}
 
 -- the field is this number
 abbrev pub HasNumber : Data → List ℕ → ℕ → Type 0
@@ -10,3 +12,7 @@ HasNumber d key n = get key d ≡ Some (number (unsigned n))
 -- the value is this text; null where it is none of UTF-8
 abbrev pub IsText : List ℕ → Data → Type 0
 IsText text d = (d ≡ string text) ⊎ (d ≡ null)
+
+-- the old fields, and at the name a value that stands for this one
+abbrev pub HasField : {V : Type 0} → (gives : V → Value → Type 0) → List ℕ → V → (old new : Members) → Type 0
+HasField gives name value old new = (v : Value) × gives value v × (new ≡ with_member name (view v) old)

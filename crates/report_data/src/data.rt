@@ -2,6 +2,7 @@
 
 use crate::failures::failure_of;
 use crate::foreign::foreign_of;
+use crate::object::Object;
 use crate::pieces::pieces_of;
 use crate::values::{client_of, line_of, prefix_of, text_of, time_of};
 use claims::Certificate;
@@ -10,7 +11,7 @@ use journal_text::push_entry;
 use lead_time::Reading;
 use pair_ruling::ruling_line;
 use report_words::Explanation;
-use serde_json::{Value, json};
+use serde_json::Value;
 use std::alloc::{AllocError, Global};
 
 fn question_of(alloc: Global, certificate: &Certificate) -> Result<Value, AllocError> {
@@ -18,7 +19,14 @@ fn question_of(alloc: Global, certificate: &Certificate) -> Result<Value, AllocE
     let prefix = prefix_of(alloc, &certificate.prefix)?;
     let from = time_of(alloc, certificate.from.milliseconds())?;
     let to = time_of(alloc, certificate.to.milliseconds())?;
-    json!(in alloc; { "client": client, "prefix": prefix, "from": from, "to": to })
+    Ok(
+        Object::new(alloc)
+            .with("client", client)?
+            .with("prefix", prefix)?
+            .with("from", from)?
+            .with("to", to)?
+            .into_value(),
+    )
 }
 
 /// A reading, or null.
@@ -32,7 +40,13 @@ fn reading_of(alloc: Global, reading: Option<Reading>) -> Result<Value, AllocErr
 fn side_of(alloc: Global, side: &SideReport) -> Result<Value, AllocError> {
     let opened = reading_of(alloc, side.opened)?;
     let closed = time_of(alloc, side.closed.milliseconds())?;
-    json!(in alloc; { "volume": side.volume, "opened": opened, "closed": closed })
+    Ok(
+        Object::new(alloc)
+            .with("volume", side.volume)?
+            .with("opened", opened)?
+            .with("closed", closed)?
+            .into_value(),
+    )
 }
 
 /// What a line says behind its number, without the space before it.
@@ -49,7 +63,13 @@ fn cited_of(alloc: Global, cited: &Cited) -> Result<Value, AllocError> {
     let line = line_of(alloc, cited.at)?;
     let reading = time_of(alloc, cited.line.reading.milliseconds())?;
     let text = entry_of(alloc, cited)?;
-    json!(in alloc; { "line": line, "reading": reading, "text": text })
+    Ok(
+        Object::new(alloc)
+            .with("line", line)?
+            .with("reading", reading)?
+            .with("text", text)?
+            .into_value(),
+    )
 }
 
 fn lines_of(alloc: Global, cited: &[Cited]) -> Result<Value, AllocError> {
@@ -67,16 +87,18 @@ fn report_of(alloc: Global, report: &Report<'_>) -> Result<Value, AllocError> {
     let pieces = pieces_of(alloc, &report.pieces)?;
     let foreign = foreign_of(alloc, &report.foreign)?;
     let lines = lines_of(alloc, &report.cited)?;
-    json!(in alloc; {
-        "question": question,
-        "skew_ms": report.skew.milliseconds(),
-        "transit_ms": report.transit.milliseconds(),
-        "journal_a": primary,
-        "journal_b": secondary,
-        "pieces": pieces,
-        "foreign": foreign,
-        "lines": lines
-    })
+    Ok(
+        Object::new(alloc)
+            .with("question", question)?
+            .with("skew_ms", report.skew.milliseconds())?
+            .with("transit_ms", report.transit.milliseconds())?
+            .with("journal_a", primary)?
+            .with("journal_b", secondary)?
+            .with("pieces", pieces)?
+            .with("foreign", foreign)?
+            .with("lines", lines)?
+            .into_value(),
+    )
 }
 
 /// What a certificate shows, or null.
@@ -107,12 +129,12 @@ pub fn data_of(
     let failure = failure_of(alloc, &explanation.failure)?;
     let report = shown_of(alloc, &explanation.report)?;
     let certificate = text_of(alloc, certificate)?;
-    let value = json!(in alloc; {
-        "verdict": verdict,
-        "failure": failure,
-        "report": report,
-        "certificate": certificate
-    })?;
+    let value = Object::new(alloc)
+        .with("verdict", verdict)?
+        .with("failure", failure)?
+        .with("report", report)?
+        .with("certificate", certificate)?
+        .into_value();
     let mut text = value.to_string(alloc)?;
     text.push('\n')?;
     Ok(text)

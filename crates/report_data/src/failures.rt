@@ -1,6 +1,7 @@
 //! The comparison that a refusal rests on, as JSON.
 
 use crate::foreign::delegation_of;
+use crate::object::Object;
 use crate::values::{client_of, line_of, prefix_of, side_of, time_of};
 use attribution::Delegation;
 use binding_rules::Role;
@@ -9,7 +10,7 @@ use client_id::Duid;
 use evidence_report::{Failure, ForeignFault, PieceFault};
 use lead_time::Reading;
 use prefix_range::Prefix;
-use serde_json::{Value, json};
+use serde_json::Value;
 use std::alloc::{AllocError, Global};
 
 fn gap_of(
@@ -27,62 +28,78 @@ fn gap_of(
         }
         None => (Value::Null, Value::Null),
     };
-    json!(in alloc; {
-        "condition": "C6",
-        "piece": number,
-        "must_begin": time_of(alloc, must.milliseconds())?,
-        "begins": begins,
-        "ends": ends
-    })
+    Ok(
+        Object::new(alloc)
+            .with("condition", "C6")?
+            .with("piece", number)?
+            .with("must_begin", time_of(alloc, must.milliseconds())?)?
+            .with("begins", begins)?
+            .with("ends", ends)?
+            .into_value(),
+    )
 }
 
 /// A fault of a piece that has no numbers.
 fn named_piece(alloc: Global, number: u64, name: &'static str) -> Result<Value, AllocError> {
-    json!(in alloc; { "condition": "C7", "piece": number, "fault": name })
+    Ok(
+        Object::new(alloc)
+            .with("condition", "C7")?
+            .with("piece", number)?
+            .with("fault", name)?
+            .into_value(),
+    )
 }
 
 fn other_client(alloc: Global, number: u64, client: &Duid) -> Result<Value, AllocError> {
     let client = client_of(alloc, client)?;
-    json!(in alloc; {
-        "condition": "C7",
-        "piece": number,
-        "fault": "other_client",
-        "client": client
-    })
+    Ok(
+        Object::new(alloc)
+            .with("condition", "C7")?
+            .with("piece", number)?
+            .with("fault", "other_client")?
+            .with("client", client)?
+            .into_value(),
+    )
 }
 
 fn other_prefix(alloc: Global, number: u64, prefix: &Prefix) -> Result<Value, AllocError> {
     let prefix = prefix_of(alloc, prefix)?;
-    json!(in alloc; {
-        "condition": "C7",
-        "piece": number,
-        "fault": "other_prefix",
-        "prefix": prefix
-    })
+    Ok(
+        Object::new(alloc)
+            .with("condition", "C7")?
+            .with("piece", number)?
+            .with("fault", "other_prefix")?
+            .with("prefix", prefix)?
+            .into_value(),
+    )
 }
 
 fn begun_late(alloc: Global, number: u64, begun: u64, from: u64) -> Result<Value, AllocError> {
     let begun = time_of(alloc, begun)?;
     let from = time_of(alloc, from)?;
-    json!(in alloc; {
-        "condition": "C7",
-        "piece": number,
-        "fault": "begun_late",
-        "begun": begun,
-        "from": from
-    })
+    Ok(
+        Object::new(alloc)
+            .with("condition", "C7")?
+            .with("piece", number)?
+            .with("fault", "begun_late")?
+            .with("begun", begun)?
+            .with("from", from)?
+            .into_value(),
+    )
 }
 
 fn ends_early(alloc: Global, number: u64, needed: u64, shown: u64) -> Result<Value, AllocError> {
     let needed = time_of(alloc, needed)?;
     let shown = time_of(alloc, shown)?;
-    json!(in alloc; {
-        "condition": "C7",
-        "piece": number,
-        "fault": "ends_early",
-        "needed": needed,
-        "shown": shown
-    })
+    Ok(
+        Object::new(alloc)
+            .with("condition", "C7")?
+            .with("piece", number)?
+            .with("fault", "ends_early")?
+            .with("needed", needed)?
+            .with("shown", shown)?
+            .into_value(),
+    )
 }
 
 fn piece_fault_of(alloc: Global, number: u64, fault: &PieceFault) -> Result<Value, AllocError> {
@@ -99,7 +116,13 @@ fn piece_fault_of(alloc: Global, number: u64, fault: &PieceFault) -> Result<Valu
 
 /// A foreign entry's fault that has no numbers.
 fn named_fault(alloc: Global, at: Ref, name: &'static str) -> Result<Value, AllocError> {
-    json!(in alloc; { "condition": "C10", "line": line_of(alloc, at)?, "fault": name })
+    Ok(
+        Object::new(alloc)
+            .with("condition", "C10")?
+            .with("line", line_of(alloc, at)?)?
+            .with("fault", name)?
+            .into_value(),
+    )
 }
 
 /// A foreign entry's fault, with the two moments that were compared.
@@ -110,13 +133,15 @@ fn compared_fault(
     later: u64,
     earlier: u64,
 ) -> Result<Value, AllocError> {
-    json!(in alloc; {
-        "condition": "C10",
-        "line": line_of(alloc, at)?,
-        "fault": name,
-        "later": time_of(alloc, later)?,
-        "earlier": time_of(alloc, earlier)?
-    })
+    Ok(
+        Object::new(alloc)
+            .with("condition", "C10")?
+            .with("line", line_of(alloc, at)?)?
+            .with("fault", name)?
+            .with("later", time_of(alloc, later)?)?
+            .with("earlier", time_of(alloc, earlier)?)?
+            .into_value(),
+    )
 }
 
 fn foreign_fault_of(alloc: Global, at: Ref, fault: &ForeignFault) -> Result<Value, AllocError> {
@@ -142,44 +167,72 @@ fn foreign_fault_of(alloc: Global, at: Ref, fault: &ForeignFault) -> Result<Valu
 fn empty_interval(alloc: Global, from: Reading, to: Reading) -> Result<Value, AllocError> {
     let from = time_of(alloc, from.milliseconds())?;
     let to = time_of(alloc, to.milliseconds())?;
-    json!(in alloc; { "condition": "C4", "from": from, "to": to })
+    Ok(
+        Object::new(alloc)
+            .with("condition", "C4")?
+            .with("from", from)?
+            .with("to", to)?
+            .into_value(),
+    )
 }
 
 fn past_end(alloc: Global, side: Role, needed: u64, closed: Reading) -> Result<Value, AllocError> {
     let needed = time_of(alloc, needed)?;
     let closed = time_of(alloc, closed.milliseconds())?;
-    json!(in alloc; {
-        "condition": "C5",
-        "side": side_of(side),
-        "needed": needed,
-        "closed": closed
-    })
+    Ok(
+        Object::new(alloc)
+            .with("condition", "C5")?
+            .with("side", side_of(side))?
+            .with("needed", needed)?
+            .with("closed", closed)?
+            .into_value(),
+    )
 }
 
 fn before_open(alloc: Global, side: Role, needed: u64, from: Reading) -> Result<Value, AllocError> {
     let needed = time_of(alloc, needed)?;
     let from = time_of(alloc, from.milliseconds())?;
-    json!(in alloc; {
-        "condition": "C11",
-        "side": side_of(side),
-        "needed": needed,
-        "from": from
-    })
+    Ok(
+        Object::new(alloc)
+            .with("condition", "C11")?
+            .with("side", side_of(side))?
+            .with("needed", needed)?
+            .with("from", from)?
+            .into_value(),
+    )
 }
 
 fn piece_before_open(alloc: Global, number: u64, side: Role) -> Result<Value, AllocError> {
-    json!(in alloc; { "condition": "C11", "side": side_of(side), "piece": number })
+    Ok(
+        Object::new(alloc)
+            .with("condition", "C11")?
+            .with("side", side_of(side))?
+            .with("piece", number)?
+            .into_value(),
+    )
 }
 
 fn piece_release(alloc: Global, number: u64, release: Ref) -> Result<Value, AllocError> {
     let line = line_of(alloc, release)?;
-    json!(in alloc; { "condition": "C8", "piece": number, "line": line })
+    Ok(
+        Object::new(alloc)
+            .with("condition", "C8")?
+            .with("piece", number)?
+            .with("line", line)?
+            .into_value(),
+    )
 }
 
 fn uncovered(alloc: Global, at: Ref, delegation: &Delegation) -> Result<Value, AllocError> {
     let line = line_of(alloc, at)?;
     let delegation = delegation_of(alloc, delegation)?;
-    json!(in alloc; { "condition": "C9", "line": line, "delegation": delegation })
+    Ok(
+        Object::new(alloc)
+            .with("condition", "C9")?
+            .with("line", line)?
+            .with("delegation", delegation)?
+            .into_value(),
+    )
 }
 
 fn condition_of(alloc: Global, failure: &Failure) -> Result<Value, AllocError> {

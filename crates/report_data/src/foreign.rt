@@ -1,12 +1,13 @@
 //! Other clients' delegations as JSON.
 
+use crate::object::Object;
 use crate::values::{
     association_of, chain_of, client_of, line_of, mark_of, order_of, prefix_of, time_of,
 };
 use attribution::{Delegation, Lasting};
 use claims::{Chain, Ref};
 use evidence_report::{ForeignReport, Mark, OrderReport, Outside, Told};
-use serde_json::{Value, json};
+use serde_json::Value;
 use std::alloc::{AllocError, Global};
 
 /// For how many seconds a delegation lasts, or null.
@@ -31,19 +32,26 @@ pub(crate) fn delegation_of(alloc: Global, delegation: &Delegation) -> Result<Va
     let iaid = association_of(alloc, delegation.iaid)?;
     let prefix = prefix_of(alloc, &delegation.prefix)?;
     let until = until_of(alloc, &delegation.lasting)?;
-    json!(in alloc; {
-        "client": client,
-        "iaid": iaid,
-        "prefix": prefix,
-        "valid_s": seconds_of(&delegation.lasting),
-        "until": until
-    })
+    Ok(
+        Object::new(alloc)
+            .with("client", client)?
+            .with("iaid", iaid)?
+            .with("prefix", prefix)?
+            .with("valid_s", seconds_of(&delegation.lasting))?
+            .with("until", until)?
+            .into_value(),
+    )
 }
 
 fn delegated_of(alloc: Global, told: &Told) -> Result<Value, AllocError> {
     let reading = time_of(alloc, told.reading.milliseconds())?;
     let delegation = delegation_of(alloc, &told.delegation)?;
-    json!(in alloc; { "reading": reading, "delegation": delegation })
+    Ok(
+        Object::new(alloc)
+            .with("reading", reading)?
+            .with("delegation", delegation)?
+            .into_value(),
+    )
 }
 
 fn told_of(alloc: Global, told: &Option<Told>) -> Result<Value, AllocError> {
@@ -56,13 +64,25 @@ fn told_of(alloc: Global, told: &Option<Told>) -> Result<Value, AllocError> {
 fn early_of(alloc: Global, chain: &Chain, latest: &Option<Mark>) -> Result<Value, AllocError> {
     let chain = chain_of(alloc, chain)?;
     let latest = mark_of(alloc, latest)?;
-    json!(in alloc; { "why": "early", "chain": chain, "written_by": latest })
+    Ok(
+        Object::new(alloc)
+            .with("why", "early")?
+            .with("chain", chain)?
+            .with("written_by", latest)?
+            .into_value(),
+    )
 }
 
 fn late_of(alloc: Global, chain: &Chain, earliest: &Option<Mark>) -> Result<Value, AllocError> {
     let chain = chain_of(alloc, chain)?;
     let earliest = mark_of(alloc, earliest)?;
-    json!(in alloc; { "why": "late", "chain": chain, "written_from": earliest })
+    Ok(
+        Object::new(alloc)
+            .with("why", "late")?
+            .with("chain", chain)?
+            .with("written_from", earliest)?
+            .into_value(),
+    )
 }
 
 fn released_of(
@@ -77,14 +97,16 @@ fn released_of(
     let order = order_of(alloc, order)?;
     let chain = chain_of(alloc, chain)?;
     let latest = mark_of(alloc, latest)?;
-    json!(in alloc; {
-        "why": "released",
-        "release": release,
-        "gives_back": gives_back,
-        "order": order,
-        "chain": chain,
-        "written_by": latest
-    })
+    Ok(
+        Object::new(alloc)
+            .with("why", "released")?
+            .with("release", release)?
+            .with("gives_back", gives_back)?
+            .with("order", order)?
+            .with("chain", chain)?
+            .with("written_by", latest)?
+            .into_value(),
+    )
 }
 
 fn outside_of(alloc: Global, outside: &Outside<'_>) -> Result<Value, AllocError> {
@@ -105,7 +127,13 @@ fn entry_of(alloc: Global, report: &ForeignReport<'_>) -> Result<Value, AllocErr
     let line = line_of(alloc, report.entry.grant)?;
     let told = told_of(alloc, &report.told)?;
     let outside = outside_of(alloc, &report.outside)?;
-    json!(in alloc; { "line": line, "told": told, "outside": outside })
+    Ok(
+        Object::new(alloc)
+            .with("line", line)?
+            .with("told", told)?
+            .with("outside", outside)?
+            .into_value(),
+    )
 }
 
 /// Each foreign entry, in order.

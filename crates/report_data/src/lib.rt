@@ -13,8 +13,10 @@
 mod data;
 mod failures;
 mod foreign;
+mod object;
 mod pieces;
 mod values;
 
 pub use data::data_of;
+pub use object::Object;
 pub use values::{association_of, client_of, line_of, prefix_of, text_of, time_of};

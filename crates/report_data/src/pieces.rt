@@ -1,11 +1,12 @@
 //! Pieces as JSON.
 
+use crate::object::Object;
 use crate::values::{
     association_of, chain_of, client_of, line_of, mark_of, order_of, prefix_of, time_of,
 };
 use claims::{Chain, Clear};
 use evidence_report::{Cleared, Granted, Mark, OrderReport, PieceReport, ReleaseReport};
-use serde_json::{Value, json};
+use serde_json::Value;
 use std::alloc::{AllocError, Global};
 
 fn lease_of(alloc: Global, granted: &Granted) -> Result<Value, AllocError> {
@@ -13,13 +14,15 @@ fn lease_of(alloc: Global, granted: &Granted) -> Result<Value, AllocError> {
     let client = client_of(alloc, &granted.lease.client)?;
     let iaid = association_of(alloc, granted.lease.iaid)?;
     let prefix = prefix_of(alloc, &granted.lease.prefix)?;
-    json!(in alloc; {
-        "reading": reading,
-        "client": client,
-        "iaid": iaid,
-        "prefix": prefix,
-        "valid_s": granted.lease.valid
-    })
+    Ok(
+        Object::new(alloc)
+            .with("reading", reading)?
+            .with("client", client)?
+            .with("iaid", iaid)?
+            .with("prefix", prefix)?
+            .with("valid_s", granted.lease.valid)?
+            .into_value(),
+    )
 }
 
 /// What a grant grants, or null.
@@ -32,7 +35,12 @@ fn granted_of(alloc: Global, granted: &Option<Granted>) -> Result<Value, AllocEr
 
 fn cleared_before(alloc: Global, order: &OrderReport<'_>) -> Result<Value, AllocError> {
     let order = order_of(alloc, order)?;
-    json!(in alloc; { "why": "before_grant", "order": order })
+    Ok(
+        Object::new(alloc)
+            .with("why", "before_grant")?
+            .with("order", order)?
+            .into_value(),
+    )
 }
 
 fn cleared_after(
@@ -42,7 +50,13 @@ fn cleared_after(
 ) -> Result<Value, AllocError> {
     let chain = chain_of(alloc, chain)?;
     let earliest = mark_of(alloc, earliest)?;
-    json!(in alloc; { "why": "after_piece", "chain": chain, "written_from": earliest })
+    Ok(
+        Object::new(alloc)
+            .with("why", "after_piece")?
+            .with("chain", chain)?
+            .with("written_from", earliest)?
+            .into_value(),
+    )
 }
 
 /// Why a release doesn't end the piece, or null.
@@ -58,12 +72,14 @@ fn release_of(alloc: Global, report: &ReleaseReport<'_>) -> Result<Value, AllocE
     let line = line_of(alloc, report.release.at)?;
     let reading = time_of(alloc, report.release.reading.milliseconds())?;
     let cleared = cleared_of(alloc, &report.entry)?;
-    json!(in alloc; {
-        "line": line,
-        "reading": reading,
-        "cleared": cleared,
-        "discharged": report.is_discharged
-    })
+    Ok(
+        Object::new(alloc)
+            .with("line", line)?
+            .with("reading", reading)?
+            .with("cleared", cleared)?
+            .with("discharged", report.is_discharged)?
+            .into_value(),
+    )
 }
 
 fn releases_of(alloc: Global, releases: &[ReleaseReport<'_>]) -> Result<Value, AllocError> {
@@ -84,17 +100,19 @@ fn piece_of(alloc: Global, report: &PieceReport<'_>) -> Result<Value, AllocError
     let earliest_chain = chain_of(alloc, &report.piece.earliest)?;
     let earliest = mark_of(alloc, &report.earliest)?;
     let releases = releases_of(alloc, &report.releases)?;
-    json!(in alloc; {
-        "from": from,
-        "to": to,
-        "grant": grant,
-        "granted": granted,
-        "chain_from_grant": latest_chain,
-        "granted_by": latest,
-        "chain_to_grant": earliest_chain,
-        "granted_from": earliest,
-        "releases": releases
-    })
+    Ok(
+        Object::new(alloc)
+            .with("from", from)?
+            .with("to", to)?
+            .with("grant", grant)?
+            .with("granted", granted)?
+            .with("chain_from_grant", latest_chain)?
+            .with("granted_by", latest)?
+            .with("chain_to_grant", earliest_chain)?
+            .with("granted_from", earliest)?
+            .with("releases", releases)?
+            .into_value(),
+    )
 }
 
 /// Each piece, in order.

@@ -8,6 +8,7 @@ ghost use Rattle.attribution.specs.VerdictText.{side_text, place_text};
 ghost use Rattle.serde_json.specs.View.{view};
 ghost use Rattle.report_data.specs.Fields.{HasNumber, IsText};
 
+use crate::object::Object;
 use attribution::push_place;
 use binding_rules::Role;
 use claims::{Chain, Ref};
@@ -15,7 +16,7 @@ use client_id::{Duid, Iaid};
 use evidence_report::{Mark, OrderReport};
 use lead_time::Reading;
 use prefix_range::{Prefix, push_prefix};
-use serde_json::{Value, json};
+use serde_json::Value;
 use std::alloc::{AllocError, Global};
 use std::str;
 use text_fields::{push_number, push_octets};
@@ -43,7 +44,12 @@ pub fn time_of(alloc: Global, milliseconds: u64) -> Result<Value, AllocError>
         Err(_) => push_number(&mut text, milliseconds)?,
     }
     let utc = text_of(alloc, &text)?;
-    json!(in alloc; { "ms": milliseconds, "utc": utc })
+    Ok(
+        Object::new(alloc)
+            .with("ms", milliseconds)?
+            .with("utc", utc)?
+            .into_value(),
+    )
 }
 
 /// A side of the pair.
@@ -104,7 +110,12 @@ pub(crate) fn chain_of(alloc: Global, chain: &Chain) -> Result<Value, AllocError
 fn marked_of(alloc: Global, mark: &Mark) -> Result<Value, AllocError> {
     let line = line_of(alloc, mark.at)?;
     let reading = time_of(alloc, mark.reading.milliseconds())?;
-    json!(in alloc; { "line": line, "reading": reading })
+    Ok(
+        Object::new(alloc)
+            .with("line", line)?
+            .with("reading", reading)?
+            .into_value(),
+    )
 }
 
 /// A line with its reading, or null.
@@ -117,7 +128,13 @@ pub(crate) fn mark_of(alloc: Global, mark: &Option<Mark>) -> Result<Value, Alloc
 
 fn chain_order(alloc: Global, chain: &Chain, leads: bool) -> Result<Value, AllocError> {
     let chain = chain_of(alloc, chain)?;
-    json!(in alloc; { "by": "chain", "chain": chain, "leads": leads })
+    Ok(
+        Object::new(alloc)
+            .with("by", "chain")?
+            .with("chain", chain)?
+            .with("leads", leads)?
+            .into_value(),
+    )
 }
 
 fn clock_order(
@@ -131,13 +148,15 @@ fn clock_order(
     let latest = mark_of(alloc, latest)?;
     let after = chain_of(alloc, after)?;
     let earliest = mark_of(alloc, earliest)?;
-    json!(in alloc; {
-        "by": "clocks",
-        "from_first": before,
-        "first_by": latest,
-        "to_second": after,
-        "second_from": earliest
-    })
+    Ok(
+        Object::new(alloc)
+            .with("by", "clocks")?
+            .with("from_first", before)?
+            .with("first_by", latest)?
+            .with("to_second", after)?
+            .with("second_from", earliest)?
+            .into_value(),
+    )
 }
 
 /// Why one line was written before another.

@@ -29,7 +29,8 @@ pub record IsInert (octet : ℕ) : Type 0 where
   pub apostrophe : octet ≢ 39
 
 abbrev pub BeginsWithEntity : List ℕ → Type 0
-BeginsWithEntity text = (which : ℕ) × (name : List ℕ) × (rest : List ℕ) × (slice_get ENTITIES which ≡ Some name) × (text ≡ name ++ rest)
+BeginsWithEntity text =
+    (which : ℕ) × (name : List ℕ) × (rest : List ℕ) × (slice_get ENTITIES which ≡ Some name) × (text ≡ name ++ rest)
 
 -- each ampersand begins a reference
 abbrev pub AmpersandsBegin : List ℕ → Type 0

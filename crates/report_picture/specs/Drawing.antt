@@ -1,5 +1,6 @@
 -- How it is drawn, in SVG.
-use Rattle.std.specs.Prelude.{◌≡◌, ℕ, ◌+◌, ◌-◌, ◌*◌, ◌%◌, nat_lt, if◌then◌else◌, List, [], ◌∷◌, ◌++◌, map, length, codes}
+use Rattle.std.specs.Prelude.{◌≡◌, ℕ, ◌+◌, ◌-◌, ◌*◌, ◌%◌, nat_lt, if◌then◌else◌, List, [], ◌∷◌, ◌++◌, map, length}
+use Rattle.std.specs.Prelude.{codes}
 use Rattle.std.specs.Prelude.{Option, Some, None}
 use Rattle.std.specs.List.{flat_map}
 use Rattle.std.specs.List.Sorted.{IsNonDecreasing, IsPermutation}
@@ -106,7 +107,8 @@ asked_svg axis p =
 
 unfoldable pub back_svg : List ℕ → Picture → List ℕ
 back_svg axis p =
-    style_text style.Head ++ decimal (first_lane p.bars.items + 160) ++ style_text style.BehindHeight ++ asked_svg axis p
+    style_text style.Head ++ decimal (first_lane p.bars.items + 160) ++ style_text style.BehindHeight
+    ++ asked_svg axis p
 
 -- the lines of both sides, and the messages between them
 unfoldable pub lines_svg : List ℕ → (first : ℕ) → Picture → List ℕ

@@ -67,7 +67,8 @@ IsWordText _ (word.Entry line) text = text ≡ entry_text line
 abbrev pub AreWordTexts : Option (Bor ZoneFile) → List Word → List ℕ → Type 0
 AreWordTexts clock [] text = text ≡ []
 AreWordTexts clock (w ∷ words) text =
-    (front : List ℕ) × (rest : List ℕ) × (text ≡ front ++ rest) × IsWordText clock w front × AreWordTexts clock words rest
+    (front : List ℕ) × (rest : List ℕ) × (text ≡ front ++ rest) × IsWordText clock w front
+    × AreWordTexts clock words rest
 
 -- what a word appends
 pub record AddsWord (clock : Option (Bor ZoneFile)) (w : Word) (old new : List ℕ) : Type 0 where

@@ -8,9 +8,13 @@ ghost use Rattle.report_words.specs.declared.word.Word.TheVariants as word;
 use crate::block::{Block, push_paragraph};
 use crate::rulings::{push_of_line, push_of_number};
 use crate::word::Word;
+use attribution::Delegation;
+use binding_rules::Role;
 use claims::Ref;
+use client_id::Duid;
 use evidence_report::{Failure, ForeignFault, PieceFault};
 use lead_time::Reading;
+use prefix_range::Prefix;
 use std::alloc::{AllocError, Global};
 
 /// A piece, and why it is out of place: where it has to begin, and where it begins and ends, if there is one.
@@ -98,7 +102,8 @@ fn push_end_of_piece(
     needed: u64,
     shown: u64,
 ) -> Result<(), AllocError>
-    ensures { OnOk result (Tells (paragraph (word.Number number ∷ piece_values (PieceFault.EndsEarly needed shown)) ∷ [])
+    ensures { OnOk result (Tells (paragraph (word.Number number ∷ piece_values (PieceFault.EndsEarly needed shown)) ∷
+        [])
         out.old.items out.new.items) }
 {
     push_paragraph(
@@ -111,6 +116,52 @@ fn push_end_of_piece(
             Word::Number(needed),
             Word::Prose(", which is later than the reading at its grant and the lifetime, "),
             Word::Number(shown),
+            Word::Prose("."),
+        ],
+    )
+}
+
+/// A piece whose grant is another client's.
+fn push_other_client(
+    alloc: Global,
+    out: &mut Vec<Block>,
+    number: u64,
+    client: Duid,
+) -> Result<(), AllocError>
+    ensures { OnOk result (Tells (paragraph (word.Number number ∷ piece_values (PieceFault.OtherClient client)) ∷ [])
+        out.old.items out.new.items) }
+{
+    push_paragraph(
+        alloc,
+        out,
+        &[
+            Word::Prose("The grant of piece "),
+            Word::Number(number),
+            Word::Prose(" is to another client, "),
+            Word::Client(client),
+            Word::Prose("."),
+        ],
+    )
+}
+
+/// A piece whose grant is of another prefix.
+fn push_other_prefix(
+    alloc: Global,
+    out: &mut Vec<Block>,
+    number: u64,
+    prefix: Prefix,
+) -> Result<(), AllocError>
+    ensures { OnOk result (Tells (paragraph (word.Number number ∷ piece_values (PieceFault.OtherPrefix prefix)) ∷ [])
+        out.old.items out.new.items) }
+{
+    push_paragraph(
+        alloc,
+        out,
+        &[
+            Word::Prose("The grant of piece "),
+            Word::Number(number),
+            Word::Prose(" is of a prefix that doesn't contain the one asked of, "),
+            Word::Prefix(prefix),
             Word::Prose("."),
         ],
     )
@@ -133,28 +184,8 @@ fn push_piece_fault(
             number,
             " names a line that grants nothing.",
         ),
-        PieceFault::OtherClient(client) => push_paragraph(
-            alloc,
-            out,
-            &[
-                Word::Prose("The grant of piece "),
-                Word::Number(number),
-                Word::Prose(" is to another client, "),
-                Word::Client(*client),
-                Word::Prose("."),
-            ],
-        ),
-        PieceFault::OtherPrefix(prefix) => push_paragraph(
-            alloc,
-            out,
-            &[
-                Word::Prose("The grant of piece "),
-                Word::Number(number),
-                Word::Prose(" is of a prefix that doesn't contain the one asked of, "),
-                Word::Prefix(*prefix),
-                Word::Prose("."),
-            ],
-        ),
+        PieceFault::OtherClient(client) => push_other_client(alloc, out, number, *client),
+        PieceFault::OtherPrefix(prefix) => push_other_prefix(alloc, out, number, *prefix),
         PieceFault::NoChainFrom => {
             push_of_piece(
                 alloc,
@@ -214,7 +245,8 @@ fn push_begin_of_line(
     needed: u64,
     shown: u64,
 ) -> Result<(), AllocError>
-    ensures { OnOk result (Tells (paragraph (word.Line at ∷ foreign_values (ForeignFault.BeginsEarly needed shown)) ∷ [])
+    ensures { OnOk result (Tells (paragraph (word.Line at ∷ foreign_values (ForeignFault.BeginsEarly needed shown)) ∷
+        [])
         out.old.items out.new.items) }
 {
     push_paragraph(
@@ -304,93 +336,179 @@ fn push_foreign_fault(
     }
 }
 
+/// An interval without a moment.
+fn push_empty_interval(
+    alloc: Global,
+    out: &mut Vec<Block>,
+    from: Reading,
+    to: Reading,
+) -> Result<(), AllocError>
+    ensures { OnOk result
+        (Tells (paragraph (failure_values (Failure.EmptyInterval from to)) ∷ []) out.old.items out.new.items) }
+{
+    push_paragraph(
+        alloc,
+        out,
+        &[
+            Word::Prose("The interval begins at "),
+            Word::Moment(from.milliseconds()),
+            Word::Prose(" and ends at "),
+            Word::Moment(to.milliseconds()),
+            Word::Prose("."),
+        ],
+    )
+}
+
+/// An interval that ends past what a journal shows.
+fn push_past_end(
+    alloc: Global,
+    out: &mut Vec<Block>,
+    side: Role,
+    needed: u64,
+    closed: Reading,
+) -> Result<(), AllocError>
+    ensures { OnOk result
+        (Tells (paragraph (failure_values (Failure.PastEnd side needed closed)) ∷ []) out.old.items out.new.items) }
+{
+    push_paragraph(
+        alloc,
+        out,
+        &[
+            Word::Prose("The interval's end and the skew come to "),
+            Word::Reading(needed),
+            Word::Prose(", which is later than the clock showed at the close line of journal "),
+            Word::Side(side),
+            Word::Prose(", "),
+            Word::Reading(closed.milliseconds()),
+            Word::Prose("."),
+        ],
+    )
+}
+
+/// An interval that isn't surely behind a server's earlier volumes.
+fn push_before_open(
+    alloc: Global,
+    out: &mut Vec<Block>,
+    side: Role,
+    needed: u64,
+    from: Reading,
+) -> Result<(), AllocError>
+    ensures { OnOk result
+        (Tells (paragraph (failure_values (Failure.BeforeOpen side needed from)) ∷ []) out.old.items out.new.items) }
+{
+    push_paragraph(
+        alloc,
+        out,
+        &[
+            Word::Prose("The answers of the earlier volumes of side "),
+            Word::Side(side),
+            Word::Prose(" had surely reached their clients by "),
+            Word::Moment(needed),
+            Word::Prose(", which is later than the interval's beginning, "),
+            Word::Moment(from.milliseconds()),
+            Word::Prose("."),
+        ],
+    )
+}
+
+/// A piece whose grant isn't shown to have come behind them.
+fn push_piece_before_open(
+    alloc: Global,
+    out: &mut Vec<Block>,
+    number: u64,
+    side: Role,
+) -> Result<(), AllocError>
+    ensures { OnOk result
+        (Tells (paragraph (failure_values (Failure.PieceBeforeOpen number side)) ∷ []) out.old.items out.new.items) }
+{
+    push_paragraph(
+        alloc,
+        out,
+        &[
+            Word::Prose("The grant of piece "),
+            Word::Number(number),
+            Word::Prose(" isn't shown to have come behind the earlier volumes of side "),
+            Word::Side(side),
+            Word::Prose("."),
+        ],
+    )
+}
+
+/// A release that no entry discharges.
+fn push_piece_release(
+    alloc: Global,
+    out: &mut Vec<Block>,
+    number: u64,
+    release: Ref,
+) -> Result<(), AllocError>
+    ensures { OnOk result
+        (Tells (paragraph (failure_values (Failure.PieceRelease number release)) ∷ []) out.old.items out.new.items) }
+{
+    push_paragraph(
+        alloc,
+        out,
+        &[
+            Word::Prose("In piece "),
+            Word::Number(number),
+            Word::Prose(" no clear entry that holds names the release, "),
+            Word::Line(release),
+            Word::Prose("."),
+        ],
+    )
+}
+
+/// Another client's delegation that no entry names.
+fn push_uncovered(
+    alloc: Global,
+    out: &mut Vec<Block>,
+    at: Ref,
+    delegation: &Delegation,
+) -> Result<(), AllocError>
+    ensures { OnOk result
+        (Tells (paragraph (failure_values (Failure.Uncovered at delegation.now)) ∷ []) out.old.items out.new.items) }
+{
+    push_paragraph(
+        alloc,
+        out,
+        &[
+            Word::Prose("Line "),
+            Word::Line(at),
+            Word::Prose(" tells of a delegation to client "),
+            Word::Client(delegation.client),
+            Word::Prose(" of prefix "),
+            Word::Prefix(delegation.prefix),
+            Word::Prose("."),
+        ],
+    )
+}
+
 /// The condition that fails.
 fn push_condition(alloc: Global, out: &mut Vec<Block>, failure: &Failure) -> Result<(), AllocError>
     ensures { OnOk result (Tells (paragraph (failure_values failure.now) ∷ []) out.old.items out.new.items) }
 {
     match failure {
-        Failure::EmptyInterval { from, to } => push_paragraph(
-            alloc,
-            out,
-            &[
-                Word::Prose("The interval begins at "),
-                Word::Moment(from.milliseconds()),
-                Word::Prose(" and ends at "),
-                Word::Moment(to.milliseconds()),
-                Word::Prose("."),
-            ],
-        ),
+        Failure::EmptyInterval { from, to } => push_empty_interval(alloc, out, *from, *to),
         Failure::PastEnd {
             side,
             needed,
             closed,
-        } => push_paragraph(
-            alloc,
-            out,
-            &[
-                Word::Prose("The interval's end and the skew come to "),
-                Word::Reading(*needed),
-                Word::Prose(", which is later than the clock showed at the close line of journal "),
-                Word::Side(*side),
-                Word::Prose(", "),
-                Word::Reading(closed.milliseconds()),
-                Word::Prose("."),
-            ],
-        ),
+        } => push_past_end(alloc, out, *side, *needed, *closed),
         Failure::PieceGap {
             number,
             must,
             piece,
         } => push_gap(alloc, out, *number, *must, piece),
         Failure::PieceGrant { number, fault } => push_piece_fault(alloc, out, *number, fault),
-        Failure::BeforeOpen { side, needed, from } => push_paragraph(
-            alloc,
-            out,
-            &[
-                Word::Prose("The answers of the earlier volumes of side "),
-                Word::Side(*side),
-                Word::Prose(" had surely reached their clients by "),
-                Word::Moment(*needed),
-                Word::Prose(", which is later than the interval's beginning, "),
-                Word::Moment(from.milliseconds()),
-                Word::Prose("."),
-            ],
-        ),
-        Failure::PieceBeforeOpen { number, side } => push_paragraph(
-            alloc,
-            out,
-            &[
-                Word::Prose("The grant of piece "),
-                Word::Number(*number),
-                Word::Prose(" isn't shown to have come behind the earlier volumes of side "),
-                Word::Side(*side),
-                Word::Prose("."),
-            ],
-        ),
-        Failure::PieceRelease { number, release } => push_paragraph(
-            alloc,
-            out,
-            &[
-                Word::Prose("In piece "),
-                Word::Number(*number),
-                Word::Prose(" no clear entry that holds names the release, "),
-                Word::Line(*release),
-                Word::Prose("."),
-            ],
-        ),
-        Failure::Uncovered { at, delegation } => push_paragraph(
-            alloc,
-            out,
-            &[
-                Word::Prose("Line "),
-                Word::Line(*at),
-                Word::Prose(" tells of a delegation to client "),
-                Word::Client(delegation.client),
-                Word::Prose(" of prefix "),
-                Word::Prefix(delegation.prefix),
-                Word::Prose("."),
-            ],
-        ),
+        Failure::BeforeOpen { side, needed, from } => {
+            push_before_open(alloc, out, *side, *needed, *from)
+        }
+        Failure::PieceBeforeOpen { number, side } => {
+            push_piece_before_open(alloc, out, *number, *side)
+        }
+        Failure::PieceRelease { number, release } => {
+            push_piece_release(alloc, out, *number, *release)
+        }
+        Failure::Uncovered { at, delegation } => push_uncovered(alloc, out, *at, delegation),
         Failure::Reason { at, fault } => push_foreign_fault(alloc, out, *at, fault),
     }
 }

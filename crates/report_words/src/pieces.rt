@@ -3,7 +3,8 @@
 ghost use Rattle.std.specs.Prelude.{◌≡◌, ◌+◌, ◌*◌, true, OnOk};
 ghost use Rattle.report_words.specs.Telling.{is_value, less, Tells};
 ghost use Rattle.report_words.specs.Pieces.{heading_told, grant_told, granted_told, begun_told, begun_by};
-ghost use Rattle.report_words.specs.Pieces.{lasts_told, endless_told, lasting_told, lasts_from, releases_told, piece_told};
+ghost use Rattle.report_words.specs.Pieces.{lasts_told, endless_told, lasting_told, lasts_from, releases_told};
+ghost use Rattle.report_words.specs.Pieces.{piece_told};
 
 use crate::block::{Block, push_heading, push_item};
 use crate::chains::push_chain;

@@ -78,6 +78,31 @@ pub(crate) fn push_of_number(
     )
 }
 
+/// A line of a side's text, as it's counted there.
+fn push_counted(
+    alloc: Global,
+    out: &mut Vec<Block>,
+    side: Role,
+    number: u32,
+    behind: &'static str,
+) -> Result<(), AllocError>
+    ensures { OnOk result (Tells (paragraph (word.Line (record { side = side; number = number }) ∷ []) ∷ [])
+        out.old.items out.new.items) }
+{
+    push_of_line(alloc, out, "Line ", Ref { side, number }, behind)
+}
+
+const NO_HEAD: &str = " doesn't begin with the head line of such a journal.";
+
+const NO_END: &str = " doesn't end in a close line and an end line with the count of its lines.";
+
+const NO_LINE: &str = ", counted behind the head line, isn't spelled as a line of a journal.";
+
+const OTHER_NUMBER: &str = ", counted behind the head line, has another number than the next.";
+
+const OTHER_READING: &str =
+    ", counted behind the head line, has a reading below the one before, or over the limit.";
+
 fn push_journal(
     alloc: Global,
     out: &mut Vec<Block>,
@@ -86,61 +111,13 @@ fn push_journal(
 ) -> Result<(), AllocError>
     ensures { OnOk result (Tells (paragraph (journal_values side fault.now) ∷ []) out.old.items out.new.items) }
 {
+    let text = "The text given as journal ";
     match fault {
-        JournalFault::Head => {
-            push_of_side(
-                alloc,
-                out,
-                "The text given as journal ",
-                side,
-                " doesn't begin with the head line of such a journal.",
-            )
-        }
-        JournalFault::Form { line } => {
-            push_of_line(
-                alloc,
-                out,
-                "Line ",
-                Ref {
-                    side,
-                    number: *line,
-                },
-                ", counted behind the head line, isn't spelled as a line of a journal.",
-            )
-        }
-        JournalFault::Number { line } => {
-            push_of_line(
-                alloc,
-                out,
-                "Line ",
-                Ref {
-                    side,
-                    number: *line,
-                },
-                ", counted behind the head line, has another number than the next.",
-            )
-        }
-        JournalFault::Reading { line } => {
-            push_of_line(
-                alloc,
-                out,
-                "Line ",
-                Ref {
-                    side,
-                    number: *line,
-                },
-                ", counted behind the head line, has a reading below the one before, or over the limit.",
-            )
-        }
-        JournalFault::End => {
-            push_of_side(
-                alloc,
-                out,
-                "The text given as journal ",
-                side,
-                " doesn't end in a close line and an end line with the count of its lines.",
-            )
-        }
+        JournalFault::Head => push_of_side(alloc, out, text, side, NO_HEAD),
+        JournalFault::Form { line } => push_counted(alloc, out, side, *line, NO_LINE),
+        JournalFault::Number { line } => push_counted(alloc, out, side, *line, OTHER_NUMBER),
+        JournalFault::Reading { line } => push_counted(alloc, out, side, *line, OTHER_READING),
+        JournalFault::End => push_of_side(alloc, out, text, side, NO_END),
     }
 }
 
@@ -237,6 +214,24 @@ const BEFORE_OPEN: &str =
     "The interval, or the grant of a piece, isn't surely behind the earlier volumes of a server, \
     which these journals don't show.";
 
+const UNSENT: &str = " takes a message that the other journal never sends.";
+
+const DIFFERS: &str =
+    " takes a message that the other journal sends with another term or other words.";
+
+const PAST_END: &str = "The interval ends later than is shown by journal ";
+
+const GAP: &str = " doesn't begin where it must, or has no moment.";
+
+const NOT_CARRIED: &str = " isn't carried by the grant that it names.";
+
+const UNCOVERED: &str =
+    " tells of another client's delegation that touches the prefix, and no entry of the certificate \
+    names it.";
+
+const NO_REASON: &str =
+    " is named by an entry whose reason why it doesn't touch the interval doesn't hold.";
+
 /// What a verdict says.
 fn push_verdict(alloc: Global, out: &mut Vec<Block>, verdict: &Verdict) -> Result<(), AllocError>
     ensures { OnOk result (Tells (paragraph (verdict_values verdict.now) ∷ []) out.old.items out.new.items) }
@@ -246,65 +241,17 @@ fn push_verdict(alloc: Global, out: &mut Vec<Block>, verdict: &Verdict) -> Resul
         Verdict::Journal(side, fault) => push_journal(alloc, out, *side, fault),
         Verdict::Certificate(fault) => push_certificate(alloc, out, fault),
         Verdict::Rule(side, line, rule) => push_rule(alloc, out, *side, *line, *rule),
-        Verdict::Unsent(at) => {
-            push_of_line(
-                alloc,
-                out,
-                "Line ",
-                *at,
-                " takes a message that the other journal never sends.",
-            )
-        }
-        Verdict::Differs(at) => push_of_line(
-            alloc,
-            out,
-            "Line ",
-            *at,
-            " takes a message that the other journal sends with another term or other words.",
-        ),
+        Verdict::Unsent(at) => push_of_line(alloc, out, "Line ", *at, UNSENT),
+        Verdict::Differs(at) => push_of_line(alloc, out, "Line ", *at, DIFFERS),
         Verdict::Circular => push_prose(alloc, out, CIRCULAR),
         Verdict::EmptyInterval => push_prose(alloc, out, EMPTY),
-        Verdict::PastEnd(side) => push_of_side(
-            alloc,
-            out,
-            "The interval ends later than is shown by journal ",
-            *side,
-            ".",
-        ),
-        Verdict::PieceGap(number) => {
-            push_of_number(
-                alloc,
-                out,
-                "Piece ",
-                *number,
-                " doesn't begin where it must, or has no moment.",
-            )
-        }
-        Verdict::PieceGrant(number) => {
-            push_of_number(
-                alloc,
-                out,
-                "Piece ",
-                *number,
-                " isn't carried by the grant that it names.",
-            )
-        }
+        Verdict::PastEnd(side) => push_of_side(alloc, out, PAST_END, *side, "."),
+        Verdict::PieceGap(number) => push_of_number(alloc, out, "Piece ", *number, GAP),
+        Verdict::PieceGrant(number) => push_of_number(alloc, out, "Piece ", *number, NOT_CARRIED),
         Verdict::BeforeOpen => push_prose(alloc, out, BEFORE_OPEN),
         Verdict::PieceRelease(number, release) => push_release(alloc, out, *number, *release),
-        Verdict::Uncovered(at) => push_of_line(
-            alloc,
-            out,
-            "Line ",
-            *at,
-            " tells of another client's delegation that touches the prefix, and no entry of the certificate names it.",
-        ),
-        Verdict::Reason(at) => push_of_line(
-            alloc,
-            out,
-            "Line ",
-            *at,
-            " is named by an entry whose reason why it doesn't touch the interval doesn't hold.",
-        ),
+        Verdict::Uncovered(at) => push_of_line(alloc, out, "Line ", *at, UNCOVERED),
+        Verdict::Reason(at) => push_of_line(alloc, out, "Line ", *at, NO_REASON),
     }
 }
 

@@ -1,8 +1,8 @@
 //! The options that a server hands out beside prefixes (RFC 8415, section 21, RFC 3646 and RFC 4075).
 //!
-//! [`RouterOptions`] are those that a server was given, and [`chosen`] says which of them an answer gets: what its client
-//! asked for, and what goes with its type. A [`ReadyOption`] is one of them as it is written: a code and data. Names of
-//! a search list are [`DomainName`]s, which only a text makes that spells one (RFC 1035).
+//! [`RouterOptions`] are those that a server was given, and [`chosen`] says which of them an answer gets: what its
+//! client asked for, and what goes with its type. A [`ReadyOption`] is one of them as it is written: a code and data.
+//! Names of a search list are [`DomainName`]s, which only a text makes that spells one (RFC 1035).
 //!
 //! ```text
 //! let options = RouterOptions { dns, search, ..RouterOptions::none(alloc) }.ready(alloc)?;

@@ -2,7 +2,8 @@
 
 ghost use Rattle.std.specs.Prelude.{◌≡◌, ◌++◌, ◌∷◌, [], ◌≤◌, ℕ, List, length, IfOk, OnOk, Ok};
 ghost use Rattle.text_fields.specs.Cuts.{split};
-ghost use Rattle.router_options.specs.Names.{is_name_octet, are_name_octets, with_label, labels_on, name_in, IsNameOf, Gives};
+ghost use Rattle.router_options.specs.Names.{is_name_octet, are_name_octets, with_label, labels_on, name_in, IsNameOf};
+ghost use Rattle.router_options.specs.Names.{Gives};
 
 use crate::error::NameError;
 use std::alloc::{AllocError, Global};
@@ -90,8 +91,8 @@ fn name_in(alloc: Global, text: &[u8]) -> Result<Vec<u8>, NameError>
 }
 
 impl DomainName {
-    /// The name that a text spells, its labels between dots and none behind the last: the first fault of its labels from
-    /// the front, then `TooLong`; or `Memory` where a growth was refused.
+    /// The name that a text spells, its labels between dots and none behind the last: the first fault of its labels
+    /// from the front, then `TooLong`; or `Memory` where a growth was refused.
     pub fn of_text(alloc: Global, text: &[u8]) -> Result<DomainName, NameError>
         // What is read is spelled so.
         ensures found { IfOk result (λ n. IsNameOf (split 46 text.now) n) }

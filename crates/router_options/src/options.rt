@@ -3,7 +3,8 @@
 ghost use Rattle.std.specs.Prelude.{◌≡◌, ◌++◌, ◌*◌, ◌+◌, ◌≤◌, ◌∷◌, [], length, IfOk, IfErr, OnOk};
 ghost use Rattle.std.specs.List.{flat_map};
 ghost use Rattle.byteorder.specs.Endian.{big_bytes};
-ghost use Rattle.router_options.specs.Given.{option_of, addresses_octets, names_octets, listed, addresses_option, search_option, number_option, options_of};
+ghost use Rattle.router_options.specs.Given.{option_of, addresses_octets, names_octets, listed, addresses_option};
+ghost use Rattle.router_options.specs.Given.{search_option, number_option, options_of};
 
 use crate::error::OptionsError;
 use crate::name::DomainName;

@@ -1,5 +1,6 @@
 -- What a server that goes on for years runs by, of the members of a TOML document.
-use Rattle.std.specs.Prelude.{◌≡◌, ◌&&◌, ◌/◌, max, ⊤, ℕ, ℤ, pos, negsuc, Bool, true, false, nat_le, List, codes, Option, Some, None}
+use Rattle.std.specs.Prelude.{◌≡◌, ◌&&◌, ◌/◌, max, ⊤, ℕ, ℤ, pos, negsuc, Bool, true, false, nat_le, List, codes, Option}
+use Rattle.std.specs.Prelude.{Some, None}
 use Rattle.std.specs.Prelude.{if◌then◌else◌, IsSome, option_map, ◌⊎◌, ◌≢◌, [], string_bytes}
 use Rattle.toml.specs.Data.{Data, Members, get_member, as_integer, as_bool, as_str}
 use Rattle.text_fields.specs.Parsing.{◌>>=◌}
@@ -10,9 +11,12 @@ use Rattle.server_upkeep.specs.Upkeep.{Limits}
 use Rattle.server_settings.specs.declared.error.OpenError.{OpenError}
 use Rattle.server_settings.specs.declared.error.OpenError.TheVariants.{Overlap, Memory as NoMemory}
 use Rattle.serve_settings.specs.declared.error.ServeSettingsError.{ServeSettingsError}
-use Rattle.serve_settings.specs.declared.error.ServeSettingsError.TheVariants.{Node, Heartbeat, VolumeLines, VolumeHours}
-use Rattle.serve_settings.specs.declared.error.ServeSettingsError.TheVariants.{Alone, NoPartner, PartnerOfAlone, NoLinkKey, LinkKey, RenewFloor}
-use Rattle.serve_settings.specs.declared.error.ServeSettingsError.TheVariants.{IasPerMessage, UnitsPerClient, UnitsPerPort, ClientRate, BindToPort}
+use Rattle.serve_settings.specs.declared.error.ServeSettingsError.TheVariants.{Node, Heartbeat, VolumeLines}
+use Rattle.serve_settings.specs.declared.error.ServeSettingsError.TheVariants.{VolumeHours}
+use Rattle.serve_settings.specs.declared.error.ServeSettingsError.TheVariants.{Alone, NoPartner, PartnerOfAlone}
+use Rattle.serve_settings.specs.declared.error.ServeSettingsError.TheVariants.{NoLinkKey, LinkKey, RenewFloor}
+use Rattle.serve_settings.specs.declared.error.ServeSettingsError.TheVariants.{IasPerMessage, UnitsPerClient}
+use Rattle.serve_settings.specs.declared.error.ServeSettingsError.TheVariants.{UnitsPerPort, ClientRate, BindToPort}
 use Rattle.serve_settings.specs.declared.error.ServeSettingsError.TheVariants.{Manner}
 use Rattle.manner_settings.specs.Keys.{IsMannerFault}
 use Rattle.client_limits.specs.declared.limits.Limits.{Limits as Quotas}

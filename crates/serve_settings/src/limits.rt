@@ -76,7 +76,8 @@ fn alone_in(table: &Table) -> Option<bool>
 /// number within its limits.
 #[tactic(auto, unfolding(crate::specs::Serving::limits_in))]
 pub(crate) fn upkeep_in(table: &Table) -> Result<Upkeep, ServeSettingsError>
-    ensures { MatchResult result (λ u. limits_in (table_view table.now) ≡ Some u) (IsLimitFault (table_view table.now)) }
+    ensures { MatchResult result (λ u. limits_in (table_view table.now)
+        ≡ Some u) (IsLimitFault (table_view table.now)) }
 {
     let heartbeat = limit_at(table, "heartbeat", HEARTBEAT, 31_536_000).ok_or(
         ServeSettingsError::Heartbeat,
@@ -124,8 +125,8 @@ pub(crate) fn renew_floor_in(table: &Table, life: u32) -> Result<u32, ServeSetti
     }
 }
 
-/// Returns whether the server is alone, by a document that names its partner or says that there is none. `Alone` where the
-/// key has no truth value, `NoPartner` where there is neither, `PartnerOfAlone` where there are both.
+/// Returns whether the server is alone, by a document that names its partner or says that there is none. `Alone` where
+/// the key has no truth value, `NoPartner` where there is neither, `PartnerOfAlone` where there are both.
 pub(crate) fn is_alone(table: &Table) -> Result<bool, ServeSettingsError>
     ensures { MatchResult result (λ alone. HasPartnerOrIsAlone (table_view table.now)
         × (alone_in (table_view table.now) ≡ Some alone)) (IsPartnerFault (table_view table.now)) }

@@ -13,7 +13,8 @@ use toml::{Table, Value};
 /// What protects the partners' link from strangers.
 #[derive(Debug, Drop)]
 pub enum LinkProtection {
-    /// A key that both servers have: this file spells it (`link_records`). The path goes from the settings' directory on.
+    /// A key that both servers have: this file spells it (`link_records`). The path goes from the settings' directory
+    /// on.
     KeyFile(String),
     /// Another layer lets nobody but the partner reach the port.
     OtherLayer,
@@ -45,8 +46,8 @@ fn said_by(alloc: Global, word: &str) -> Result<LinkProtection, ServeSettingsErr
     }
 }
 
-/// What protects the link of a server that has a partner. `NoLinkKey` where the document doesn't say it, `LinkKey` where
-/// what is there is no text or an empty one; or a growth was refused.
+/// What protects the link of a server that has a partner. `NoLinkKey` where the document doesn't say it, `LinkKey`
+/// where what is there is no text or an empty one; or a growth was refused.
 pub(crate) fn protection_in(
     alloc: Global,
     table: &Table,

@@ -3,7 +3,8 @@
 ghost use Rattle.std.specs.Prelude.{◌≡◌, Some, None, MatchResult};
 ghost use Rattle.toml.specs.View.{view, table_view};
 ghost use Rattle.text_fields.specs.Parsing.{Finds};
-ghost use Rattle.serve_settings.specs.Serving.{number_of, quota_at, rule_by, port_rule_in, shares_in, quotas_in, IsShareFault, IsQuotaFault};
+ghost use Rattle.serve_settings.specs.Serving.{number_of, quota_at, rule_by, port_rule_in, shares_in, quotas_in};
+ghost use Rattle.serve_settings.specs.Serving.{IsShareFault, IsQuotaFault};
 
 use crate::error::ServeSettingsError;
 use crate::limits::value_at;
@@ -85,7 +86,8 @@ struct Shares {
 /// The shares of a document. `IasPerMessage`, `UnitsPerClient` or `UnitsPerPort`, in this order, where that key has no
 /// number within its limits.
 fn shares_in(table: &Table) -> Result<Shares, ServeSettingsError>
-    ensures { MatchResult result (λ s. shares_in (table_view table.now) ≡ Some s) (IsShareFault (table_view table.now)) }
+    ensures { MatchResult result (λ s. shares_in (table_view table.now)
+        ≡ Some s) (IsShareFault (table_view table.now)) }
 {
     let ias_per_message = quota_at(
         table,
@@ -118,7 +120,8 @@ fn shares_in(table: &Table) -> Result<Shares, ServeSettingsError>
 /// How much clients may take. `IasPerMessage`, `UnitsPerClient`, `UnitsPerPort`, `ClientRate` or `BindToPort`, in this
 /// order, where that key has nothing within its limits.
 pub(crate) fn quotas_in(table: &Table) -> Result<Limits, ServeSettingsError>
-    ensures { MatchResult result (λ l. quotas_in (table_view table.now) ≡ Some l) (IsQuotaFault (table_view table.now)) }
+    ensures { MatchResult result (λ l. quotas_in (table_view table.now)
+        ≡ Some l) (IsQuotaFault (table_view table.now)) }
 {
     let shares = shares_in(table)?;
     let client_rate = quota_at(

@@ -27,22 +27,23 @@ pub struct ServeSettings {
     pub node: NodeSettings,
     /// Where a key isn't there, what [`Upkeep::DEFAULT`] has.
     pub upkeep: Upkeep,
-    /// The age, in seconds, from which on a grant isn't told again: with 0 none is. Where the key isn't there, a tenth of the
-    /// desired lifetime, and 10 at least.
+    /// The age, in seconds, from which on a grant isn't told again: with 0 none is. Where the key isn't there, a tenth
+    /// of the desired lifetime, and 10 at least.
     pub renew_floor: u32,
-    /// How much clients may take. Where a key isn't there, 4 IA_PDs of a message, 8 units of a client, 64 of those behind a
-    /// relay port, 20 messages of a client in a second; an identity association may come from any port.
+    /// How much clients may take. Where a key isn't there, 4 IA_PDs of a message, 8 units of a client, 64 of those
+    /// behind a relay port, 20 messages of a client in a second; an identity association may come from any port.
     pub quotas: Limits,
     /// What protects the link with the partner; none where there is no partner.
     pub protection: Option<LinkProtection>,
-    /// How it answers beside what its book says. Where no key is there, nothing is handed out beside prefixes, an IA_NA is
-    /// passed over, and a server that has a partner says nothing of a REBIND that it has no binding for.
+    /// How it answers beside what its book says. Where no key is there, nothing is handed out beside prefixes, an IA_NA
+    /// is passed over, and a server that has a partner says nothing of a REBIND that it has no binding for.
     pub manner: Manner,
 }
 
 /// What protects the link, where the server has a partner.
 fn protection(alloc: Global, table: &Table) -> Result<Option<LinkProtection>, ServeSettingsError>
-    ensures { MatchResult result (λ p. HasPartnerOrIsAlone (table_view table.now) × IsProtected (table_view table.now) p)
+    ensures { MatchResult result (λ p. HasPartnerOrIsAlone (table_view table.now) × IsProtected (table_view table.now)
+        p)
         (λ e. IsPartnerFault (table_view table.now) e ⊎ IsKeyFault (table_view table.now) e) }
 {
     if is_alone(table)? {
@@ -74,10 +75,11 @@ fn table_of(alloc: Global, text: &[u8]) -> Result<Table, OpenError>
 }
 
 impl ServeSettings {
-    /// The settings that a TOML document names: those of a node, `link_key` where there is a `link`, and the others, which
-    /// may each be left out. `Node` where no node runs by it, or a growth was refused; else `Alone`, `NoPartner` or `PartnerOfAlone`; else `NoLinkKey` or `LinkKey`; else `Heartbeat`,
-    /// `VolumeLines` or `VolumeHours`; else `RenewFloor`; else `IasPerMessage`, `UnitsPerClient`, `UnitsPerPort`,
-    /// `ClientRate` or `BindToPort`; else `Manner`.
+    /// The settings that a TOML document names: those of a node, `link_key` where there is a `link`, and the others,
+    /// which may each be left out. `Node` where no node runs by it, or a growth was refused; else `Alone`, `NoPartner`
+    /// or `PartnerOfAlone`; else `NoLinkKey` or `LinkKey`; else `Heartbeat`, `VolumeLines` or `VolumeHours`; else
+    /// `RenewFloor`; else `IasPerMessage`, `UnitsPerClient`, `UnitsPerPort`, `ClientRate` or `BindToPort`; else
+    /// `Manner`.
     pub fn read(alloc: Global, text: &[u8]) -> Result<ServeSettings, ServeSettingsError>
         ensures served { IfOk result (λ s. (members : Members) × IsDocument text.now members
             × IsServed members s.node.server s.upkeep s.renew_floor s.quotas s.protection

@@ -235,8 +235,8 @@ pub fn answer_of(
     })
 }
 
-/// The message of the server `own` that answers a request for options alone in its manner. It refuses for want of memory
-/// alone.
+/// The message of the server `own` that answers a request for options alone in its manner. It refuses for want of
+/// memory alone.
 pub fn information_answer(
     alloc: Global,
     request: InformationRequest,

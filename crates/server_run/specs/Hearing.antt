@@ -20,7 +20,8 @@ use Rattle.client_service.specs.declared.silence.Silence.TheVariants.{Memory}
 use Rattle.client_service.specs.declared.partner.Partner.{Partner}
 use Rattle.client_service.specs.declared.partner.Partner.TheVariants.{Up, Down}
 use Rattle.server_run.specs.declared.heard.Heard.{Heard}
-use Rattle.server_run.specs.declared.heard.Heard.TheVariants.{Answered, Unanswered, Informed, Uninformed, TooMany, Unread}
+use Rattle.server_run.specs.declared.heard.Heard.TheVariants.{Answered, Unanswered, Informed, Uninformed, TooMany}
+use Rattle.server_run.specs.declared.heard.Heard.TheVariants.{Unread}
 use Rattle.server_run.specs.declared.leaving.HeldAnswer.{HeldAnswer}
 use Rattle.server_run.specs.Live.{LiveState}
 use Rattle.standing_lease.specs.declared.terms.RenewTerms.{RenewTerms}
@@ -48,8 +49,8 @@ IsUnanswered Lets own manner m read old new why =
 abbrev pub HandsOut : Manner → Type 0
 HandsOut manner = has_options manner.options ≡ true
 
--- why a datagram is no message: as one about prefixes, or as a request for options alone, where its type isn't one of the
--- former
+-- why a datagram is no message: as one about prefixes, or as a request for options alone, where its type isn't one of
+-- the former
 abbrev pub IsUnread : (own : List ℕ) → Manner → (datagram : List ℕ) → PdError → Type 0
 IsUnread own manner datagram e =
     Gives (λ (m : ClientMessage). m) (Err e) (message_of own datagram)
@@ -83,8 +84,8 @@ abbrev pub IsHeard : {P : Type 0} → (Journal → ℕ → ClientMessage → Lis
 IsHeard {P} Lets own manner t peer datagram read old new was held (Answered kind) =
     (m : ClientMessage) × (permits : List Permit) × (a : AnswerTo P) × Brings own datagram m
     × Lets old.served.journal read m permits × (kind ≡ m.kind) × (a.peer ≡ peer)
-    × Tells (partner_of old.served.journal) t own manner m permits read (receipts_in old.served) (receipts_in new.served)
-    a.octets a.line
+    × Tells (partner_of old.served.journal) t own manner m permits read (receipts_in old.served)
+    (receipts_in new.served) a.octets a.line
     × (held ≡ was ++ record { answer = a; read = read } ∷ [])
 IsHeard Lets own manner t peer datagram read old new was held (Unanswered why) =
     (m : ClientMessage) × Brings own datagram m × IsUnanswered Lets own manner m read old new why × (held ≡ was)

@@ -10,8 +10,8 @@ use Rattle.server_run.specs.Live.{LiveState}
 use Rattle.server_run.specs.Owing.{IsOwed}
 use Rattle.server_run.specs.Saying.{IsTalkBacked}
 
--- its own identifier, by what it tells grants again, the calls that were made to its folder, its open volume, the answers that are held back, and the
--- talk of the connection with its partner
+-- its own identifier, by what it tells grants again, the calls that were made to its folder, its open volume, the
+-- answers that are held back, and the talk of the connection with its partner
 pub record RunState (P : Type 0) : Type 0 where
   pub own : List ℕ
   pub terms : RenewTerms
@@ -20,8 +20,8 @@ pub record RunState (P : Type 0) : Type 0 where
   pub held : List (HeldAnswer P)
   pub talk : Option TalkState
 
--- All names are on the disk. Each answer that is held back tells what the book's receipts say, and each frame of the talk
--- is backed by them.
+-- All names are on the disk. Each answer that is held back tells what the book's receipts say, and each frame of the
+-- talk is backed by them.
 pub record IsRunning {P : Type 0} (s : RunState P) : Type 0 where
   pub names : AreSettled s.names
   pub owed : AllByRecursion (λ (h : HeldAnswer P). IsOwed s.own s.terms (receipts_in s.volume.served) h.answer) s.held

@@ -17,8 +17,8 @@ use server_settings::Settings;
 use torn_disk::Device;
 use volume_folder::Folder;
 
-/// The serial up to which these receipts don't say what was sent: 0 where they say all. The first message that one sends
-/// follows on it, or the base line of a volume tells it.
+/// The serial up to which these receipts don't say what was sent: 0 where they say all. The first message that one
+/// sends follows on it, or the base line of a volume tells it.
 fn sent_before(receipts: &[Receipt]) -> u64
     ensures { result ≡ sent_before receipts.now }
 {
@@ -102,8 +102,9 @@ where
         }
     }
 
-    /// Returns whether its receipts say all that was sent above a serial. A partner that took no more than one below can't
-    /// be told all again: of older volumes it had said before that it took them, or they weren't read at the start.
+    /// Returns whether its receipts say all that was sent above a serial. A partner that took no more than one below
+    /// can't be told all again: of older volumes it had said before that it took them, or they weren't read at the
+    /// start.
     pub fn has_all_above(&self, last: Counter) -> bool
         ensures { IsTrue result ↔ (sent_before (receipts_in self.now.volume.served) ≤ last) }
     {

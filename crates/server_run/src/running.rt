@@ -137,8 +137,9 @@ where
     }
 
     /// Hears a datagram that came from a peer at a reading. Where it is a client's message to this server, its orders,
-    /// of a RELEASE one for each prefix, are done, those that the admission lets be, or it is told again what it has; the answer is held back until the
-    /// next `settle`. Where it is a request for options alone, and the server's manner has some, so is the answer to that.
+    /// of a RELEASE one for each prefix, are done, those that the admission lets be, or it is told again what it has;
+    /// the answer is held back until the next `settle`. Where it is a request for options alone, and the server's
+    /// manner has some, so is the answer to that.
     pub fn hear<A: Admission>(
         &mut self,
         admission: &mut A,
@@ -187,8 +188,8 @@ where
         }
     }
 
-    /// Hears a datagram that is no message about prefixes, for this error: a request for options alone is answered where
-    /// the server's manner has some.
+    /// Hears a datagram that is no message about prefixes, for this error: a request for options alone is answered
+    /// where the server's manner has some.
     fn inform(
         &mut self,
         manner: &Manner,
@@ -198,7 +199,8 @@ where
         error: PdError,
     ) -> Heard
         requires { Gives (λ (m : MessageValue). m) (Err error) (message_of self.old.own datagram.now) }
-        ensures informed { IsInformed self.old.own manner.now peer datagram.now read self.old.held self.new.held result }
+        ensures informed { IsInformed self.old.own manner.now peer datagram.now read self.old.held self.new.held
+            result }
         ensures rest { self.new ≡ record self.old { held = self.new.held } }
     {
         if error != PdError::Fault(PdFault::Ignored) || !manner.has_options() {
@@ -246,7 +248,8 @@ where
         ensures answers { IfOk result (λ s. (s.leaving.answers.items ≡ self.held) × (s.running.held ≡ [])) }
         // All that leaves is what these receipts say, and those that aren't older are of the lines that are on the
         // disk.
-        ensures owed { IfOk result (λ s. AllByRecursion (λ h. IsOwed self.own self.terms (receipts_in self.volume.served) h.answer)
+        ensures owed { IfOk result (λ s. AllByRecursion (λ h. IsOwed self.own self.terms (receipts_in
+            self.volume.served) h.answer)
             s.leaving.answers.items) }
         ensures said { IfOk result (λ s. AreBacked (receipts_in self.volume.served) s.leaving.frames.items) }
         ensures frames { IfOk result (λ s. s.leaving.frames.items ≡ handed_of self.talk) }

@@ -1,5 +1,5 @@
 -- What a running server owes its partner and its journal.
-use Rattle.std.specs.Prelude.{◌≡◌, ◌⊎◌, ℕ, ◌+◌, ◌-◌, ◌*◌, ◌^◌, ◌≤◌, max, Option, Some, None}
+use Rattle.std.specs.Prelude.{◌≡◌, ◌⊎◌, ℕ, ◌+◌, ◌-◌, ◌*◌, ◌^◌, ◌<◌, ◌≤◌, max, Option, Some, None}
 use Rattle.server_upkeep.specs.declared.owed.Bar.{Bar}
 use Rattle.server_upkeep.specs.declared.owed.Bar.TheVariants.{PartnerDown, UnitMarked}
 use Rattle.server_upkeep.specs.declared.owed.Roll.{Roll}
@@ -55,6 +55,11 @@ IsRoom g now Enough = (IsFull g → ⊥) × (IsFullWithinHour g now → ⊥)
 -- the volume was begun so many hours ago
 abbrev pub HasItsHours : Limits → Growth → (now : ℕ) → Type 0
 HasItsHours l g now = g.opened + 3600000 * l.volume_hours ≤ now
+
+-- a volume ends before the seventh renewal of a lease, each of which comes at half of its lifetime (RFC 8415, section
+-- 21.21: T1)
+abbrev pub IsShortFor : Limits → (life : ℕ) → Type 0
+IsShortFor l life = 2 * 3600 * l.volume_hours < 7 * life
 
 -- the server was told to, the volume has its lines or its hours, or it is full
 abbrev pub IsRollDue : Limits → Growth → (now : ℕ) → Told → Type 0

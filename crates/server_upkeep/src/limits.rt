@@ -2,11 +2,15 @@
 
 ghost use Rattle.std.specs.Prelude.{◌≡◌, ◌↔◌, IsTrue, IfSome, IsNone};
 ghost use Rattle.server_upkeep.specs.Upkeep.{AreLimits, IsContactDue, HasItsHours, IsRollDue, IsRoll, IsRoom};
+ghost use Rattle.server_upkeep.specs.Upkeep.{IsShortFor};
 
 use crate::growth::{Growth, HOUR};
 use crate::owed::{Bar, Owed, Roll, Room, Told};
 use lead_time::Reading;
 use std::marker::Model;
+
+/// The seconds of an hour.
+const HOUR_SECONDS: u64 = 3600;
 
 /// When a running server owes a contact or a roll. Contracts see the record of specs/Upkeep.
 #[derive(Clone, Copy, Debug, PartialEq, Eq)]
@@ -67,6 +71,14 @@ impl Upkeep {
             volume_lines,
             volume_hours,
         })
+    }
+
+    /// Returns whether a volume holds fewer than seven renewals of leases of so many seconds, each of which comes at
+    /// half of that (RFC 8415, section 21.21: T1). Most evidence of a lease is in the volume in which it was granted.
+    pub fn is_short_for(&self, life: u32) -> bool
+        ensures { IsTrue result ↔ IsShortFor self.now life }
+    {
+        2 * HOUR_SECONDS * u64::from(self.volume_hours) < 7 * u64::from(life)
     }
 
     /// Returns whether nothing was written for so long.

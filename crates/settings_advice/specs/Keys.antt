@@ -2,9 +2,12 @@
 use Rattle.std.specs.Prelude.{ℕ, List, codes}
 use Rattle.settings_advice.specs.declared.key.Key.{Key}
 use Rattle.settings_advice.specs.declared.key.Key.TheVariants.{Role, Duid, SkewMs, Mclt, Life, TransitMs, Listen, Link}
-use Rattle.settings_advice.specs.declared.key.Key.TheVariants.{IasPerMessage, UnitsPerClient, UnitsPerPort, ClientRate, BindToPort}
-use Rattle.settings_advice.specs.declared.key.Key.TheVariants.{LinkKey, Workers, Heartbeat, VolumeLines, VolumeHours, RenewFloor, Alone}
-use Rattle.settings_advice.specs.declared.key.Key.TheVariants.{Dns, Search, Sntp, InformationRefresh, Preference, Unicast}
+use Rattle.settings_advice.specs.declared.key.Key.TheVariants.{IasPerMessage, UnitsPerClient, UnitsPerPort, ClientRate}
+use Rattle.settings_advice.specs.declared.key.Key.TheVariants.{BindToPort}
+use Rattle.settings_advice.specs.declared.key.Key.TheVariants.{LinkKey, Workers, Heartbeat, VolumeLines, VolumeHours}
+use Rattle.settings_advice.specs.declared.key.Key.TheVariants.{RenewFloor, Alone}
+use Rattle.settings_advice.specs.declared.key.Key.TheVariants.{Dns, Search, Sntp, InformationRefresh, Preference}
+use Rattle.settings_advice.specs.declared.key.Key.TheVariants.{Unicast}
 use Rattle.settings_advice.specs.declared.key.Key.TheVariants.{RebindUnknown, IaNa, Pool, Prefix, Unit}
 
 abbrev pub key_name : Key → List ℕ

@@ -24,8 +24,8 @@ end_of t granted valid = granted + 1000 * valid + 2 * t.skew + t.transit
 abbrev pub remaining : RenewTerms → (granted valid now : ℕ) → ℕ
 remaining t granted valid now = (end_of t granted valid - (now + 4 * t.skew + 2 * t.transit)) / 1000
 
--- A grant may be told again for so many seconds: it is younger than the floor, that much remains of it, and no less than
--- half of what would be granted anew.
+-- A grant may be told again for so many seconds: it is younger than the floor, that much remains of it, and no less
+-- than half of what would be granted anew.
 pub record MayTellAgain (t : RenewTerms) (granted valid now anew told : ℕ) : Type 0 where
   pub young : now - granted < 1000 * t.floor
   pub remains : told ≡ remaining t granted valid now
@@ -52,8 +52,8 @@ IsTheirs j lease =
 
 -- ---- what stands
 
--- Of a lease that would be granted at this reading: the client has the prefix, by a line of the journal that may be told
--- again for these seconds.
+-- Of a lease that would be granted at this reading: the client has the prefix, by a line of the journal that may be
+-- told again for these seconds.
 pub record StandsFor (j : Journal) (t : RenewTerms) (now : ℕ) (lease : Lease) (s : Standing) : Type 0 where
   pub granted : ℕ
   pub valid : ℕ

@@ -35,8 +35,8 @@ fn granted_by(line: &Line, lease: &Lease) -> Option<Granted>
     }
 }
 
-/// A line at this reading, in milliseconds, by which a lease's client has its prefix. The lines' readings don't fall, so
-/// that a search finds it.
+/// A line at this reading, in milliseconds, by which a lease's client has its prefix. The lines' readings don't fall,
+/// so that a search finds it.
 pub(crate) fn granted_at(lines: &[Line], milliseconds: u64, lease: &Lease) -> Option<Granted>
     ensures { IfSome result (λ g. IsGranted lines.now lease.now g.number g.reading g.valid) }
 {

@@ -63,3 +63,14 @@ listed_anew m n holder w is others h =
 pub no_items : (ps : List Prefix) → length ps ≡ 0 → ps ≡ []
 no_items [] e = refl
 no_items (p ∷ ps) e = absurd (omega arith)
+
+-- what is the same at the octets themselves is the same at all
+pub listed_again : (m n : BTreeMap (Vec ℕ Global) (Vec Prefix Global)) (holder : List ℕ) (w : Option (Vec Prefix Global))
+    → get_by (at_octets holder) n ≡ w
+    → KeepsOthers (eq_by_cmp by_items) (is_at (at_octets holder)) m.entries n.entries
+    → listed w ≡ units_in m holder → (h : List ℕ) → units_in n h ≡ units_in m h
+listed_again m n holder w is others same h =
+    listed_anew m n holder w is others h ∙ by_test (bytes_eq holder h) refl where
+      by_test : (t : Bool) → bytes_eq holder h ≡ t → (if t then listed w else units_in m h) ≡ units_in m h
+      by_test true e = subst (λ (o : List ℕ). listed w ≡ units_in m o) ((bytes_eq-Decides holder h).0 e) same
+      by_test false e = refl

@@ -1,9 +1,9 @@
 //! Who has which units.
 
-ghost use Rattle.std.specs.Prelude.{◌≡◌, ℕ, List, [], None, option_map, OnOk, IfErr, ◌⊎◌};
+ghost use Rattle.std.specs.Prelude.{◌≡◌, ◌++◌, ◌∷◌, ℕ, List, [], None, option_map, OnOk, IfErr, ◌⊎◌};
 ghost use Rattle.unit_holders.specs.Holders.{holder_of, units_of, IsGiven, IsForgotten, IsAdded, IsListed, IsAsItWas};
 
-use crate::listing::{with, without};
+use crate::listing::without;
 use prefix_range::Prefix;
 use std::alloc::{AllocError, Global};
 use std::collections::BTreeMap;
@@ -79,17 +79,33 @@ impl Holders {
         Ok(())
     }
 
+    /// Appends a unit to the list of a holder.
+    fn append(&mut self, holder: &[u8], unit: Prefix) -> Result<(), AllocError>
+        ensures listed { OnOk result
+            (IsListed self.old self.new holder.now (units_of self.old holder.now ++ unit ∷ [])) }
+        ensures refused { IfErr result (λ _. IsAsItWas self.old self.new) }
+    {
+        match self.units.get_mut(holder) {
+            Some(units) => match units.push(unit) {
+                Ok(()) => Ok(()),
+                Err(error) => Err(error.into()),
+            },
+            None => {
+                let units = vec![in self.alloc; unit]?;
+                self.list(holder.to_vec(self.alloc)?, units)
+            }
+        }
+    }
+
     /// Gives a unit, which nobody is known to have, to a holder.
     fn add(&mut self, unit: Prefix, holder: &[u8]) -> Result<(), AllocError>
         requires { holder_of self.old unit.address ≡ None }
         ensures added { OnOk result (IsAdded self.old self.new unit holder.now) }
         ensures refused { IfErr result (λ _. IsAsItWas self.old self.new) }
     {
-        let units = with(self.alloc, self.units(holder), unit)?;
         let name = holder.to_vec(self.alloc)?;
-        self.holders
-            .insert(unit.first(), holder.to_vec(self.alloc)?)?;
-        match self.list(name, units) {
+        self.holders.insert(unit.first(), name)?;
+        match self.append(holder, unit) {
             Ok(()) => Ok(()),
             Err(error) => {
                 self.holders.remove(&unit.first());

@@ -1,6 +1,6 @@
-//! Lists of units, with one more or one less.
+//! Lists of units, with one less.
 
-ghost use Rattle.std.specs.Prelude.{◌≡◌, ◌++◌, ◌∷◌, [], IfOk};
+ghost use Rattle.std.specs.Prelude.{◌≡◌, IfOk};
 ghost use Rattle.unit_holders.specs.Holders.{without};
 
 use prefix_range::Prefix;
@@ -21,13 +21,4 @@ pub(crate) fn without(
         }
     }
     Ok(rest)
-}
-
-/// The units, and this one behind them.
-pub(crate) fn with(alloc: Global, units: &[Prefix], unit: Prefix) -> Result<Vec<Prefix>, AllocError>
-    ensures { IfOk result (λ all. all.items ≡ units.now ++ unit ∷ []) }
-{
-    let mut all = units.to_vec(alloc)?;
-    all.extend_from_slice(&[unit])?;
-    Ok(all)
 }

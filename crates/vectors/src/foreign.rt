@@ -30,7 +30,8 @@ pub const BEGAN_LATE_CHANGES: &[Change] = &[
 /// A lease of a wider prefix on the other side.
 pub const OF_A_WIDER_PREFIX: &[Change] = &[(
     "3 3700000 close\nend 3",
-    "3 10000 grant 00030001020000000002 00000001 2001:0db8:0000:0000:0000:0000:0000:0000/48 3600\n4 3700000 close\nend 4",
+    "3 10000 grant 00030001020000000002 00000001 2001:0db8:0000:0000:0000:0000:0000:0000/48 3600\n4 3700000 close\n\
+    end 4",
     "refused C9 Uncovered B3\n",
 )];
 

@@ -1,7 +1,7 @@
 //! Moments in the local time of a zone.
 //!
-//! A [`ZoneFile`] is what a zone's file says (TZif, RFC 9636), from its octets; [`push_local`] writes a moment as a clock
-//! of that zone shows it, with its offset (RFC 3339, section 5.6). specs/Local says what is written.
+//! A [`ZoneFile`] is what a zone's file says (TZif, RFC 9636), from its octets; [`push_local`] writes a moment as a
+//! clock of that zone shows it, with its offset (RFC 3339, section 5.6). specs/Local says what is written.
 //!
 //! ```text
 //! let zone = ZoneFile::read(alloc, &octets)?;

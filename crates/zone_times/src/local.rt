@@ -9,7 +9,8 @@ use lead_time::Reading;
 use std::alloc::{AllocError, Global};
 use time_text::push_time;
 
-/// What a clock at this offset shows, as if it were one in UTC. `None` where that is before 1970 or past the last reading.
+/// What a clock at this offset shows, as if it were one in UTC. `None` where that is before 1970 or past the last
+/// reading.
 fn shown_at(moment: Reading, seconds: i32) -> Option<Reading>
     ensures { IfSome result (λ shown. pos shown ≡ pos moment +ℤ (pos 1000 *ℤ seconds)) }
 {
@@ -99,8 +100,8 @@ fn push_shown(
     push_offset(out, seconds)
 }
 
-/// Appends a moment as a clock of the zone shows it, with its offset: in UTC, where the offset isn't of whole minutes or
-/// the clock shows a time before 1970 or behind the year 9999.
+/// Appends a moment as a clock of the zone shows it, with its offset: in UTC, where the offset isn't of whole minutes
+/// or the clock shows a time before 1970 or behind the year 9999.
 #[tactic(auto, using(crate::proofs::Locals::local))]
 pub fn push_local(
     out: &mut Vec<u8>,

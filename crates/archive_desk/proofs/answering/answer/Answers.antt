@@ -1,6 +1,8 @@
-use Rattle.std.proofs.Common.{◌∙◌, ◌++◌, ap, subst, refl}
+use Rattle.std.proofs.Common.{◌∙◌, ◌++◌, ap, subst, refl, List}
 use Rattle.archive_files.specs.declared.ties.Agreement.{Agreement}
 use Rattle.archive_files.specs.Ties.{AreTied}
+use Rattle.archive_files.specs.declared.cataloguing.PassedOver.{PassedOver}
+use Rattle.archive_desk.specs.Unread.{AllRead}
 use Rattle.archive_desk.proofs.answering.answer.Goals as goal
 
 pub returns : goal.returns
@@ -10,10 +12,12 @@ returns g c = record {
   tied = subst (λ (a : Agreement). AreTied (g.F.JournalFiles.had c.args.files.now) a
       c.in_ok-catalogue.catalogue.archive.primary c.in_ok-catalogue.catalogue.archive.secondary)
       c.agreement_of.ensures c.in_ok-catalogue.ensures.tied;
+  read = subst (λ (ps : List PassedOver). AllRead c.args.names.now ps) c.deref.ensures.value
+      c.in_ok-expect_read.ensures.read;
   answer = c.in_ok-told.told;
   is_answer = c.in_ok-told.ensures;
   text = refl;
   status = refl;
   passed = c.in_ok-notes.notes.items;
-  notes = c.in_ok-extend_from_slice.ensures.items ∙ ap (λ n. c.in_ok-notes.notes.items ++ n) c.deref-2.ensures.value;
+  notes = c.in_ok-extend_from_slice.ensures.items ∙ ap (λ n. c.in_ok-notes.notes.items ++ n) c.deref-3.ensures.value;
 }

@@ -1,0 +1,4 @@
+pub mod Choosing
+pub mod Joined
+pub mod Text
+pub mod Telling

@@ -1,0 +1,211 @@
+//! What is told of volumes that are put together.
+
+ghost use Rattle.std.specs.Prelude.{◌≡◌, ◌++◌, codes, take, IfOk, OnOk};
+ghost use Rattle.archive_desk.specs.Failing.{file_word, IsRefusal};
+ghost use Rattle.join_desk.specs.Telling.{file_words, taken_line, lack_front, no_volume_words, missing_words};
+ghost use Rattle.join_desk.specs.Telling.{no_volume_line};
+ghost use Rattle.join_desk.specs.Telling.{missing_line, number_word};
+ghost use Rattle.join_desk.specs.Telling.{refusal_words, refusal_line, IsNoneTold, IsLackTold, IsOutcomeTold};
+
+use crate::outcome::{Outcome, Refusal};
+use crate::text::text_of;
+use archive_desk::{Told, name_of};
+use binding_rules::Role;
+use journal_archive::Filed;
+use std::alloc::{AllocError, Global};
+use std::path::PathBuf;
+use text_fields::push_number;
+
+/// Appends a blank and the name of a file.
+fn push_file(out: &mut Vec<u8>, names: &[PathBuf], file: usize) -> Result<(), AllocError>
+    ensures { OnOk result (out.new.items ≡ out.old.items ++ file_word names.now file) }
+{
+    out.push(b' ')?;
+    out.extend_from_slice(name_of(names, file).as_bytes())?;
+    Ok(())
+}
+
+/// Appends a blank and a number.
+fn push_word(out: &mut Vec<u8>, number: u64) -> Result<(), AllocError>
+    ensures { OnOk result (out.new.items ≡ out.old.items ++ number_word number) }
+{
+    out.push(b' ')?;
+    push_number(out, number)
+}
+
+/// Appends the names of the volumes' files, each behind a blank.
+fn push_files(out: &mut Vec<u8>, names: &[PathBuf], taken: &[Filed]) -> Result<(), AllocError>
+    ensures { OnOk result (out.new.items ≡ out.old.items ++ file_words names.now taken.now) }
+{
+    for volume in taken {
+        push_file(out, names, volume.file)?;
+    }
+    Ok(())
+}
+
+/// Appends the line that says of which files the journal is.
+fn push_taken(out: &mut Vec<u8>, names: &[PathBuf], taken: &[Filed]) -> Result<(), AllocError>
+    ensures { OnOk result (out.new.items ≡ out.old.items ++ taken_line names.now taken.now) }
+{
+    out.extend_from_slice(b"journals")?;
+    push_files(out, names, taken)?;
+    out.push(b'\n')?;
+    Ok(())
+}
+
+fn lack_front(side: Role) -> &'static [u8]
+    ensures { result.now ≡ lack_front side }
+{
+    match side {
+        Role::Primary => b"lacking A ",
+        Role::Secondary => b"lacking B ",
+    }
+}
+
+/// That a side has no volume, behind its name.
+fn no_volume_words() -> &'static [u8]
+    ensures { result.now ≡ no_volume_words }
+{
+    b"NoVolume: no file is a journal of this side\n"
+}
+
+/// That the volume of a number is missing, before that number.
+fn missing_words() -> &'static [u8]
+    ensures { result.now ≡ missing_words }
+{
+    b"Missing: no file has volume "
+}
+
+/// Appends that the side has no volume.
+fn push_no_volume(out: &mut Vec<u8>, side: Role) -> Result<(), AllocError>
+    ensures { OnOk result (out.new.items ≡ out.old.items ++ no_volume_line side) }
+{
+    out.extend_from_slice(lack_front(side))?;
+    out.extend_from_slice(no_volume_words())?;
+    Ok(())
+}
+
+/// Appends that the volume of this number is missing.
+fn push_missing(out: &mut Vec<u8>, side: Role, number: u32) -> Result<(), AllocError>
+    ensures { OnOk result (out.new.items ≡ out.old.items ++ missing_line side number) }
+{
+    out.extend_from_slice(lack_front(side))?;
+    out.extend_from_slice(missing_words())?;
+    push_number(out, u64::from(number))?;
+    out.push(b'\n')?;
+    Ok(())
+}
+
+/// Appends why the volumes of files aren't one journal.
+fn push_refusal(out: &mut Vec<u8>, names: &[PathBuf], refusal: &Refusal) -> Result<(), AllocError>
+    ensures { OnOk result (out.new.items ≡ out.old.items ++ refusal_words names.now refusal.now) }
+{
+    match refusal {
+        Refusal::NotClosed { file } => {
+            out.extend_from_slice(b"refused V5 NotClosed")?;
+            push_file(out, names, *file)
+        }
+        Refusal::Rule { file, line, rule } => {
+            out.extend_from_slice(b"refused V6 Rule")?;
+            push_file(out, names, *file)?;
+            push_word(out, u64::from(*line))?;
+            push_word(out, u64::from(rule.number()))
+        }
+        Refusal::Head { file, line } => {
+            out.extend_from_slice(b"refused V7 Head")?;
+            push_file(out, names, *file)?;
+            push_word(out, *line as u64)
+        }
+        Refusal::TooLong { file } => {
+            out.extend_from_slice(b"refused V8 TooLong")?;
+            push_file(out, names, *file)
+        }
+    }
+}
+
+/// What is told where nothing can be given, with these notes.
+fn none_told(alloc: Global, notes: Vec<u8>) -> Result<Told, AllocError>
+    ensures { IfOk result (IsNoneTold notes.items) }
+{
+    let mut text = Vec::new(alloc);
+    text.extend_from_slice(b"none\n")?;
+    Ok(Told {
+        text,
+        status: 1,
+        notes,
+    })
+}
+
+/// What is told where the side has no volume.
+pub(crate) fn no_volume_told(alloc: Global, passed: Vec<u8>, side: Role) -> Result<Told, AllocError>
+    ensures { IfOk result (IsLackTold passed.items (no_volume_line side)) }
+{
+    let mut notes = passed;
+    push_no_volume(&mut notes, side)?;
+    none_told(alloc, notes)
+}
+
+/// What is told where the volume of this number is missing.
+pub(crate) fn missing_told(
+    alloc: Global,
+    passed: Vec<u8>,
+    side: Role,
+    number: u32,
+) -> Result<Told, AllocError>
+    ensures { IfOk result (IsLackTold passed.items (missing_line side number)) }
+{
+    let mut notes = passed;
+    push_missing(&mut notes, side, number)?;
+    none_told(alloc, notes)
+}
+
+/// What is told where volumes aren't one journal: standard output says why, and nothing else is said.
+fn refusal_told(alloc: Global, names: &[PathBuf], refusal: &Refusal) -> Result<Told, AllocError>
+    ensures { IfOk result (IsRefusal (refusal_line names.now refusal.now)) }
+{
+    let mut text = Vec::new(alloc);
+    push_refusal(&mut text, names, refusal)?;
+    text.push(b'\n')?;
+    Ok(Told {
+        text,
+        status: 1,
+        notes: Vec::new(alloc),
+    })
+}
+
+/// The first so many volumes, or all where there are fewer.
+#[tactic(auto, using(crate::proofs::Rows::take_whole))]
+fn first_of(chosen: &[Filed], count: usize) -> &[Filed]
+    ensures { result.now ≡ take count chosen.now }
+{
+    if count < chosen.len() {
+        &chosen[..count]
+    } else {
+        chosen
+    }
+}
+
+/// What is told of what comes of chosen volumes, behind the files that are passed over.
+pub(crate) fn outcome_told(
+    alloc: Global,
+    names: &[PathBuf],
+    passed: Vec<u8>,
+    chosen: &[Filed],
+    outcome: &Outcome,
+) -> Result<Told, AllocError>
+    ensures { IfOk result (IsOutcomeTold names.now passed.items chosen.now outcome.now) }
+{
+    match outcome {
+        Outcome::Joined(journal, count) => {
+            let text = text_of(alloc, journal)?;
+            let mut notes = passed;
+            push_taken(&mut notes, names, first_of(chosen, *count))?;
+            Ok(Told {
+                text,
+                status: 0,
+                notes,
+            })
+        }
+        Outcome::Refused(refusal) => refusal_told(alloc, names, refusal),
+    }
+}

@@ -1,0 +1,11 @@
+pub mod Places
+pub mod Lines
+pub mod Thinning
+pub mod Holders
+pub mod Kept
+pub mod Legal
+pub mod OneSide
+pub mod Closed
+pub mod SoFar
+pub mod PutTogether
+pub mod Verdicts

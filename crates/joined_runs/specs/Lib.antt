@@ -1,0 +1,4 @@
+pub mod Volumes
+pub mod Left
+pub mod Laws
+pub mod PutTogether

@@ -1,0 +1,1 @@
+"""The programs with each call that reaches the system refused in turn: what is refused, and the stories that are lived meanwhile."""
