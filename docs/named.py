@@ -4,7 +4,13 @@ import re
 from closure import ROOT
 
 PROOFS = ROOT / "docs/proofs"
+FOLDERS = ("must-fail", "further")
 SAYS = re.compile(r"(?:write_str|write!)\(\s*(?:f, *)?\"([^\"{]*)")
+
+
+def is_edit(crate, name):
+    """Whether a crate has a wrong body: one that the gate tries, or one that is tried when the crate changes."""
+    return any((ROOT / "crates" / crate / folder / f"{name}.edit").is_file() for folder in FOLDERS)
 
 
 def wrong_bodies():
@@ -14,8 +20,33 @@ def wrong_bodies():
             crate = None
             for path, name in re.findall(r"`(\w+/)?(\w+)`", row.rpartition(" | ")[2] if row.startswith("| ") else ""):
                 crate = path or crate
-                if crate and not (ROOT / "crates" / crate / "must-fail" / f"{name}.edit").is_file():
+                if crate and not is_edit(crate, name):
                     yield f"{page.name}: there is no edit {crate}{name}"
+
+
+def lost_text(edit):
+    """The first text of a wrong body that doesn't stand once in its file, or None."""
+    text, old = "", ""
+    for line in edit.read_text().splitlines():
+        kind, _, rest = line.partition(":")
+        rest = rest.removeprefix(" ")
+        if kind == "file":
+            text = (edit.parent.parent / rest).read_text()
+        elif kind == "old":
+            old = rest
+            if text.count(old) != 1:
+                return old
+        elif kind == "new":
+            text = text.replace(old, rest)
+    return None
+
+
+def stale_edits():
+    """A sentence for each wrong body that changes nothing any more."""
+    for folder in FOLDERS:
+        for edit in sorted((ROOT / "crates").glob(f"*/{folder}/*.edit")):
+            if (lost := lost_text(edit)) is not None:
+                yield f"{edit.relative_to(ROOT)}: in its file doesn't stand once: {lost}"
 
 
 def crates():
@@ -36,4 +67,4 @@ def notices():
 
 
 def faults():
-    return [*wrong_bodies(), *crates(), *notices()]
+    return [*wrong_bodies(), *stale_edits(), *crates(), *notices()]
