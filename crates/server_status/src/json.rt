@@ -6,7 +6,7 @@ use crate::traffic::Traffic;
 use crate::units::UnitCounts;
 use crate::writing::{role_name, roll_name, room_name};
 use lead_time::Reading;
-use serde_json::{Map, Value, json, put};
+use serde_json::{Map, ToValue, Value, json, put};
 use std::alloc::{AllocError, Global};
 
 /// A reading, or null.
@@ -59,28 +59,85 @@ fn syncs_of(alloc: Global, syncs: &Option<SyncSummary>) -> Result<Value, AllocEr
     }
 }
 
+/// Puts a value at a name of an object.
+fn add<V: ToValue>(
+    alloc: Global,
+    object: &mut Map<String, Value>,
+    name: &str,
+    value: V,
+) -> Result<(), AllocError> {
+    let value = value.to_value(alloc)?;
+    put(object, alloc, name, value)
+}
+
+/// Puts what the server is, and what its clock shows.
+fn add_server(
+    alloc: Global,
+    object: &mut Map<String, Value>,
+    status: &Status,
+) -> Result<(), AllocError> {
+    add(alloc, object, "role", role_name(status.role))?;
+    add(alloc, object, "reading_ms", status.reading.milliseconds())?;
+    add(alloc, object, "clock", status.clock.name())?;
+    add(alloc, object, "ahead_ms", status.ahead())
+}
+
+/// Puts how many units there are of each kind, and how many changes the partner lacks.
+fn add_units(
+    alloc: Global,
+    object: &mut Map<String, Value>,
+    units: &UnitCounts,
+) -> Result<(), AllocError> {
+    let counts = counts_of(alloc, &units.named())?;
+    add(alloc, object, "units", counts)?;
+    add(alloc, object, "due", units.due)?;
+    add(alloc, object, "marked", units.marked)
+}
+
+/// Puts how many messages were heard, refused and answered.
+fn add_messages(
+    alloc: Global,
+    object: &mut Map<String, Value>,
+    traffic: &Traffic,
+) -> Result<(), AllocError> {
+    let messages = counts_of(alloc, &traffic.messages.named())?;
+    add(alloc, object, "messages", messages)?;
+    let refused = counts_of(alloc, &traffic.faults.named())?;
+    add(alloc, object, "refused", refused)?;
+    let answers = counts_of(alloc, &traffic.answers.named())?;
+    add(alloc, object, "answers", answers)
+}
+
+/// Puts how many messages were left without an answer, or wait for it.
+fn add_unanswered(
+    alloc: Global,
+    object: &mut Map<String, Value>,
+    traffic: &Traffic,
+) -> Result<(), AllocError> {
+    add(alloc, object, "unanswered", traffic.unanswered)?;
+    add(alloc, object, "late", traffic.late)?;
+    add(alloc, object, "held", traffic.held)
+}
+
+/// A status as an object.
+fn object_of(alloc: Global, status: &Status) -> Result<Map<String, Value>, AllocError> {
+    let mut object = Map::new(alloc);
+    add_server(alloc, &mut object, status)?;
+    let volume = volume_of(alloc, &status.volume)?;
+    add(alloc, &mut object, "volume", volume)?;
+    let partner = partner_of(alloc, status)?;
+    add(alloc, &mut object, "partner", partner)?;
+    add_units(alloc, &mut object, &status.units)?;
+    add_messages(alloc, &mut object, &status.traffic)?;
+    add_unanswered(alloc, &mut object, &status.traffic)?;
+    let syncs = syncs_of(alloc, &status.syncs)?;
+    add(alloc, &mut object, "syncs", syncs)?;
+    Ok(object)
+}
+
 /// Writes JSON: one object, and a line feed. `AllocError` where a growth was refused.
 pub(crate) fn json_of(alloc: Global, status: &Status) -> Result<String, AllocError> {
-    let (units, traffic) = (&status.units, &status.traffic);
-    let value = json!(in alloc; {
-        "role": role_name(status.role),
-        "reading_ms": status.reading.milliseconds(),
-        "clock": status.clock.name(),
-        "ahead_ms": status.ahead(),
-        "volume": volume_of(alloc, &status.volume)?,
-        "partner": partner_of(alloc, status)?,
-        "units": counts_of(alloc, &units.named())?,
-        "due": units.due,
-        "marked": units.marked,
-        "messages": counts_of(alloc, &traffic.messages.named())?,
-        "refused": counts_of(alloc, &traffic.faults.named())?,
-        "answers": counts_of(alloc, &traffic.answers.named())?,
-        "unanswered": traffic.unanswered,
-        "late": traffic.late,
-        "held": traffic.held,
-        "syncs": syncs_of(alloc, &status.syncs)?
-    })?;
-    let mut text = value.to_string(alloc)?;
+    let mut text = Value::Object(object_of(alloc, status)?).to_string(alloc)?;
     text.push('\n')?;
     Ok(text)
 }
