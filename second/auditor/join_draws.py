@@ -352,13 +352,14 @@ def desk_says(desk, words):
 
 
 def compared(said, same):
-    """What is compared: of standard error the files that are passed over, in any order, without why, and faults of a file without why; a file
-    and its copy are one."""
+    """What is compared: of standard error the files that are passed over, in any order, without why, and faults of a file or of the words
+    without why; a file and its copy are one."""
     written, warned, status = said
     if status == 0 and not warned:
         return said
     for copy, name in same.items():
         written, warned = (text.replace(f"./{copy}", f"./{name}").replace(f" {copy}", f" {name}") for text in (written, warned))
+    warned = "fault Usage\n" if warned.startswith("fault Usage\n") else warned
     rows = [row.partition(": ")[0] if row.startswith(("passed over ", "fault Journal ")) else row for row in warned.splitlines()]
     over = sorted(row for row in rows if row.startswith("passed over "))
     return written, [*over, *[row for row in rows if not row.startswith("passed over ")]], status

@@ -223,20 +223,24 @@ impl Limiter {
         Ok(())
     }
 
-    /// Notes by which port the unit of a record's line was given.
-    fn enter_record(&mut self, book: &Book, record: AccessRecord) -> Result<(), AllocError> {
+    /// Notes by which port the unit of a record's line was given: by none where the record names none.
+    fn enter_record(&mut self, book: &Book, record: &AccessRecord) -> Result<(), AllocError> {
         let Some(index) = record.number.checked_sub(1) else {
             return Ok(());
         };
-        let (Some(line), Some(port)) = (book.journal().get(index as usize), record.port) else {
+        let Some(line) = book.journal().get(index as usize) else {
             return Ok(());
         };
-        match given_by(&line.event) {
-            Some((_, unit)) => match name_by(self.alloc, &port)? {
-                Some(name) => give_to(&mut self.ports, unit, &name),
-                None => Ok(()),
-            },
-            None => Ok(()),
+        let Some((_, unit)) = given_by(&line.event) else {
+            return Ok(());
+        };
+        let name = match &record.port {
+            Some(port) => name_by(self.alloc, port)?,
+            None => None,
+        };
+        match name {
+            Some(name) => give_to(&mut self.ports, unit, &name),
+            None => self.ports.forget(&unit),
         }
     }
 
@@ -244,7 +248,7 @@ impl Limiter {
     pub fn restore(&mut self, book: &Book, records: Vec<AccessRecord>) -> Result<(), AllocError> {
         self.look_through(book)?;
         for record in records {
-            self.enter_record(book, record)?;
+            self.enter_record(book, &record)?;
         }
         Ok(())
     }

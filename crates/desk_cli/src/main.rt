@@ -10,7 +10,7 @@ mod writing;
 mod zones;
 
 use attribution_desk::{Order, Request, Source, UsageError, order_of};
-use desk_words::AnswerForm;
+use desk_words::{AnswerForm, advice_of};
 use fault::Fault;
 use over_files::{FilesAsked, octets_of};
 use std::net::Net;
@@ -83,9 +83,13 @@ fn answered_files(
     }
 }
 
-fn answered(rt: &HostRuntime, handles: &(impl Threads + Wait + Net + Sync)) -> Result<u8, Fault> {
-    let words = words_given(rt).map_err(Fault::Usage)?;
-    let order = order_of(rt.alloc(), &words).map_err(Fault::Usage)?;
+/// Answers what the words order.
+fn answered(
+    rt: &HostRuntime,
+    handles: &(impl Threads + Wait + Net + Sync),
+    words: &[String],
+) -> Result<u8, Fault> {
+    let order = order_of(rt.alloc(), words).map_err(Fault::Usage)?;
     match &order.source {
         Source::Input => answered_input(rt, handles, &order.request),
         Source::Journals(paths) => {
@@ -106,11 +110,28 @@ fn answered(rt: &HostRuntime, handles: &(impl Threads + Wait + Net + Sync)) -> R
     }
 }
 
+/// Says on standard error why there is no answer; of words that order nothing, what would do too.
+fn tell(rt: &HostRuntime, words: &[String], fault: &Fault) {
+    let _ = eprintln!(rt; "{fault}");
+    if let Fault::Usage(UsageError::Usage) = fault {
+        if let Ok(advice) = advice_of(rt.alloc(), words) {
+            let _ = eprintln!(rt; "{advice}");
+        }
+    }
+}
+
 fn main(rt: HostRuntime) -> ExitCode {
-    match answered(&rt, &rt) {
-        Ok(status) => ExitCode::from(status),
+    let words = match words_given(&rt) {
+        Ok(words) => words,
         Err(fault) => {
             let _ = eprintln!(rt; "{fault}");
+            return ExitCode::from(2);
+        }
+    };
+    match answered(&rt, &rt, &words) {
+        Ok(status) => ExitCode::from(status),
+        Err(fault) => {
+            tell(&rt, &words, &fault);
             ExitCode::from(2)
         }
     }

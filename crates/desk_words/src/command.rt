@@ -86,7 +86,7 @@ pub(crate) fn transit_given(options: &ArgMatches) -> Option<Transit>
 }
 
 /// Returns how many workers, 1 to 64.
-fn workers_given(options: &ArgMatches) -> Option<Workers>
+pub(crate) fn workers_given(options: &ArgMatches) -> Option<Workers>
     ensures given { IfSome result (IsWorkers (first_of (codes "workers") (rows_of (found_of options.now)))) }
     ensures none { result ≡ None
         → (workers : ℕ) → IsWorkers (first_of (codes "workers") (rows_of (found_of options.now))) workers → ⊥ }
@@ -106,7 +106,7 @@ fn holder_in(text: &str) -> Option<Duid>
 }
 
 /// The client, in hexadecimal digits.
-fn holder_given(options: &ArgMatches) -> Option<Duid>
+pub(crate) fn holder_given(options: &ArgMatches) -> Option<Duid>
     ensures given { IfSome result (IsHolder (first_of (codes "holder") (rows_of (found_of options.now)))) }
     ensures none { result ≡ None
         → (holder : List ℕ) → IsHolder (first_of (codes "holder") (rows_of (found_of options.now))) holder → ⊥ }
@@ -125,7 +125,7 @@ pub(crate) fn prefix_in(text: &str) -> Option<Prefix>
 }
 
 /// The prefix.
-fn prefix_given(options: &ArgMatches) -> Option<Prefix>
+pub(crate) fn prefix_given(options: &ArgMatches) -> Option<Prefix>
     ensures given { IfSome result (IsPrefixText (first_of (codes "prefix") (rows_of (found_of options.now)))) }
     ensures none { result ≡ None
         → (p : PrefixValue) → IsPrefixText (first_of (codes "prefix") (rows_of (found_of options.now))) p → ⊥ }
@@ -134,7 +134,7 @@ fn prefix_given(options: &ArgMatches) -> Option<Prefix>
 }
 
 /// A moment, in milliseconds of true time.
-fn moment_given(options: &ArgMatches, name: &str) -> Option<Reading>
+pub(crate) fn moment_given(options: &ArgMatches, name: &str) -> Option<Reading>
     ensures given { IfSome result (IsMoment (first_of name.now (rows_of (found_of options.now)))) }
     ensures none { result ≡ None
         → (moment : ℕ) → IsMoment (first_of name.now (rows_of (found_of options.now))) moment → ⊥ }

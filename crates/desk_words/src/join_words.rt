@@ -38,7 +38,7 @@ fn side_in(text: &str) -> Option<Role>
 }
 
 /// The side, `A` or `B`.
-fn side_given(options: &ArgMatches) -> Option<Role>
+pub(crate) fn side_given(options: &ArgMatches) -> Option<Role>
     ensures given { IfSome result (IsSide (first_of (codes "side") (rows_of (found_of options.now)))) }
     ensures none { result ≡ None
         → (side : RoleValue) → IsSide (first_of (codes "side") (rows_of (found_of options.now))) side → ⊥ }
@@ -58,7 +58,7 @@ fn volume_in(text: &str) -> Option<u32>
 }
 
 /// The number of a volume, or none where it isn't named. `None` where it is no volume's.
-fn volume_given(options: &ArgMatches, name: &str) -> Option<Option<u32>>
+pub(crate) fn volume_given(options: &ArgMatches, name: &str) -> Option<Option<u32>>
     ensures given { IfSome result (IsVolumeOrNone (first_of name.now (rows_of (found_of options.now)))) }
     ensures none { result ≡ None
         → (n : Option ℕ) → IsVolumeOrNone (first_of name.now (rows_of (found_of options.now))) n → ⊥ }

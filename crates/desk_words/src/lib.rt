@@ -9,6 +9,7 @@
 //! ```
 #![tactic(auto)]
 
+mod advice;
 mod arguments;
 mod command;
 mod error;
@@ -20,8 +21,10 @@ mod settings;
 mod sources;
 mod subcommands;
 mod who_words;
+mod wishes;
 mod workers;
 
+pub use advice::advice_of;
 pub use command::Command;
 pub use error::UsageError;
 pub use join_words::JoinQuery;

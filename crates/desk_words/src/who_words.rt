@@ -64,7 +64,7 @@ fn when_in(text: &str) -> Option<Reading>
     read_time(text.as_bytes())
 }
 
-fn block_given(alloc: Global, options: &ArgMatches) -> Result<Prefix, UsageError>
+pub(crate) fn block_given(alloc: Global, options: &ArgMatches) -> Result<Prefix, UsageError>
     ensures given { IfOk result (IsBlockText (first_of (codes "prefix") (rows_of (found_of options.now)))) }
     ensures none { IsErrOf result UsageError.Usage
         → (p : PrefixValue) → IsBlockText (first_of (codes "prefix") (rows_of (found_of options.now))) p → ⊥ }
@@ -75,7 +75,7 @@ fn block_given(alloc: Global, options: &ArgMatches) -> Result<Prefix, UsageError
     block_in(alloc, text)
 }
 
-fn when_given(options: &ArgMatches) -> Option<Reading>
+pub(crate) fn when_given(options: &ArgMatches) -> Option<Reading>
     ensures given { IfSome result (IsWhen (first_of (codes "at") (rows_of (found_of options.now)))) }
     ensures none { result ≡ None
         → (m : ℕ) → IsWhen (first_of (codes "at") (rows_of (found_of options.now))) m → ⊥ }

@@ -17,7 +17,7 @@ use asking::ask;
 use fault::Fault;
 use node_run::{Run, run_node};
 use node_threads::NodeSettings;
-use node_words::{Command, Once, WordsError, command_of};
+use node_words::{Command, Once, WordsError, advice_of, command_of};
 use server_book::OpenError;
 use serving::serve_directory;
 use std::alloc::Global;
@@ -167,24 +167,41 @@ where
 fn answered<R: Threads + Wait + Sync + Files + Net + RandomSource + Clock>(
     rt: &HostRuntime,
     handles: &R,
+    words: &[String],
 ) -> Result<u8, Fault>
 where
     R::Stream: Send + Drop,
     R::Listener: Send + Drop,
 {
-    let words = words_given(rt)?;
-    match command_of(rt.alloc(), &words)? {
+    match command_of(rt.alloc(), words)? {
         Command::Once(command) => done_once(rt, handles, command),
         Command::Serve(served) => serve_directory(rt, handles, &served),
         Command::Ask { directory, request } => { ask(rt, handles, directory.as_str(), &request) }
     }
 }
 
+/// Says on standard error why there is no answer; of words that are no command, what would do too.
+fn tell(rt: &HostRuntime, words: &[String], fault: &Fault) {
+    let _ = eprintln!(rt; "{fault}");
+    if let Fault::Words(WordsError::Usage) = fault {
+        if let Ok(advice) = advice_of(rt.alloc(), words) {
+            let _ = eprintln!(rt; "{advice}");
+        }
+    }
+}
+
 fn main(rt: HostRuntime) -> ExitCode {
-    match answered(&rt, &rt) {
-        Ok(status) => ExitCode::from(status),
+    let words = match words_given(&rt) {
+        Ok(words) => words,
         Err(fault) => {
             let _ = eprintln!(rt; "{fault}");
+            return ExitCode::from(2);
+        }
+    };
+    match answered(&rt, &rt, &words) {
+        Ok(status) => ExitCode::from(status),
+        Err(fault) => {
+            tell(&rt, &words, &fault);
             ExitCode::from(2)
         }
     }

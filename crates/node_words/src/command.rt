@@ -107,7 +107,7 @@ fn partner_down_command<'a>(alloc: Global) -> Result<ClapCommand<'a>, AllocError
 }
 
 /// The commands that take their settings on standard input, and those about a directory.
-fn node_command<'a>(alloc: Global) -> Result<ClapCommand<'a>, AllocError> {
+pub(crate) fn node_command<'a>(alloc: Global) -> Result<ClapCommand<'a>, AllocError> {
     let run = run_command(alloc)?;
     let serve = serve_command(alloc)?;
     let status = status_command(alloc)?;
@@ -129,7 +129,7 @@ fn node_command<'a>(alloc: Global) -> Result<ClapCommand<'a>, AllocError> {
 }
 
 /// Returns how many datagrams, 1 to 1,000,000, written as numbers are in a journal.
-fn count_given(options: &ArgMatches) -> Option<u32> {
+pub(crate) fn count_given(options: &ArgMatches) -> Option<u32> {
     let number = number_of(options.get_str("count")?.as_bytes())?;
     let count = u32::try_from(number).ok()?;
     if count == 0 || count > MOST_DATAGRAMS {

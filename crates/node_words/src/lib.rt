@@ -8,8 +8,10 @@
 //! ```
 #![tactic(auto)]
 
+mod advice;
 mod command;
 mod error;
 
+pub use advice::advice_of;
 pub use command::{Command, Once, Served, command_of};
 pub use error::WordsError;
