@@ -1,0 +1,246 @@
+"""Lives of the daemon whose answers hang on its clock: behind each datagram the lines that it left are looked at.
+
+The clock is the daemon's own. A line shows its reading; a message that leaves none was served at some reading between
+its sending and its answer, and whatever any of these gives is taken.
+"""
+
+import random
+from dataclasses import replace
+
+from . import again, answers, journal, matching, messages, rolling
+from .life_draws import (bounds_of, drawn_ages, drawn_ahead, drawn_floor, drawn_life, drawn_times, half_of_units,
+                         write_past)
+from .limits import Limits
+from .manner import settings_rows
+from .manner_draws import drawn_manner
+from .program import Daemon, Difference, now, settings_line
+
+
+class Tail:
+    """A file that is written: the whole rows that stand behind those that were read."""
+
+    def __init__(self, path, skipped=0):
+        self.path = path
+        self.place = 0
+        for _ in range(skipped):
+            self.rows()
+
+    def rows(self):
+        with open(self.path, "rb") as file:
+            file.seek(self.place)
+            octets = file.read()
+        whole = octets[:octets.rfind(b"\n") + 1]
+        self.place += len(whole)
+        return whole.decode().split("\n")[:-1]
+
+
+class Exchange:
+    """A datagram, its answer (None where there was none), the moments round it, and the lines that it left."""
+
+    def __init__(self, octets, answer, before, after, lines):
+        self.octets = octets
+        self.answer = answer
+        self.before = before
+        self.after = after
+        self.lines = lines
+
+    def __str__(self):
+        answer = "nothing" if self.answer is None else self.answer.hex()
+        lines = "".join(f"\n    {journal.line_text(line)}" for line in self.lines)
+        return f"  {self.before} {self.octets.hex()}\n  {self.after} {answer}{lines}"
+
+
+class Life:
+    """One life: each datagram goes to the daemon, and what became of it is held against the book."""
+
+    def __init__(self, daemon, draws, book, limits, tally, manner):
+        self.daemon = daemon
+        self.draws = draws
+        self.book = book
+        self.told = limits
+        self.limits = limits.in_force(book.life)
+        self.tally = tally
+        self.manner = manner
+        self.own = daemon.settings.own
+        self.exchanges = []
+        self.tail = Tail(daemon.volume)
+        self.ask()
+        self.look_at_opening(self.tail.rows())
+
+    def look_at_opening(self, rows):
+        """The volume has the lines that it goes on with, or an opening of the daemon's own reading."""
+        lines = [journal.spelled_line_of(row) for row in rows[1:]]
+        if self.daemon.past:
+            opened = self.book
+            if self.daemon.has_link:
+                opened.add(lines[-1].reading, ("restart", 1))
+        else:
+            opened = matching.opened(self.daemon.settings, lines)
+            self.draws.book = self.book = opened
+        if rows != journal.write_open(opened.role, opened.lines).splitlines():
+            self.fault("the volume doesn't begin as awaited")
+        if not self.daemon.past and not self.daemon.began <= lines[0].reading <= now():
+            self.fault("the opening isn't of this life")
+
+    def fault(self, words):
+        told = (settings_line(self.daemon.settings), *settings_rows(self.manner), *self.told.rows())
+        rows = [journal.line_text(line) for line in self.book.lines[-40:]]
+        last = [str(exchange) for exchange in self.exchanges[-3:]]
+        raise Difference("\n".join((*told, f"after {len(self.exchanges)} datagrams:", *rows, *last, words)))
+
+    def sentinel(self):
+        """A message that is always answered and changes nothing, and its answer: a stranger gives back what it
+        hasn't."""
+        transaction = self.draws.transaction()
+        client = b"sentinel" + transaction
+        octets = bytes([messages.RELEASE]) + transaction + messages.option(messages.CLIENT_IDENTIFIER, client)
+        octets += messages.option(messages.SERVER_IDENTIFIER, self.own) + messages.option(messages.IA_PD, bytes(12))
+        message = messages.decode(octets, self.own)
+        return octets, answers.octets_of(self.own, message, [answers.NO_BINDING], self.manner)
+
+    def receive(self, last):
+        """The answers that come before the last, and when the first of all came."""
+        found = []
+        came = None
+        while True:
+            octets = self.daemon.receive()
+            came = came or now()
+            if octets is None:
+                self.fault("no answer to a sentinel")
+            if octets == last:
+                return found, came
+            found.append(octets)
+
+    def ask(self, *datagrams):
+        """Sends datagrams and a sentinel, behind whose answer all lines that are due are on the disk."""
+        sentinel, last = self.sentinel()
+        for octets in (*datagrams, sentinel):
+            self.daemon.send(octets)
+        return self.receive(last)
+
+    def exchange(self, octets):
+        before = now()
+        found, came = self.ask(octets)
+        lines = [journal.spelled_line_of(row) for row in self.tail.rows()]
+        exchange = Exchange(octets, found[0] if found else None, before, came, lines)
+        self.exchanges.append(exchange)
+        if len(found) > 1:
+            self.fault(f"{len(found)} answers to one datagram")
+        return exchange
+
+    def readings(self, exchange):
+        """The readings at which a message can have been served."""
+        last = self.book.lines[-1].reading
+        if not exchange.lines:
+            return range(exchange.before, exchange.after + 1)
+        reading = exchange.lines[0].reading
+        if reading > last:
+            if not exchange.before <= reading <= exchange.after:
+                self.fault("a line's reading isn't of its message")
+            return range(reading, reading + 1)
+        return range(exchange.before, min(exchange.after, reading) + 1)
+
+    def put(self, octets, name):
+        """Sends one datagram, and judges what became of it."""
+        exchange = self.exchange(octets)
+        self.tally[name + ", by the clock"] += 1
+        self.tally["answered"] += exchange.answer is not None
+        try:
+            message = messages.decode(octets, self.own, self.manner.informs)
+        except messages.Refused as refusal:
+            self.expect(exchange, None, refusal.name)
+            return
+        self.judge(exchange, message)
+
+    def told_again(self, message, reading):
+        """The answer that tells again what the client has; None where the message is ordered."""
+        at = self.book.reading_after(reading)
+        parts = again.all_told_again(self.book, self.limits.renew_floor, message, at)
+        return None if parts is None else answers.octets_of(self.own, message, parts, self.manner)
+
+    def judge(self, exchange, message):
+        found = [self.told_again(message, at) for at in self.readings(exchange)]
+        if not exchange.lines and exchange.answer in [self.small(answer) for answer in found if answer is not None]:
+            self.tally["messages told again"] += 1
+            return
+        if None not in found:
+            self.fault(f"awaited what remains: {found[-1].hex()}")
+        at = self.readings(exchange)[found.index(None)]
+        count = len(self.book.lines)
+        answer = answers.serve(self.book, self.own, message, at, self.manner)
+        self.expect(exchange, self.small(answer), "its orders", self.book.lines[count:])
+
+    def small(self, answer):
+        """The answer, None where it is too large for the path."""
+        return None if answer is not None and len(answer) > self.draws.largest else answer
+
+    def expect(self, exchange, answer, why, lines=()):
+        if exchange.answer != answer:
+            self.fault(f"({why}): awaited {'nothing' if answer is None else answer.hex()}")
+        if exchange.lines != list(lines):
+            self.fault(f"({why}): awaited {[journal.line_text(line) for line in lines]}")
+
+    def roll(self):
+        """Has the daemon begin its next volume, which has to say what this one left."""
+        before = now()
+        self.daemon.told("roll")
+        self.closed(before)
+        lines = [journal.spelled_line_of(row) for row in self.next_volume()]
+        following = rolling.follow(self.book, lines)
+        if isinstance(following, str):
+            self.fault(following)
+        if not self.book.lines[-1].reading <= lines[0].reading == lines[-1].reading <= max(now(), lines[0].reading):
+            self.fault("the next volume's head isn't of this moment")
+        self.draws.book = self.book = following
+        self.tally["rolls"] += 1
+
+    def next_volume(self):
+        self.daemon.follow()
+        self.tail = Tail(self.daemon.volume)
+        head, *rows = self.tail.rows()
+        if head != f"pd-journal 2 {self.book.role} {self.book.volume + 1}":
+            self.fault(f"the next volume is {head}")
+        return rows
+
+    def closed(self, before):
+        """The volume has a close line and the end behind what was looked at."""
+        rows = self.tail.rows()
+        closing = journal.spelled_line_of(rows[0])
+        if closing.event != ("close",) or rows[1:] != [f"end {closing.number}"]:
+            self.fault(f"the volume ends with {rows}")
+        last = self.book.lines[-1].reading
+        if not max(last, before) <= closing.reading <= max(last, now()):
+            self.fault(f"the volume is closed at {closing.reading}")
+        self.book.append(closing)
+        self.tally["journal lines"] += len(self.book.lines)
+
+    def run(self, count):
+        rolls = self.draws.pick(6, [], 3, [count // 2], 1, [count // 3, count // 3 + 1, count // 2])
+        for place in range(count):
+            for _ in range(rolls.count(place)):
+                self.roll()
+            self.put(*self.draws.datagram())
+        before = now()
+        self.daemon.journal()
+        self.daemon.silent()
+        self.closed(before)
+
+
+def serve_floor_once(program, seed, count, tally):
+    """One life of a server that tells again what it gave not long ago."""
+    source = random.Random(seed)
+    settings = drawn_times(source)
+    told = Limits(renew_floor=drawn_floor(source, settings))
+    floor = told.in_force(settings.life).renew_floor
+    manner = replace(drawn_manner(source), releases_each=True)
+    begun, ahead = now(), drawn_ahead(source, settings)
+    ages = drawn_ages(source, settings, floor, source.choice((0, 3, 20, 60)), ahead)
+    readings = [begun - age for age in ages[-half_of_units(settings):]]
+    host, book, draws = drawn_life(source, settings, readings[0] if readings else begun)
+    write_past(source, book, draws, readings)
+    draws.await_bounds(bounds_of(settings, floor))
+    has_link = source.random() < 0.1
+    past = list(book.lines) if readings else []
+    with Daemon(program, settings, manner, host, has_link, past, told) as daemon:
+        Life(daemon, draws, book, told, tally, manner).run(count)
+    tally["lives by the clock"] += 1
