@@ -36,9 +36,11 @@ def told_without_line(book, floor, order, reading):
     return ("given", unit.prefix, left) if 2 * left >= valid else None
 
 
-def all_told_again(book, floor, message, reading):
-    """The answers to a message all of which is told again; None where a line is due for one of its IA_PDs."""
+def all_told_again(book, floor, message, reading, denied=()):
+    """The answers to a message all of which is told again; None where a line is due for one of its IA_PDs. `denied` are
+    the places of those that may not be ordered."""
     if message.kind not in KINDS or book.waiting or not message.associations:
         return None
-    found = [told_without_line(book, floor, order, reading) for order in answers.orders_of(message)]
+    found = [answers.NO_PREFIX if place in denied else told_without_line(book, floor, order, reading)
+             for place, order in enumerate(answers.orders_of(message))]
     return None if None in found else found

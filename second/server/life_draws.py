@@ -3,6 +3,7 @@
 from .book import Book
 from .draws import LARGEST_BY_IPV4, LARGEST_BY_IPV6, Draws
 from .life_ports import behind, drawn_ports
+from .limits import Limits
 from .messages import (CLIENT_IDENTIFIER, IA_PD, IA_PREFIX, INFORMATION_REQUEST, REBIND, RELEASE, RENEW, REQUEST,
                        SERVER_IDENTIFIER, SOLICIT, option)
 from .program import now
@@ -15,18 +16,22 @@ OWN = bytes.fromhex("00030001020000000009")
 WAITS = (40, 400)
 NEAR = 2
 FAULTS = 0.03
+# A port, and then where its client may move to: the link, relays that don't tell, and other ports.
+FIXED_PORTS = ((bytes(16), b"one port", None), None, (bytes(16), None, None), (b"elsewhere" + bytes(7), None, None),
+               (bytes(16), None, b""), (bytes(16), b"one port", b""))
 
 
 class LifeDraws(Draws):
     """Datagrams of few clients behind few relay ports, most of which the server reads."""
 
-    def __init__(self, random, own, book, largest, ports):
-        super().__init__(random, own, book, largest, random.choice((2, 5, 12)), random.choice((1, 2, 4)), FAULTS)
+    def __init__(self, random, own, book, largest, ports, crowd=(2, 5, 12), associations=(1, 2, 4)):
+        super().__init__(random, own, book, largest, random.choice(crowd), random.choice(associations), FAULTS)
         self.ports = ports
         self.weights = [random.choice((1, 4, 12)) for _ in range(6)]
         self.strays = random.choice((0.0, 0.1, 0.3))
         self.asking = b""
         self.moments = []
+        self.heaps = True
 
     def kind(self):
         if self.amiss(0.1):
@@ -44,6 +49,11 @@ class LifeDraws(Draws):
         home = self.clients.index(self.asking) if self.asking in self.clients else 0
         stray = self.random.randrange(len(self.ports)) if self.chance(self.strays) else 0
         return self.ports[(home + stray) % len(self.ports)]
+
+    def address_associations(self, kind):
+        """Where there are no heaps, never so many that an answer hasn't room for them."""
+        found = super().address_associations(kind)
+        return found if self.heaps else found[:20]
 
     def associations(self, client, kind):
         count = 0 if kind == INFORMATION_REQUEST else self.pick(60, 1, 20, 2, 10, 3, 4, 5, 1, 16, 1, 0)
@@ -69,6 +79,30 @@ class LifeDraws(Draws):
         if kind != REBIND:
             parts.append(option(SERVER_IDENTIFIER, self.own))
         return bytes([kind]) + self.transaction() + b"".join(parts)
+
+    def asked(self, kind, client, identifiers, port):
+        """What a client asks for these identity associations, behind a port."""
+        parts = [option(CLIENT_IDENTIFIER, client), option(SERVER_IDENTIFIER, self.own)]
+        parts += [option(IA_PD, identifier.to_bytes(4, "big") + bytes(8)) for identifier in identifiers]
+        octets = bytes([kind]) + self.transaction() + b"".join(parts)
+        return octets if port is None else behind(port, 0, bytes(16), octets, [], self.random)
+
+    def up_to_usual_limits(self):
+        """Clients behind one port each of which asks for one more than it may: in a message, and in all."""
+        for place in range(9):
+            for identifiers in (range(5), range(10, 15), range(20, 22)):
+                yield self.asked(REQUEST, b"client" + bytes([place]), identifiers, FIXED_PORTS[0])
+
+    def moving(self):
+        """One of two clients that share a port moves to the link, or another port, and the other asks before and after;
+        then it moves back."""
+        for place, other in enumerate(FIXED_PORTS[1:]):
+            one, two = b"one" + bytes([place]), b"two" + bytes([place])
+            port = (bytes([place + 1]) * 16, b"port", None)
+            asking = ((REQUEST, one, port), (REQUEST, two, port), (RENEW, one, other), (REQUEST, two, port),
+                      (RENEW, two, other), (RENEW, one, port), (REQUEST, one + two, port))
+            for kind, client, at in asking:
+                yield self.asked(kind, client, [1], at)
 
     def datagram(self):
         octets = self.timely() or self.client_message()
@@ -157,11 +191,33 @@ def write_past(source, book, draws, readings):
         book.append(Line(len(book.lines) + 1, reading, ("grant", client, identifier, prefix, valid)))
 
 
-def drawn_life(source, settings, begun):
-    """The host, the book with its opening at a reading, and the draws."""
+def drawn_life(source, settings, begun, *crowd):
+    """The host, the book with its opening at a reading, and the draws; `crowd` has how many clients there may be, and
+    how many identity associations of each."""
     host = source.choice(("127.0.0.1", "::1"))
     largest = LARGEST_BY_IPV4 if host == "127.0.0.1" else LARGEST_BY_IPV6
     book = Book.open(begun, settings)
     ports = [None, *drawn_ports(source, source.choice((1, 2, 5)))]
     source.shuffle(ports)
-    return host, book, LifeDraws(source, settings.own, book, largest, ports)
+    return host, book, LifeDraws(source, settings.own, book, largest, ports, *crowd)
+
+
+LIMITS = ("ias_per_message", "units_per_client", "units_per_port", "client_rate")
+FEW = {"ias_per_message": (1, 2, 3, 5, None), "units_per_client": (1, 2, 3, 6, None),
+       "units_per_port": (1, 2, 4, 9, None), "client_rate": (1, 3, 8, None)}
+
+
+def drawn_limits(source):
+    """One or two limits that are small or not said; the others aren't there, mostly."""
+    found = Limits(renew_floor=source.choice((0, 0, 0, 31_536_000, None)), bind_to_port=source.random() < 0.4)
+    for key in source.sample(LIMITS, source.choice((1, 1, 2, 4))):
+        setattr(found, key, source.choice(FEW[key]))
+    return found
+
+
+def drawn_records(source, book, draws):
+    """Which record each grant of a past has, by its number: none at times, and at times none has one."""
+    often = source.choice((0, 0.5, 0.9, 1, 1))
+    numbers = [line.number for line in book.lines if line.event[0] == "grant" and source.random() < often]
+    numbers += source.choices(numbers, k=min(2, len(numbers)))
+    return [(number, source.choice(draws.ports)) for number in numbers]

@@ -10,21 +10,21 @@ def drawn_identifier(source):
                           source.randbytes(source.choice((16, 100)))))
 
 
+def other_absence(identifier):
+    """An identifier of no octet for none, and none for one of no octet."""
+    return {None: b"", b"": None}.get(identifier, identifier)
+
+
 def drawn_ports(source, count):
     """Ports that differ in one part each from one that was drawn before; one may be given twice."""
     ports = [(source.randbytes(16), drawn_identifier(source), drawn_identifier(source))]
     while len(ports) < count:
         link, interface, remote = source.choice(ports)
-        way = source.randrange(4)
-        if way == 0:
-            link = source.choice((bytes(16), source.randbytes(16)))
-        elif way == 1:
-            interface = drawn_identifier(source)
-        elif way == 2:
-            remote = drawn_identifier(source)
-        else:
-            interface, remote = remote, interface
-        ports.append((link, interface, remote))
+        ports.append(source.choice((
+            (source.choice((bytes(16), source.randbytes(16))), interface, remote),
+            (link, drawn_identifier(source), remote), (link, interface, drawn_identifier(source)),
+            (link, remote, interface), (source.randbytes(16), None, None), (link, None, b""),
+            (link, other_absence(interface), other_absence(remote)))))
     return ports
 
 

@@ -5,8 +5,8 @@ from dataclasses import dataclass, replace
 
 @dataclass
 class Limits:
-    """Numbers of the settings, of which 0 is no limit and None is left out: `renew_floor` in seconds, how many IA_PDs of
-    a message and units of a client and of a relay port, and messages a second."""
+    """Numbers of the settings, of which 0 is no limit and None is left out: `renew_floor` in seconds, how many IA_PDs
+    of a message and units of a client and of a relay port, and messages a second."""
 
     renew_floor: int | None = 0
     ias_per_message: int | None = 0
@@ -29,3 +29,4 @@ class Limits:
 
 # No answer depends on limits, or on how long ago a prefix was given.
 UNLIMITED = Limits()
+NOT_SAID = Limits(*[None] * 5)

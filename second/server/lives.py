@@ -5,15 +5,19 @@ its sending and its answer, and whatever any of these gives is taken.
 """
 
 import random
+import time
 from dataclasses import replace
 
-from . import again, answers, journal, matching, messages, rolling
-from .life_draws import (bounds_of, drawn_ages, drawn_ahead, drawn_floor, drawn_life, drawn_times, half_of_units,
-                         write_past)
-from .limits import Limits
+from . import access, again, answers, journal, matching, messages, rolling
+from .life_draws import (LifeDraws, bounds_of, drawn_ages, drawn_ahead, drawn_floor, drawn_life, drawn_limits,
+                         drawn_records, drawn_times, half_of_units, write_past)
+from .life_ports import port_of
+from .limiting import Hearing, Policy, named
+from .limits import NOT_SAID, Limits
 from .manner import settings_rows
 from .manner_draws import drawn_manner
 from .program import Daemon, Difference, now, settings_line
+from .serving import plain_settings
 
 
 class Tail:
@@ -61,6 +65,8 @@ class Life:
         self.limits = limits.in_force(book.life)
         self.tally = tally
         self.manner = manner
+        self.policy = Policy(self.limits)
+        self.hearing = Hearing(self.limits.client_rate)
         self.own = daemon.settings.own
         self.exchanges = []
         self.tail = Tail(daemon.volume)
@@ -150,16 +156,43 @@ class Life:
         except messages.Refused as refusal:
             self.expect(exchange, None, refusal.name)
             return
-        self.judge(exchange, message)
+        is_counted = self.limits.client_rate != 0 and message.kind != messages.INFORMATION_REQUEST
+        if not is_counted or self.is_heard(exchange, message):
+            self.judge(exchange, message, self.policy.denied(self.book, message, port_of(message)))
 
-    def told_again(self, message, reading):
+    def is_heard(self, exchange, message):
+        """Whether a message is heard; where that can't be told, since it has no answer either way, it isn't judged."""
+        key = (message.client, named(port_of(message)))
+        ways = self.hearing.ways(key, {reading // 1000 for reading in self.readings(exchange)})
+        heard = {way for way in ways if way[2]}
+        has_answer = exchange.answer is not None or exchange.lines
+        if not has_answer and not self.is_silent(message):
+            self.hearing.note(key, ways - heard or heard)
+        else:
+            self.hearing.note(key, heard if has_answer else ways)
+        if has_answer and not heard:
+            self.fault("awaited that it isn't heard")
+        self.tally["messages that aren't heard"] += not has_answer and not self.is_silent(message) and ways != heard
+        return has_answer or ways == heard
+
+    def is_silent(self, message):
+        """Whether a message has no answer though it is heard."""
+        if not message.associations or (self.book.waiting and message.kind != messages.RELEASE):
+            return True
+        held = self.book.table.held
+        return (message.kind == messages.REBIND and self.manner.is_silent
+                and not any(held.get((message.client, one.identifier)) for one in message.associations))
+
+    def told_again(self, message, reading, denied):
         """The answer that tells again what the client has; None where the message is ordered."""
         at = self.book.reading_after(reading)
-        parts = again.all_told_again(self.book, self.limits.renew_floor, message, at)
+        parts = again.all_told_again(self.book, self.limits.renew_floor, message, at, denied)
         return None if parts is None else answers.octets_of(self.own, message, parts, self.manner)
 
-    def judge(self, exchange, message):
-        found = [self.told_again(message, at) for at in self.readings(exchange)]
+    def judge(self, exchange, message, denied):
+        """Holds what became of a message that was heard against the book."""
+        self.tally["IA_PDs denied"] += len(denied)
+        found = [self.told_again(message, at, denied) for at in self.readings(exchange)]
         if not exchange.lines and exchange.answer in [self.small(answer) for answer in found if answer is not None]:
             self.tally["messages told again"] += 1
             return
@@ -167,8 +200,11 @@ class Life:
             self.fault(f"awaited what remains: {found[-1].hex()}")
         at = self.readings(exchange)[found.index(None)]
         count = len(self.book.lines)
-        answer = answers.serve(self.book, self.own, message, at, self.manner)
+        answer = answers.serve(self.book, self.own, message, at, self.manner, denied)
         self.expect(exchange, self.small(answer), "its orders", self.book.lines[count:])
+        for line in self.book.lines[count:]:
+            if line.event[0] == "grant":
+                self.policy.granted(line.event[3], port_of(message))
 
     def small(self, answer):
         """The answer, None where it is too large for the path."""
@@ -244,3 +280,52 @@ def serve_floor_once(program, seed, count, tally):
     with Daemon(program, settings, manner, host, has_link, past, told) as daemon:
         Life(daemon, draws, book, told, tally, manner).run(count)
     tally["lives by the clock"] += 1
+
+
+def drawn_quota_life(source, settings):
+    """A life with a past whose grants have records, some of them."""
+    begun = now()
+    host, book, draws = drawn_life(source, settings, begun, (2, 5, 12, 30), (1, 2, 4, 12))
+    draws.heaps = False
+    count = min(half_of_units(settings), source.choice((0, 3, 10, 20)))
+    write_past(source, book, draws, [begun] * count if count > 1 else [])
+    return host, book, draws, drawn_records(source, book, draws)
+
+
+def serve_limits_once(program, seed, count, tally):
+    """One life of a server whose clients and ports may take little."""
+    source = random.Random(seed)
+    settings = drawn_times(source)
+    told = drawn_limits(source)
+    manner = replace(drawn_manner(source), releases_each=True)
+    host, book, draws, records = drawn_quota_life(source, settings)
+    past = list(book.lines) if book.lines[-1].event[0] == "grant" else []
+    with Daemon(program, settings, manner, host, False, past, told, access.text(book, records)) as daemon:
+        wait_for_second(told, source)
+        life = Life(daemon, draws, book, told, tally, manner)
+        for number, port in records:
+            if named(port) is not None:
+                life.policy.granted(book.lines[number - 1].event[3], port)
+        life.run(count)
+    tally["lives with limits"] += 1
+
+
+def serve_scripts(program, tally):
+    """Lives whose datagrams are given: one of a server whose settings name no limit, whose clients ask for what they
+    may have and more; and one of clients that move from one relay port to another."""
+    for told, script in ((NOT_SAID, LifeDraws.up_to_usual_limits), (Limits(units_per_port=1), LifeDraws.moving)):
+        host, book, draws = drawn_life(random.Random(1), plain_settings(), now())
+        with Daemon(program, plain_settings(), answers.PLAIN, host, False, [], told) as daemon:
+            life = Life(daemon, draws, book, told, tally, answers.PLAIN)
+            for octets in script(draws):
+                life.put(octets, "scripted")
+            life.run(0)
+        tally["lives with limits"] += 1
+
+
+def wait_for_second(limits, source):
+    """Waits until a second ends soon, where messages of a second are counted."""
+    left = 1000 - now() % 1000
+    wait = left - source.randrange(20, 200)
+    if limits.client_rate != 0 and wait > 0:
+        time.sleep(wait / 1000)

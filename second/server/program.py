@@ -164,7 +164,8 @@ class Daemon(Program):
     With the lines of a past it goes on with these.
     """
 
-    def __init__(self, program, settings, manner, host="127.0.0.1", has_link=False, past=(), limits=UNLIMITED):
+    def __init__(self, program, settings, manner, host="127.0.0.1", has_link=False, past=(), limits=UNLIMITED,
+                 records=""):
         self.program = program
         self.settings = settings
         self.past = past
@@ -180,6 +181,8 @@ class Daemon(Program):
         self.follow()
         if past:
             self.volume.write_text(journal.write_open(settings.role, past))
+        if records:
+            self.volume.with_suffix(".access").write_text(records)
         super().__init__([program, "serve", "--dir", self.folder.name], settings, host)
 
     def __exit__(self, *rest):
