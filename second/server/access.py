@@ -10,16 +10,13 @@ def head_of(role, volume):
 
 
 def address_word(address):
-    """Eight groups of four digits; of an address of IPv4 those of the IPv6 address that stands for it."""
     digits = address.hex()
     return ":".join(digits[place:place + 4] for place in range(0, 32, 4))
 
 
-def source_octets(host):
-    """The address that a datagram of this host comes from."""
-    if ":" in host:
-        return ipaddress.IPv6Address(host).packed
-    return bytes(10) + b"\xff\xff" + ipaddress.IPv4Address(host).packed
+def source_of(host):
+    """The address that a datagram of this host comes from, as records have it; one of IPv4 isn't told."""
+    return ipaddress.IPv6Address(host).packed if ":" in host else None
 
 
 def identifier_word(octets):

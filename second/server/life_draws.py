@@ -221,3 +221,8 @@ def drawn_records(source, book, draws):
     numbers = [line.number for line in book.lines if line.event[0] == "grant" and source.random() < often]
     numbers += source.choices(numbers, k=min(2, len(numbers)))
     return [(number, source.choice(draws.ports)) for number in numbers]
+
+
+def drawn_tail(source, records):
+    """What a crash left of a last record."""
+    return records and source.choice(("", "", "1", "3 0000:0000", records.splitlines()[-1], "\0\0"))

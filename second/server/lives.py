@@ -10,7 +10,7 @@ from dataclasses import replace
 
 from . import access, again, answers, journal, matching, messages, rolling
 from .life_draws import (LifeDraws, bounds_of, drawn_ages, drawn_ahead, drawn_floor, drawn_life, drawn_limits,
-                         drawn_records, drawn_times, half_of_units, write_past)
+                         drawn_records, drawn_tail, drawn_times, half_of_units, write_past)
 from .life_ports import port_of
 from .limiting import Hearing, Policy, named
 from .limits import NOT_SAID, Limits
@@ -18,18 +18,19 @@ from .manner import settings_rows
 from .manner_draws import drawn_manner
 from .program import Daemon, Difference, now, settings_line
 from .serving import plain_settings
+from .units import ACTIVE
 
 
 class Tail:
     """A file that is written: the whole rows that stand behind those that were read."""
 
-    def __init__(self, path, skipped=0):
+    def __init__(self, path):
         self.path = path
         self.place = 0
-        for _ in range(skipped):
-            self.rows()
 
     def rows(self):
+        if not self.path.exists():
+            return []
         with open(self.path, "rb") as file:
             file.seek(self.place)
             octets = file.read()
@@ -69,9 +70,10 @@ class Life:
         self.hearing = Hearing(self.limits.client_rate)
         self.own = daemon.settings.own
         self.exchanges = []
-        self.tail = Tail(daemon.volume)
+        self.tail, self.records = Tail(daemon.volume), Tail(daemon.records)
         self.ask()
         self.look_at_opening(self.tail.rows())
+        self.past_records(daemon.past_records)
 
     def look_at_opening(self, rows):
         """The volume has the lines that it goes on with, or an opening of the daemon's own reading."""
@@ -87,6 +89,19 @@ class Life:
             self.fault("the volume doesn't begin as awaited")
         if not self.daemon.past and not self.daemon.began <= lines[0].reading <= now():
             self.fault("the opening isn't of this life")
+
+    def past_records(self, wanted):
+        """The file of records has what it goes on with."""
+        if self.records.rows() != wanted:
+            self.fault("the access records of the past are others")
+
+    def look_at_records(self, wanted):
+        """The records that were written since are these; the first of a volume stands behind the head."""
+        is_first = bool(wanted) and self.records.place == 0
+        found = self.records.rows()
+        if found != [access.head_of(self.book.role, self.book.volume)] * is_first + wanted:
+            self.fault(f"access records {found}, awaited {wanted}")
+        self.tally["access records"] += len(found)
 
     def fault(self, words):
         told = (settings_line(self.daemon.settings), *settings_rows(self.manner), *self.told.rows())
@@ -202,9 +217,15 @@ class Life:
         count = len(self.book.lines)
         answer = answers.serve(self.book, self.own, message, at, self.manner, denied)
         self.expect(exchange, self.small(answer), "its orders", self.book.lines[count:])
-        for line in self.book.lines[count:]:
-            if line.event[0] == "grant":
-                self.policy.granted(line.event[3], port_of(message))
+        self.note_grants(self.book.lines[count:], port_of(message))
+
+    def note_grants(self, lines, port):
+        """Each grant has a record of the port, which is there before its answer leaves."""
+        grants = [line for line in lines if line.event[0] == "grant"]
+        source = access.source_of(self.daemon.address[0])
+        self.look_at_records([access.record(line.number, port, source) for line in grants])
+        for line in grants:
+            self.policy.granted(line.event[3], port)
 
     def small(self, answer):
         """The answer, None where it is too large for the path."""
@@ -228,11 +249,18 @@ class Life:
         if not self.book.lines[-1].reading <= lines[0].reading == lines[-1].reading <= max(now(), lines[0].reading):
             self.fault("the next volume's head isn't of this moment")
         self.draws.book = self.book = following
+        self.look_at_records(self.records_of_units(lines))
         self.tally["rolls"] += 1
+
+    def records_of_units(self, lines):
+        """What the records of a next volume begin with: those of units that somebody has and whose port is known."""
+        units = [line for line in lines if line.event[0] == "unit" and line.event[2] == ACTIVE]
+        units = [line for line in units if self.policy.ports.get(line.event[1])]
+        return [access.record(line.number, self.policy.ports[line.event[1]], None) for line in units]
 
     def next_volume(self):
         self.daemon.follow()
-        self.tail = Tail(self.daemon.volume)
+        self.tail, self.records = Tail(self.daemon.volume), Tail(self.daemon.records)
         head, *rows = self.tail.rows()
         if head != f"pd-journal 2 {self.book.role} {self.book.volume + 1}":
             self.fault(f"the next volume is {head}")
@@ -300,7 +328,9 @@ def serve_limits_once(program, seed, count, tally):
     manner = replace(drawn_manner(source), releases_each=True)
     host, book, draws, records = drawn_quota_life(source, settings)
     past = list(book.lines) if book.lines[-1].event[0] == "grant" else []
-    with Daemon(program, settings, manner, host, False, past, told, access.text(book, records)) as daemon:
+    text = access.text(book, records)
+    text += drawn_tail(source, text)
+    with Daemon(program, settings, manner, host, False, past, told, text) as daemon:
         wait_for_second(told, source)
         life = Life(daemon, draws, book, told, tally, manner)
         for number, port in records:

@@ -181,8 +181,9 @@ class Daemon(Program):
         self.follow()
         if past:
             self.volume.write_text(journal.write_open(settings.role, past))
+        self.past_records = records.split("\n")[:-1]
         if records:
-            self.volume.with_suffix(".access").write_text(records)
+            self.records.write_text(records)
         super().__init__([program, "serve", "--dir", self.folder.name], settings, host)
 
     def __exit__(self, *rest):
@@ -193,6 +194,7 @@ class Daemon(Program):
         """Takes the next volume for the one that is written."""
         self.number += 1
         self.volume = pathlib.Path(self.folder.name) / f"{self.settings.role}-{self.number:07}.journal"
+        self.records = self.volume.with_suffix(".access")
 
     def told(self, *words):
         """Tells the daemon something by its control socket."""
