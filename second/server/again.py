@@ -44,3 +44,21 @@ def all_told_again(book, floor, message, reading, denied=()):
     found = [answers.NO_PREFIX if place in denied else told_without_line(book, floor, order, reading)
              for place, order in enumerate(answers.orders_of(message))]
     return None if None in found else found
+
+
+def leaves_lines(book, message, manner, denied):
+    """Whether a message that is ordered leaves a line."""
+    orders = answers.orders_by_association(message, manner)
+    return any(leaves_line(book, message, order) for place, those in enumerate(orders) if place not in denied
+               for order in those)
+
+
+def leaves_line(book, message, order):
+    if message.kind == messages.SOLICIT:
+        return False
+    try:
+        book.check_serving(order)
+        book.event_of(0, order)
+    except BookRefusal:
+        return False
+    return True

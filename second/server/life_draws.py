@@ -32,6 +32,7 @@ class LifeDraws(Draws):
         self.asking = b""
         self.moments = []
         self.heaps = True
+        self.pauses = (0,)
 
     def kind(self):
         if self.amiss(0.1):
@@ -132,10 +133,22 @@ def drawn_times(source, shortest=241, longest=3601):
     return Settings("A", OWN, skew, mclt, life, pools, max(0, transit))
 
 
+def drawn_short_times(source):
+    """Settings whose grants are over within a life."""
+    mclt, life = source.choice(((1, 1), (1, 7), (2, 1)))
+    pools = [(prefix_of("2001:db8::/48"), source.choice((51, 53, 56)))]
+    return Settings("A", OWN, source.choice((0, 1, 40)), mclt, life, pools, 0)
+
+
 def half_bound(settings):
     """The age in milliseconds up to which a half of a new grant is left of one, rounded up to seconds."""
     valid = min(settings.mclt, settings.life)
     return 1000 * (valid // 2) - 2 * settings.skew - settings.transit
+
+
+def end_bound(settings):
+    """The age in milliseconds at which a grant is over by any clock."""
+    return 1000 * min(settings.mclt, settings.life) + 2 * settings.skew + settings.transit
 
 
 def drawn_floor(source, settings):

@@ -4,20 +4,14 @@ The clock is the daemon's own. A line shows its reading; a message that leaves n
 its sending and its answer, and whatever any of these gives is taken.
 """
 
-import random
 import time
-from dataclasses import replace
 
-from . import access, again, answers, journal, matching, messages, rolling
-from .life_draws import (LifeDraws, bounds_of, drawn_ages, drawn_ahead, drawn_floor, drawn_life, drawn_limits,
-                         drawn_records, drawn_tail, drawn_times, half_of_units, write_past)
+from . import access, again, answers, journal, matching, messages, rolling, rules
+from .book import BookRefusal
 from .life_ports import port_of
 from .limiting import Hearing, Policy, named
-from .limits import NOT_SAID, Limits
 from .manner import settings_rows
-from .manner_draws import drawn_manner
-from .program import Daemon, Difference, now, settings_line
-from .serving import plain_settings
+from .program import Difference, now, settings_line
 from .units import ACTIVE
 
 
@@ -81,7 +75,8 @@ class Life:
         if self.daemon.past:
             opened = self.book
             if self.daemon.has_link:
-                opened.add(lines[-1].reading, ("restart", 1))
+                opened.add(lines[len(opened.lines)].reading, ("restart", 1))
+            self.end_leases(lines[len(opened.lines):])
         else:
             opened = matching.opened(self.daemon.settings, lines)
             self.draws.book = self.book = opened
@@ -90,10 +85,28 @@ class Life:
         if not self.daemon.past and not self.daemon.began <= lines[0].reading <= now():
             self.fault("the opening isn't of this life")
 
+    def end_leases(self, lines):
+        """Takes over the lines by which leases end, each of which has to be over by its reading."""
+        for line in lines:
+            if line.event[0] != "expire":
+                self.fault(f"a line that nobody asked for: {journal.line_text(line)}")
+            try:
+                self.book.append(line)
+            except BookRefusal as refusal:
+                self.fault(f"{journal.line_text(line)}: {refusal}")
+        self.tally["leases that ended"] += len(lines)
+
     def past_records(self, wanted):
         """The file of records has what it goes on with."""
         if self.records.rows() != wanted:
             self.fault("the access records of the past are others")
+
+    def take_records(self, records):
+        """What a start takes of a past's records: the port of each, in their order; those that name none it passes
+        over."""
+        for number, port in records:
+            if named(port) is not None:
+                self.policy.granted(self.book.lines[number - 1].event[3], port)
 
     def look_at_records(self, wanted):
         """The records that were written since are these; the first of a volume stands behind the head."""
@@ -149,6 +162,18 @@ class Life:
             self.fault(f"{len(found)} answers to one datagram")
         return exchange
 
+    def among_ends(self, exchange):
+        """Takes the lines by which leases end out of an exchange's, those in front of the message's own over at once.
+        Those behind them, or all where the message has none, are left."""
+        kinds = [line.event[0] for line in exchange.lines]
+        if "expire" not in kinds:
+            return []
+        own = [place for place, kind in enumerate(kinds) if kind != "expire"]
+        first, end = (own[0], own[-1] + 1) if own else (0, 0)
+        self.end_leases(exchange.lines[:first])
+        left, exchange.lines = exchange.lines[end:], exchange.lines[first:end]
+        return left
+
     def readings(self, exchange):
         """The readings at which a message can have been served."""
         last = self.book.lines[-1].reading
@@ -166,11 +191,40 @@ class Life:
         exchange = self.exchange(octets)
         self.tally[name + ", by the clock"] += 1
         self.tally["answered"] += exchange.answer is not None
+        ends = self.among_ends(exchange)
         try:
             message = messages.decode(octets, self.own, self.manner.informs)
         except messages.Refused as refusal:
             self.expect(exchange, None, refusal.name)
-            return
+        else:
+            while ends and not self.fits(exchange, message):
+                self.end_leases([ends.pop(0)])
+            self.judge_if_heard(exchange, message)
+        self.end_leases(ends)
+        self.expect_ended()
+
+    def expect_ended(self):
+        """Each turn hears what came, then does what is owed, and only then has answers leave: no lease is left that was
+        over as the message before the last was sent."""
+        moment = self.exchanges[-2].before if len(self.exchanges) > 1 else self.daemon.began
+        for places in self.book.table.held.values():
+            for unit in map(self.book.table.ordered.__getitem__, places):
+                if rules.may_expire(unit, moment):
+                    self.fault(f"a lease that is over since {unit.own_end}: {unit.prefix}")
+
+    def fits(self, exchange, message):
+        """Whether what became of a message without lines may be so before the next lease ends."""
+        if exchange.lines:
+            return True
+        denied = self.policy.denied(self.book, message, port_of(message))
+        if not again.leaves_lines(self.book, message, self.manner, denied):
+            answer = answers.serve(self.book, self.own, message, exchange.before, self.manner, denied)
+            if self.small(answer) == exchange.answer:
+                return True
+        found = [self.told_again(message, at, denied) for at in self.readings(exchange)]
+        return exchange.answer in [self.small(answer) for answer in found if answer is not None]
+
+    def judge_if_heard(self, exchange, message):
         is_counted = self.limits.client_rate != 0 and message.kind != messages.INFORMATION_REQUEST
         if not is_counted or self.is_heard(exchange, message):
             self.judge(exchange, message, self.policy.denied(self.book, message, port_of(message)))
@@ -242,7 +296,7 @@ class Life:
         before = now()
         self.daemon.told("roll")
         self.closed(before)
-        lines = [journal.spelled_line_of(row) for row in self.next_volume()]
+        lines, ends = rolling.split([journal.spelled_line_of(row) for row in self.next_volume()])
         following = rolling.follow(self.book, lines)
         if isinstance(following, str):
             self.fault(following)
@@ -250,6 +304,7 @@ class Life:
             self.fault("the next volume's head isn't of this moment")
         self.draws.book = self.book = following
         self.look_at_records(self.records_of_units(lines))
+        self.end_leases(ends)
         self.tally["rolls"] += 1
 
     def records_of_units(self, lines):
@@ -267,8 +322,10 @@ class Life:
         return rows
 
     def closed(self, before):
-        """The volume has a close line and the end behind what was looked at."""
+        """The volume has a close line and the end behind what was looked at, and behind leases that ended since."""
         rows = self.tail.rows()
+        while " expire " in rows[0]:
+            self.end_leases([journal.spelled_line_of(rows.pop(0))])
         closing = journal.spelled_line_of(rows[0])
         if closing.event != ("close",) or rows[1:] != [f"end {closing.number}"]:
             self.fault(f"the volume ends with {rows}")
@@ -284,78 +341,8 @@ class Life:
             for _ in range(rolls.count(place)):
                 self.roll()
             self.put(*self.draws.datagram())
+            time.sleep(self.draws.random.choice(self.draws.pauses))
         before = now()
         self.daemon.journal()
         self.daemon.silent()
         self.closed(before)
-
-
-def serve_floor_once(program, seed, count, tally):
-    """One life of a server that tells again what it gave not long ago."""
-    source = random.Random(seed)
-    settings = drawn_times(source)
-    told = Limits(renew_floor=drawn_floor(source, settings))
-    floor = told.in_force(settings.life).renew_floor
-    manner = replace(drawn_manner(source), releases_each=True)
-    begun, ahead = now(), drawn_ahead(source, settings)
-    ages = drawn_ages(source, settings, floor, source.choice((0, 3, 20, 60)), ahead)
-    readings = [begun - age for age in ages[-half_of_units(settings):]]
-    host, book, draws = drawn_life(source, settings, readings[0] if readings else begun)
-    write_past(source, book, draws, readings)
-    draws.await_bounds(bounds_of(settings, floor))
-    has_link = source.random() < 0.1
-    past = list(book.lines) if readings else []
-    with Daemon(program, settings, manner, host, has_link, past, told) as daemon:
-        Life(daemon, draws, book, told, tally, manner).run(count)
-    tally["lives by the clock"] += 1
-
-
-def drawn_quota_life(source, settings):
-    """A life with a past whose grants have records, some of them."""
-    begun = now()
-    host, book, draws = drawn_life(source, settings, begun, (2, 5, 12, 30), (1, 2, 4, 12))
-    draws.heaps = False
-    count = min(half_of_units(settings), source.choice((0, 3, 10, 20)))
-    write_past(source, book, draws, [begun] * count if count > 1 else [])
-    return host, book, draws, drawn_records(source, book, draws)
-
-
-def serve_limits_once(program, seed, count, tally):
-    """One life of a server whose clients and ports may take little."""
-    source = random.Random(seed)
-    settings = drawn_times(source)
-    told = drawn_limits(source)
-    manner = replace(drawn_manner(source), releases_each=True)
-    host, book, draws, records = drawn_quota_life(source, settings)
-    past = list(book.lines) if book.lines[-1].event[0] == "grant" else []
-    text = access.text(book, records)
-    text += drawn_tail(source, text)
-    with Daemon(program, settings, manner, host, False, past, told, text) as daemon:
-        wait_for_second(told, source)
-        life = Life(daemon, draws, book, told, tally, manner)
-        for number, port in records:
-            if named(port) is not None:
-                life.policy.granted(book.lines[number - 1].event[3], port)
-        life.run(count)
-    tally["lives with limits"] += 1
-
-
-def serve_scripts(program, tally):
-    """Lives whose datagrams are given: one of a server whose settings name no limit, whose clients ask for what they
-    may have and more; and one of clients that move from one relay port to another."""
-    for told, script in ((NOT_SAID, LifeDraws.up_to_usual_limits), (Limits(units_per_port=1), LifeDraws.moving)):
-        host, book, draws = drawn_life(random.Random(1), plain_settings(), now())
-        with Daemon(program, plain_settings(), answers.PLAIN, host, False, [], told) as daemon:
-            life = Life(daemon, draws, book, told, tally, answers.PLAIN)
-            for octets in script(draws):
-                life.put(octets, "scripted")
-            life.run(0)
-        tally["lives with limits"] += 1
-
-
-def wait_for_second(limits, source):
-    """Waits until a second ends soon, where messages of a second are counted."""
-    left = 1000 - now() % 1000
-    wait = left - source.randrange(20, 200)
-    if limits.client_rate != 0 and wait > 0:
-        time.sleep(wait / 1000)

@@ -7,6 +7,15 @@ KEPT_OF_A_UNIT = ("status", "client", "identifier", "mine", "seen", "own_end", "
 KEPT_OF_A_BOOK = ("term", "serial", "restart", "waiting", "asked", "skew", "mclt", "life", "transit", "pools")
 
 
+HEAD = ("open", "pool", "transit", "base", "carry", "unit")
+
+
+def split(lines):
+    """The head of a volume, and what stands behind it."""
+    count = next((place for place, line in enumerate(lines) if line.event[0] not in HEAD), len(lines))
+    return lines[:count], lines[count:]
+
+
 def kept(book):
     """What a book says, its lines apart."""
     units = [[getattr(unit, name) for name in KEPT_OF_A_UNIT] for unit in book.table.ordered]
