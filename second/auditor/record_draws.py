@@ -1,4 +1,4 @@
-"""Directories of volumes with access records, spoiled in some way, and what a program says of them behind a certificate."""
+"""Directories of volumes with access records, some spoiled, and what a program says of them behind a certificate."""
 import os
 import pathlib
 import random
@@ -15,15 +15,19 @@ ASKED_OF_EACH = 6
 IDENTIFIERS = ("-", "-", "empty", "65746830", "00", "ff" * 40, "00000009" + "6e656172")
 # Rows that are no records, of a record's words.
 SPOILED = (
-    "{0}  {1} {2} {3} {4}", "{0} {1} {2} {3}", "{0} {1} {2} {3} {4} -", "0{0} {1} {2} {3} {4}", "+{0} {1} {2} {3} {4}", " {0} {1} {2} {3} {4}",
-    "{0} {1} {2} {3} {4} ", "4294967296 {1} {2} {3} {4}", "{0} {1} abc {3} {4}", "{0} {1} {2} AB {4}", "{0} {1}0 {2} {3} {4}", "{0} 0{1} {2} {3} {4}", "{0} ::1 {2} {3} {4}",
-    "{0} - 00 - {4}", "{0} - - empty {4}", "{0} {1} {2} {3} ::1", "{0} {1} {2} {3} empty", "", "pd-access 1 A 1", "{0} {1} {2} {3} {4}\r", "-1 {1} {2} {3} {4}",
-    "{0} {1} {2} {3} 2001:0DB8:0000:0000:0000:0000:0000:0001", "{0}\t{1} {2} {3} {4}", "{0} empty {2} {3} {4}", "{0} {1} Empty {3} {4}", "{0} {1} {2} {3} {4}\0",
+    "{0}  {1} {2} {3} {4}", "{0} {1} {2} {3}", "{0} {1} {2} {3} {4} -", "0{0} {1} {2} {3} {4}", "+{0} {1} {2} {3} {4}",
+    " {0} {1} {2} {3} {4}", "{0} {1} {2} {3} {4} ", "4294967296 {1} {2} {3} {4}", "{0} {1} abc {3} {4}",
+    "{0} {1} {2} AB {4}", "{0} {1}0 {2} {3} {4}", "{0} 0{1} {2} {3} {4}", "{0} ::1 {2} {3} {4}", "{0} - 00 - {4}",
+    "{0} - - empty {4}", "{0} {1} {2} {3} ::1", "{0} {1} {2} {3} empty", "", "pd-access 1 A 1", "{0} {1} {2} {3} {4}\r",
+    "-1 {1} {2} {3} {4}", "{0} {1} {2} {3} 2001:0DB8:0000:0000:0000:0000:0000:0001", "{0}\t{1} {2} {3} {4}",
+    "{0} empty {2} {3} {4}", "{0} {1} Empty {3} {4}", "{0} {1} {2} {3} {4}\0",
 )
 # Rows that are records, whatever they speak of.
 STRANGE = ("4294967295 - - - -", "0 - - - -", "1 {1} empty empty {4}", "2 - - - {4}", "1048577 {1} - {3} -")
-HEADS = ("pd-access 1 {other} {number}", "pd-access 1 {side} {next}", "pd-access 2 {side} {number}", "pd-access 1 {side} 0{number}", "pd-access 1 {side}",
-         "pd-access 1 {side} {number} ", "pd-journal 1 {side}", "")
+HEADS = (
+    "pd-access 1 {other} {number}", "pd-access 1 {side} {next}", "pd-access 2 {side} {number}",
+    "pd-access 1 {side} 0{number}", "pd-access 1 {side}", "pd-access 1 {side} {number} ", "pd-journal 1 {side}", "",
+)
 TAILS = ("", "7", "3 0000:0000", "{row}", "\0\0\0")
 
 
@@ -39,8 +43,9 @@ def drawn_row(rng, number):
 
 
 def drawn_records(rng, volume):
-    """The octets of a file of records: of most grants and some units; some are there twice, and some files are spoiled."""
-    numbers = [number for number, entry in enumerate(volume.entries, start=1) if isinstance(entry.event, (Grant, UnitLine))]
+    """The octets of a file of records: of most grants and units; some are there twice, and some files are spoiled."""
+    entries = enumerate(volume.entries, start=1)
+    numbers = [number for number, entry in entries if isinstance(entry.event, (Grant, UnitLine))]
     often = rng.choice((1, 1, 0.9, 0.5))
     rows = [drawn_row(rng, number) for number in numbers if rng.random() < often]
     rows += [drawn_row(rng, number) for number in rng.choices(numbers, k=rng.choice((0, 0, 3)))] if numbers else []
@@ -53,7 +58,8 @@ def drawn_records(rng, volume):
     elif trouble == "strange":
         rows.insert(rng.randint(0, len(rows)), rng.choice(STRANGE).format(*words))
     elif trouble == "head":
-        parts = {"side": volume.side, "other": "AB".replace(volume.side, ""), "number": volume.number, "next": volume.number + 1}
+        other = "AB".replace(volume.side, "")
+        parts = {"side": volume.side, "other": other, "number": volume.number, "next": volume.number + 1}
         head = rng.choice(HEADS).format(**parts)
     elif trouble == "order":
         rng.shuffle(rows)
@@ -62,7 +68,7 @@ def drawn_records(rng, volume):
 
 
 class Answer(NamedTuple):
-    """What the program said of a question, and the access lines that it should have said; None where it names nobody."""
+    """What the program said of a question, and the access lines that are awaited; None where it names nobody."""
 
     words: list
     written: str
@@ -81,20 +87,27 @@ def drawn(seed, index):
     return files, questions(rng, directory)
 
 
+def prefix_text(prefix):
+    digits = f"{prefix.address:032x}"
+    return ":".join(digits[at : at + 4] for at in range(0, 32, 4)) + f"/{prefix.length}"
+
+
 def questions(rng, directory):
     """Who had the prefix of a grant, some time behind it."""
     settings = directory.run.settings
-    grants = [(entry, volume) for volume in directory.volumes for entry in volume.entries if isinstance(entry.event, Grant)]
-    for entry, _ in rng.sample(grants, min(len(grants), ASKED_OF_EACH)):
-        late = settings.skew + settings.transit
+    late = settings.skew + settings.transit
+    entries = [entry for volume in directory.volumes for entry in volume.entries]
+    grants = [entry for entry in entries if isinstance(entry.event, Grant)]
+    given = ["--skew-ms", str(settings.skew), "--transit-ms", str(settings.transit)]
+    for entry in rng.sample(grants, min(len(grants), ASKED_OF_EACH)):
         moment = entry.reading + late + rng.randrange(max(1, 1000 * entry.event.valid - 2 * late))
-        prefix = f"{':'.join(f'{entry.event.prefix.address:032x}'[at : at + 4] for at in range(0, 32, 4))}/{entry.event.prefix.length}"
-        yield ["--skew-ms", str(settings.skew), "--transit-ms", str(settings.transit), "--prefix", prefix, "--at", str(moment)]
+        yield [*given, "--prefix", prefix_text(entry.event.prefix), "--at", str(moment)]
 
 
 def ask(desk, files, words):
     """Asks who had a prefix over the files of this folder."""
-    done = subprocess.run([desk, "who", *words, "--journals", "."], capture_output=True, stdin=subprocess.DEVNULL, check=False, text=True)
+    command = [desk, "who", *words, "--journals", "."]
+    done = subprocess.run(command, capture_output=True, stdin=subprocess.DEVNULL, check=False, text=True)
     rows = done.stdout.splitlines()
     if done.returncode != 0 or "end" not in rows:
         return Answer(words, done.stdout, [], None)

@@ -28,7 +28,7 @@ def serve_floor_once(program, seed, count, tally):
     host, book, draws = drawn_life(source, settings, readings[0] if readings else begun)
     write_past(source, book, draws, readings)
     draws.await_bounds(bounds_of(settings, floor))
-    has_link = source.random() < 0.1
+    has_link = source.random() < 0.2
     past = list(book.lines) if readings else []
     with Daemon(program, settings, manner, host, has_link, past, told) as daemon:
         Life(daemon, draws, book, told, tally, manner).run(count)
@@ -51,7 +51,7 @@ def serve_ends_once(program, seed, count, tally):
     draws.await_bounds([bound - 1, bound, bound + 1])
     draws.pauses = (0, 0, 0.01, 0.03) if is_short else (0,)
     records = drawn_records(source, book, draws)
-    has_link = source.random() < 0.1
+    has_link = source.random() < 0.2
     past, text = list(book.lines), access.text(book, records)
     with Daemon(program, settings, manner, host, has_link, past, told, text) as daemon:
         life = Life(daemon, draws, book, told, tally, manner)
