@@ -64,6 +64,7 @@ class Life:
         self.hearing = Hearing(self.limits.client_rate)
         self.own = daemon.settings.own
         self.exchanges = []
+        self.noted = []
         self.tail, self.records = Tail(daemon.volume), Tail(daemon.records)
         self.ask()
         self.look_at_opening(self.tail.rows())
@@ -102,11 +103,30 @@ class Life:
             self.fault("the access records of the past are others")
 
     def take_records(self, records):
-        """What a start takes of a past's records: the port of each, in their order; those that name none it passes
+        """What a start takes of a volume's records: the port of each, in their order; those that name none it passes
         over."""
+        self.noted = list(records)
         for number, port in records:
+            event = self.book.lines[number - 1].event
             if named(port) is not None:
-                self.policy.granted(self.book.lines[number - 1].event[3], port)
+                self.policy.granted(event[3] if event[0] == "grant" else event[1], port)
+
+    def begin_again(self):
+        """Has the daemon stop and begin again, by its volume and records alone; one with a partner waits for it."""
+        self.daemon.begin_again()
+        self.policy, self.hearing = Policy(self.limits), Hearing(self.limits.client_rate)
+        self.ask()
+        lines = [journal.spelled_line_of(row) for row in self.tail.rows()]
+        if self.daemon.has_link:
+            restart = next((line for line in lines if line.event == ("restart", self.book.restart + 1)), None)
+            if restart is None:
+                self.fault("a server that begins again says so")
+            self.end_leases(lines[:lines.index(restart)])
+            self.book.append(restart)
+            lines = lines[lines.index(restart) + 1:]
+        self.end_leases(lines)
+        self.take_records(self.noted)
+        self.tally["begun again"] += 1
 
     def look_at_records(self, wanted):
         """The records that were written since are these; the first of a volume stands behind the head."""
@@ -278,6 +298,7 @@ class Life:
         grants = [line for line in lines if line.event[0] == "grant"]
         source = access.source_of(self.daemon.address[0])
         self.look_at_records([access.record(line.number, port, source) for line in grants])
+        self.noted += [(line.number, port) for line in grants]
         for line in grants:
             self.policy.granted(line.event[3], port)
 
@@ -310,8 +331,9 @@ class Life:
     def records_of_units(self, lines):
         """What the records of a next volume begin with: those of units that somebody has and whose port is known."""
         units = [line for line in lines if line.event[0] == "unit" and line.event[2] == ACTIVE]
-        units = [line for line in units if self.policy.ports.get(line.event[1])]
-        return [access.record(line.number, self.policy.ports[line.event[1]], None) for line in units]
+        self.noted = [(line.number, self.policy.ports[line.event[1]]) for line in units
+                      if self.policy.ports.get(line.event[1])]
+        return [access.record(number, port, None) for number, port in self.noted]
 
     def next_volume(self):
         self.daemon.follow()
@@ -337,9 +359,13 @@ class Life:
 
     def run(self, count):
         rolls = self.draws.pick(6, [], 3, [count // 2], 1, [count // 3, count // 3 + 1, count // 2])
+        again_at = self.draws.random.randrange(4 * max(1, count))
         for place in range(count):
             for _ in range(rolls.count(place)):
                 self.roll()
+            # A volume of which nobody was told is begun anew, and isn't gone on with.
+            if place == again_at and rolling.split(self.book.lines)[1]:
+                self.begin_again()
             self.put(*self.draws.datagram())
             time.sleep(self.draws.random.choice(self.draws.pauses))
         before = now()

@@ -184,7 +184,16 @@ class Daemon(Program):
         self.past_records = records.split("\n")[:-1]
         if records:
             self.records.write_text(records)
-        super().__init__([program, "serve", "--dir", self.folder.name], settings, host)
+        self.words = [program, "serve", "--dir", self.folder.name]
+        super().__init__(self.words, settings, host)
+
+    def begin_again(self):
+        """Stops it with its volume open, and starts it once more."""
+        self.told("stop")
+        self.wait_for_end()
+        self.errors = tempfile.NamedTemporaryFile()
+        self.process = subprocess.Popen(self.words, stdin=subprocess.DEVNULL, stdout=self.output, stderr=self.errors)
+        self.wait_for(f"goes on with volume {self.number}")
 
     def __exit__(self, *rest):
         super().__exit__(*rest)
