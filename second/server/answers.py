@@ -6,8 +6,8 @@ from .manner import Manner, handed_out
 
 ORDER_OF_KIND = {messages.SOLICIT: "request", messages.REQUEST: "request", messages.RENEW: "renew",
                  messages.REBIND: "renew", messages.RELEASE: "release"}
-ANSWER_OF_REFUSAL = {"NoPrefix": ("no prefix",), "NoBinding": ("no binding",)}
-NO_BINDING, NOTHING = ("no binding",), ("nothing",)
+NO_BINDING, NO_PREFIX, NOTHING = ("no binding",), ("no prefix",), ("nothing",)
+ANSWER_OF_REFUSAL = {"NoPrefix": NO_PREFIX, "NoBinding": NO_BINDING}
 PLAIN = Manner()
 
 
@@ -31,23 +31,23 @@ def answer_to(book, message, order, reading):
     return ("given", *reply[1:]) if reply[0] == "granted" else reply
 
 
-def answer_to_prefixes(book, message, association, reading):
-    """What is told of an IA_PD each of whose prefixes is an order: what the first that was bound is told."""
+def orders_by_association(message, manner=PLAIN):
+    """The orders of each IA_PD: one, or one for each prefix of a RELEASE where each prefix is an order."""
+    if message.kind == messages.RELEASE and manner.releases_each:
+        return [[order_of(message, association, prefix) for prefix in association.prefixes or [None]]
+                for association in message.associations]
+    return [[order] for order in orders_of(message)]
+
+
+def answer_to_orders(book, message, orders, denied, reading):
+    """What is told of an IA_PD: what the first of its orders is told that finds a binding. `denied` are orders that
+    may not be done."""
     told = NO_BINDING
-    for prefix in association.prefixes or [None]:
-        answer = answer_to(book, message, order_of(message, association, prefix), reading)
+    for order in orders:
+        answer = NO_PREFIX if order in denied else answer_to(book, message, order, reading)
         if told == NO_BINDING:
             told = answer
     return told
-
-
-def answer_to_association(book, manner, message, association, reading):
-    if message.kind == messages.RELEASE and manner.releases_each:
-        return answer_to_prefixes(book, message, association, reading)
-    answer = answer_to(book, message, order_of(message, association, association.hint), reading)
-    if message.kind == messages.REBIND and manner.is_silent and answer == NO_BINDING:
-        return NOTHING
-    return answer
 
 
 def refused_addresses(manner, message):
@@ -55,17 +55,29 @@ def refused_addresses(manner, message):
     return message.addresses if manner.refuses_addresses and message.kind != messages.RELEASE else []
 
 
-def serve(book, own, message, reading, manner=PLAIN):
-    """The octets of the answer to a message that was read, None where there is none."""
-    answers = []
-    for association in message.associations:
-        answer = answer_to_association(book, manner, message, association, reading)
-        if answer is None:
-            return None
-        answers.append(answer)
+def octets_of(own, message, answers, manner=PLAIN):
+    """The octets of an answer that has these parts, None where there is none: a REBIND that nothing is told of."""
+    answers = [NOTHING if is_left(manner, message, answer) else answer for answer in answers]
     if message.kind != messages.INFORMATION_REQUEST and all(answer == NOTHING for answer in answers):
         return None
     return messages.encode(message, own, answers, handed_out(manner, message), refused_addresses(manner, message))
+
+
+def is_left(manner, message, answer):
+    """Whether an IA_PD is left to the partner."""
+    return message.kind == messages.REBIND and manner.is_silent and answer == NO_BINDING
+
+
+def serve(book, own, message, reading, manner=PLAIN, denied=()):
+    """The octets of the answer to a message that was read, None where there is none; `denied` are the places of the
+    IA_PDs that may not be ordered."""
+    answers = []
+    for place, orders in enumerate(orders_by_association(message, manner)):
+        answer = answer_to_orders(book, message, orders, orders if place in denied else (), reading)
+        if answer is None:
+            return None
+        answers.append(answer)
+    return octets_of(own, message, answers, manner)
 
 
 def serve_datagram(book, own, octets, reading, manner=PLAIN):

@@ -11,10 +11,13 @@ import tempfile
 import time
 
 from . import journal
+from .limits import UNLIMITED
 from .manner import settings_rows
 from .values import prefix_text
 
 PATIENCE = 20
+# No line of `serve` comes of itself.
+NO_HEARTBEAT = ("heartbeat = 31536000",)
 
 
 class Difference(Exception):
@@ -149,14 +152,10 @@ class Node(Program):
         return self.output.read().decode()
 
 
-# What `serve` is told, so that no answer depends on its limits or on the time, and no line comes of itself.
-UNLIMITED = ("heartbeat = 31536000", "renew_floor = 0", "ias_per_message = 0", "units_per_client = 0",
-             "units_per_port = 0", "client_rate = 0")
-
-
-def serve_settings_text(settings, listen, rows):
+def serve_settings_text(settings, listen, rows, limits=UNLIMITED):
     """The settings as `serve` reads them; `rows` are those beside prefixes and of the link."""
-    return "".join(row + "\n" for row in (*UNLIMITED, *rows)) + settings_text(settings, listen)
+    told = (*NO_HEARTBEAT, *limits.rows(), *rows)
+    return "".join(row + "\n" for row in told) + settings_text(settings, listen)
 
 
 class Daemon(Program):
@@ -165,28 +164,54 @@ class Daemon(Program):
     With the lines of a past it goes on with these.
     """
 
-    def __init__(self, program, settings, manner, host="127.0.0.1", has_link=False, past=()):
+    def __init__(self, program, settings, manner, host="127.0.0.1", has_link=False, past=(), limits=UNLIMITED,
+                 records=""):
         self.program = program
+        self.settings = settings
+        self.past = past
+        self.has_link = has_link
         self.listens = "goes on with volume 1" if past else "begins volume 1"
         self.folder = tempfile.TemporaryDirectory()
         self.address = (host, free_port(host))
         link = [f'link = "{address_text(host, free_port(host, socket.SOCK_STREAM))}"', 'link_key = "none"']
         rows = settings_rows(manner, "silent" if has_link else "no-binding") + (link if has_link else ["alone = true"])
-        self.text = serve_settings_text(settings, address_text(*self.address), rows)
+        self.text = serve_settings_text(settings, address_text(*self.address), rows, limits)
         (pathlib.Path(self.folder.name) / "settings.toml").write_text(self.text)
-        self.volume = pathlib.Path(self.folder.name) / f"{settings.role}-0000001.journal"
+        self.number = 0
+        self.follow()
         if past:
             self.volume.write_text(journal.write_open(settings.role, past))
-        super().__init__([program, "serve", "--dir", self.folder.name], settings, host)
+        self.past_records = records.split("\n")[:-1]
+        if records:
+            self.records.write_text(records)
+        self.words = [program, "serve", "--dir", self.folder.name]
+        super().__init__(self.words, settings, host)
+
+    def begin_again(self):
+        """Stops it with its volume open, and starts it once more."""
+        self.told("stop")
+        self.wait_for_end()
+        self.errors = tempfile.NamedTemporaryFile()
+        self.process = subprocess.Popen(self.words, stdin=subprocess.DEVNULL, stdout=self.output, stderr=self.errors)
+        self.wait_for(f"goes on with volume {self.number}")
 
     def __exit__(self, *rest):
         super().__exit__(*rest)
         self.folder.cleanup()
 
+    def follow(self):
+        """Takes the next volume for the one that is written."""
+        self.number += 1
+        self.volume = pathlib.Path(self.folder.name) / f"{self.settings.role}-{self.number:07}.journal"
+        self.records = self.volume.with_suffix(".access")
+
+    def told(self, *words):
+        """Tells the daemon something by its control socket."""
+        subprocess.run([self.program, *words, "--dir", self.folder.name], check=True, stdout=subprocess.DEVNULL)
+
     def journal(self):
         """The closed journal of a server that is told to stop."""
-        words = [self.program, "stop", "--close", "--dir", self.folder.name]
-        subprocess.run(words, check=True, stdout=subprocess.DEVNULL)
+        self.told("stop", "--close")
         self.wait_for_end()
         return self.volume.read_text()
 

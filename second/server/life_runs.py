@@ -1,0 +1,109 @@
+"""Single lives under drawn settings, and the scripts: what is told again, limits, and leases that end."""
+
+import random
+import time
+from dataclasses import replace
+
+from . import access, answers
+from .life_draws import (WAITS, LifeDraws, bounds_of, drawn_ages, drawn_ahead, drawn_floor, drawn_life, drawn_limits,
+                         drawn_records, drawn_short_times, drawn_tail, drawn_times, end_bound, half_of_units,
+                         write_past)
+from .limits import NOT_SAID, Limits
+from .lives import Life
+from .manner_draws import drawn_manner
+from .program import Daemon, now
+from .serving import plain_settings
+
+
+def serve_floor_once(program, seed, count, tally):
+    """One life of a server that tells again what it gave not long ago."""
+    source = random.Random(seed)
+    settings = drawn_times(source)
+    told = Limits(renew_floor=drawn_floor(source, settings))
+    floor = told.in_force(settings.life).renew_floor
+    manner = replace(drawn_manner(source), releases_each=True)
+    begun, ahead = now(), drawn_ahead(source, settings)
+    ages = drawn_ages(source, settings, floor, source.choice((0, 3, 20, 60)), ahead)
+    readings = [begun - age for age in ages[-half_of_units(settings):]]
+    host, book, draws = drawn_life(source, settings, readings[0] if readings else begun)
+    write_past(source, book, draws, readings)
+    draws.await_bounds(bounds_of(settings, floor))
+    has_link = source.random() < 0.2
+    past = list(book.lines) if readings else []
+    with Daemon(program, settings, manner, host, has_link, past, told) as daemon:
+        Life(daemon, draws, book, told, tally, manner).run(count)
+    tally["lives by the clock"] += 1
+
+
+def serve_ends_once(program, seed, count, tally):
+    """One life of a server whose leases end meanwhile: those of a past that are nearly over, or short ones."""
+    source = random.Random(seed)
+    is_short = source.random() < 0.2
+    settings = drawn_short_times(source) if is_short else drawn_times(source)
+    told = Limits(renew_floor=source.choice((0, 1, 31_536_000)), units_per_client=source.choice((0, 0, 2)),
+                  units_per_port=source.choice((0, 1, 3)), bind_to_port=source.random() < 0.3)
+    manner = replace(drawn_manner(source), releases_each=True)
+    bound = end_bound(settings)
+    readings = sorted(now() - bound + source.randrange(-100, WAITS[1]) for _ in range(source.choice((3, 20, 60))))
+    readings = readings[:half_of_units(settings)]
+    host, book, draws = drawn_life(source, settings, readings[0])
+    write_past(source, book, draws, readings)
+    draws.await_bounds([bound - 1, bound, bound + 1])
+    draws.pauses = (0, 0, 0.01, 0.03) if is_short else (0,)
+    records = drawn_records(source, book, draws)
+    has_link = source.random() < 0.2
+    past, text = list(book.lines), access.text(book, records)
+    with Daemon(program, settings, manner, host, has_link, past, told, text) as daemon:
+        life = Life(daemon, draws, book, told, tally, manner)
+        life.take_records(records)
+        life.run(count)
+    tally["lives whose leases end"] += 1
+
+
+def drawn_quota_life(source, settings):
+    """A life with a past whose grants have records, some of them."""
+    begun = now()
+    host, book, draws = drawn_life(source, settings, begun, (2, 5, 12, 30), (1, 2, 4, 12))
+    draws.heaps = False
+    count = min(half_of_units(settings), source.choice((0, 3, 10, 20)))
+    write_past(source, book, draws, [begun] * count if count > 1 else [])
+    return host, book, draws, drawn_records(source, book, draws)
+
+
+def serve_limits_once(program, seed, count, tally):
+    """One life of a server whose clients and ports may take little."""
+    source = random.Random(seed)
+    settings = drawn_times(source)
+    told = drawn_limits(source)
+    manner = replace(drawn_manner(source), releases_each=True)
+    host, book, draws, records = drawn_quota_life(source, settings)
+    past = list(book.lines) if book.lines[-1].event[0] == "grant" else []
+    text = access.text(book, records)
+    text += drawn_tail(source, text)
+    with Daemon(program, settings, manner, host, False, past, told, text) as daemon:
+        wait_for_second(told, source)
+        life = Life(daemon, draws, book, told, tally, manner)
+        life.take_records(records)
+        life.run(count)
+    tally["lives with limits"] += 1
+
+
+def serve_scripts(program, tally):
+    """Lives whose datagrams are given: one of a server whose settings name no limit, whose clients ask for what they
+    may have and more; and one of clients that move from one relay port to another."""
+    for told, script in ((NOT_SAID, LifeDraws.up_to_usual_limits), (Limits(units_per_port=1), LifeDraws.moving)):
+        host, book, draws = drawn_life(random.Random(1), plain_settings(), now())
+        with Daemon(program, plain_settings(), answers.PLAIN, host, False, [], told) as daemon:
+            life = Life(daemon, draws, book, told, tally, answers.PLAIN)
+            for octets in script(draws):
+                life.put(octets, "scripted")
+            life.run(0)
+        tally["lives with limits"] += 1
+
+
+def wait_for_second(limits, source):
+    """Waits until a second ends soon, where messages of a second are counted."""
+    left = 1000 - now() % 1000
+    wait = left - source.randrange(20, 200)
+    if limits.client_rate != 0 and wait > 0:
+        time.sleep(wait / 1000)
