@@ -103,13 +103,11 @@ class Life:
             self.fault("the access records of the past are others")
 
     def take_records(self, records):
-        """What a start takes of a volume's records: the port of each, in their order; those that name none it passes
-        over."""
+        """What a start takes of a volume's records: the port of each, in their order, or that none is named."""
         self.noted = list(records)
         for number, port in records:
             event = self.book.lines[number - 1].event
-            if named(port) is not None:
-                self.policy.granted(event[3] if event[0] == "grant" else event[1], port)
+            self.policy.granted(event[3] if event[0] == "grant" else event[1], port)
 
     def begin_again(self):
         """Has the daemon stop and begin again, by its volume and records alone; one with a partner waits for it."""
