@@ -1,7 +1,8 @@
 //! The books that lines speak of.
 
 use crate::fault::Fault;
-use link_talk::{OwnBook, Talk};
+use link_talk::Talk;
+use own_book::OwnBook;
 use server_book::{Book, Settings};
 use std::alloc::Global;
 

@@ -2,10 +2,11 @@
 
 use crate::fault::Fault;
 use crate::writing::{write_json, write_out};
-use crate::zones::zone_named;
+use crate::zones::{style_of, zone_named};
 use archive_desk::{Question, Told, answer, failure};
+use archive_files::FilesError;
 use attribution_desk::{Command, UsageError};
-use desk_reports::{Style, explain_files, holder_in_files};
+use desk_reports::{explain_files, holder_in_files};
 use desk_words::{JoinQuery, Settings, Telling};
 use join_desk::join_files;
 use journal_paths::{JournalPaths, PathError};
@@ -65,17 +66,26 @@ fn warn_of_silent(rt: &HostRuntime, files: &JournalPaths) {
     }
 }
 
-/// What is told of a question over files, or of why these answer nothing.
-fn told_of(
+/// The files that are asked, with a warning of sockets at which no server answered.
+fn files_asked<'a>(
+    rt: &'a HostRuntime,
+    net: &impl Net,
+    asked: &FilesAsked,
+) -> Result<JournalPaths<'a>, Fault> {
+    let files = files_at(rt, net, asked.paths)?;
+    warn_of_silent(rt, &files);
+    Ok(files)
+}
+
+/// What is told of a question over files, or why these answer nothing.
+fn told_or_why(
     rt: &HostRuntime,
-    threads: &(impl Threads + Wait + Sync),
     files: &JournalPaths,
-    question: &Question,
+    told: Result<Told, FilesError>,
 ) -> Result<Told, Fault> {
-    let names = files.paths();
-    match answer(threads, rt.alloc(), files, names, question) {
+    match told {
         Ok(told) => Ok(told),
-        Err(error) => failure(rt.alloc(), names, &error).map_err(|_| Fault::memory()),
+        Err(error) => failure(rt.alloc(), files.paths(), &error).map_err(|_| Fault::memory()),
     }
 }
 
@@ -89,9 +99,9 @@ fn answer_of(
     let Some(question) = question_of(command, asked.certificates) else {
         return Err(Fault::Usage(UsageError::Usage));
     };
-    let files = files_at(rt, handles, asked.paths)?;
-    warn_of_silent(rt, &files);
-    told_of(rt, handles, &files, &question)
+    let files = files_asked(rt, handles, asked)?;
+    let told = answer(handles, rt.alloc(), &files, files.paths(), &question);
+    told_or_why(rt, &files, told)
 }
 
 /// Answers a command.
@@ -126,30 +136,18 @@ pub(crate) fn explained(
     asked: &FilesAsked,
 ) -> Result<u8, Fault> {
     let zone = zone_named(rt, telling.zone)?;
-    let style = Style {
-        form: telling.form,
-        zone: zone.as_ref(),
-    };
-    let files = files_at(rt, handles, asked.paths)?;
-    warn_of_silent(rt, &files);
-    let names = files.paths();
+    let files = files_asked(rt, handles, asked)?;
     let told = explain_files(
         handles,
         rt.alloc(),
         &files,
-        names,
+        files.paths(),
         asked.certificates,
         skew,
         transit,
-        &style,
+        &style_of(telling, &zone),
     );
-    match told {
-        Ok(told) => write_out(rt, &told),
-        Err(error) => {
-            let told = failure(rt.alloc(), names, &error).map_err(|_| Fault::memory())?;
-            write_out(rt, &told)
-        }
-    }
+    write_out(rt, &told_or_why(rt, &files, told)?)
 }
 
 /// Who held a prefix, and a report on that.
@@ -162,21 +160,18 @@ pub(crate) fn holder_explained(
     asked: &FilesAsked,
 ) -> Result<u8, Fault> {
     let zone = zone_named(rt, telling.zone)?;
-    let style = Style {
-        form: telling.form,
-        zone: zone.as_ref(),
-    };
-    let files = files_at(rt, handles, asked.paths)?;
-    warn_of_silent(rt, &files);
-    let names = files.paths();
-    let told = holder_in_files(handles, rt.alloc(), &files, names, query, settings, &style);
-    match told {
-        Ok(told) => write_out(rt, &told),
-        Err(error) => {
-            let told = failure(rt.alloc(), names, &error).map_err(|_| Fault::memory())?;
-            write_out(rt, &told)
-        }
-    }
+    let files = files_asked(rt, handles, asked)?;
+    let style = style_of(telling, &zone);
+    let told = holder_in_files(
+        handles,
+        rt.alloc(),
+        &files,
+        files.paths(),
+        query,
+        settings,
+        &style,
+    );
+    write_out(rt, &told_or_why(rt, &files, told)?)
 }
 
 /// Volumes of a side put together as one journal.
@@ -186,14 +181,9 @@ pub(crate) fn joined(
     query: &JoinQuery,
     asked: &FilesAsked,
 ) -> Result<u8, Fault> {
-    let files = files_at(rt, net, asked.paths)?;
-    warn_of_silent(rt, &files);
-    let names = files.paths();
-    let told = match join_files(rt.alloc(), &files, names, query) {
-        Ok(told) => told,
-        Err(error) => failure(rt.alloc(), names, &error).map_err(|_| Fault::memory())?,
-    };
-    write_out(rt, &told)
+    let files = files_asked(rt, net, asked)?;
+    let told = join_files(rt.alloc(), &files, files.paths(), query);
+    write_out(rt, &told_or_why(rt, &files, told)?)
 }
 
 /// The octets of a file. `Path` where it can't be read.

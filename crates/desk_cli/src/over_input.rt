@@ -6,11 +6,11 @@ ghost use Rattle.journal_text.specs.Closed.{IsClosed};
 
 use crate::fault::Fault;
 use crate::writing::{write_json, write_out};
-use crate::zones::zone_named;
+use crate::zones::{style_of, zone_named};
 use archive_desk::Told;
 use attribution_desk::{Command, DeskError, Watched, run};
 use desk_intake::{Intake, PairIntake, ReadInput, ReadPair, take_all};
-use desk_reports::{Style, explain_told, holder_told};
+use desk_reports::{explain_told, holder_told};
 use desk_words::{Settings, Telling};
 use journal_text::{text_gives_what_it_spells, written_is_closed};
 use lead_time::{Skew, Transit};
@@ -87,14 +87,7 @@ pub(crate) fn explained(
     telling: &Telling,
 ) -> Result<u8, Fault> {
     let zone = zone_named(rt, telling.zone)?;
-    let style = Style {
-        form: telling.form,
-        zone: zone.as_ref(),
-    };
-    let input = match input_of(rt, threads) {
-        Ok(input) => input,
-        Err(error) => return Err(Fault::Desk(error)),
-    };
+    let input = input_of(rt, threads).map_err(Fault::Desk)?;
     let pair = ReadPair {
         primary: input.primary,
         secondary: input.secondary,
@@ -106,10 +99,9 @@ pub(crate) fn explained(
         &input.rest,
         skew,
         transit,
-        &style,
+        &style_of(telling, &zone),
     );
-    let told = told.map_err(Fault::Desk)?;
-    write_out(rt, &told)
+    write_out(rt, &told.map_err(Fault::Desk)?)
 }
 
 /// Who held a prefix, and a report on that.
@@ -121,16 +113,8 @@ pub(crate) fn holder_explained(
     telling: &Telling,
 ) -> Result<u8, Fault> {
     let zone = zone_named(rt, telling.zone)?;
-    let style = Style {
-        form: telling.form,
-        zone: zone.as_ref(),
-    };
-    let pair = match pair_of(rt, threads) {
-        Ok(pair) => pair,
-        Err(error) => return Err(Fault::Desk(error)),
-    };
-    let told = holder_told(threads, rt.alloc(), &pair, query, settings, &style).map_err(
-        Fault::Desk,
-    )?;
-    write_out(rt, &told)
+    let pair = pair_of(rt, threads).map_err(Fault::Desk)?;
+    let style = style_of(telling, &zone);
+    let told = holder_told(threads, rt.alloc(), &pair, query, settings, &style);
+    write_out(rt, &told.map_err(Fault::Desk)?)
 }

@@ -1,6 +1,8 @@
 //! Time zones, by the system's zone files.
 
 use crate::fault::Fault;
+use desk_reports::Style;
+use desk_words::Telling;
 use std::alloc::Global;
 use std::fs;
 use std::path::Path;
@@ -41,5 +43,13 @@ pub(crate) fn zone_named(rt: &HostRuntime, name: Option<&str>) -> Result<Option<
         Ok(zone) => Ok(Some(zone)),
         Err(ZoneError::Memory) => Err(Fault::memory()),
         Err(ZoneError::NoZone) => Err(Fault::zone(rt.alloc(), name)),
+    }
+}
+
+/// How a report is told, by the zone that was found.
+pub(crate) fn style_of<'a>(telling: &Telling, zone: &'a Option<ZoneFile>) -> Style<'a> {
+    Style {
+        form: telling.form,
+        zone: zone.as_ref(),
     }
 }

@@ -115,7 +115,6 @@ pub fn answer_data(alloc: Global, command: &Command, told: &Told) -> Result<Vec<
     for line in text.split(|octet| *octet == b'\n') {
         parts.take(alloc, line)?;
     }
-    let notes = lines_of(alloc, &told.notes)?;
     let Parts {
         lines,
         holder,
@@ -125,18 +124,16 @@ pub fn answer_data(alloc: Global, command: &Command, told: &Told) -> Result<Vec<
         certificate: _certificate,
         access,
     } = parts;
-    let value = Object::new(alloc)
-        .with("command", name_of(command))?
-        .with("status", told.status)?
-        .with("lines", Value::Array(lines))?
-        .with("holder", holder)?
-        .with("from", from)?
-        .with("to", to)?
-        .with("certificates", Value::Array(certificates))?
-        .with("access", Value::Array(access))?
-        .with("notes", notes)?
-        .into_value();
-    let mut text = value.to_string(alloc)?;
-    text.push('\n')?;
-    Ok(text.into_bytes())
+    let line = Object::new(alloc)
+        .with("command", name_of(command))
+        .with("status", told.status)
+        .with("lines", Value::Array(lines))
+        .with("holder", holder)
+        .with("from", from)
+        .with("to", to)
+        .with("certificates", Value::Array(certificates))
+        .with("access", Value::Array(access))
+        .with_made("notes", lines_of(alloc, &told.notes))
+        .into_line()?;
+    Ok(line.into_bytes())
 }

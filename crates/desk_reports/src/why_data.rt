@@ -2,19 +2,19 @@
 
 use crate::holders::Reasons;
 use attribution::Lasting;
-use binding_rules::Role;
+use evidence_report::Mark;
 use lead_time::Reading;
 use near_leases::{AtMoment, NearLease, WhyNobody, begun_by, ends_by, lasts_from, may_begin};
 use plain_search::HolderQuery;
-use report_data::{Object, association_of, client_of, line_of, prefix_of, text_of, time_of};
+use report_data::{
+    Object, association_of, client_of, line_of, prefix_of, side_of, text_of, time_of,
+};
 use serde_json::Value;
 use std::alloc::{AllocError, Global};
 
-fn side_of(side: Role) -> &'static str {
-    match side {
-        Role::Primary => "A",
-        Role::Secondary => "B",
-    }
+/// Why nobody is named, with what is told of it so far.
+fn reason(alloc: Global, name: &'static str) -> Object {
+    Object::new(alloc).with("reason", name)
 }
 
 fn why_of(alloc: Global, why: &WhyNobody) -> Result<Value, AllocError> {
@@ -23,24 +23,22 @@ fn why_of(alloc: Global, why: &WhyNobody) -> Result<Value, AllocError> {
             side,
             needed,
             closed,
-        } => Ok(
-            Object::new(alloc)
-                .with("reason", "past_end")?
-                .with("side", side_of(*side))?
-                .with("needed", time_of(alloc, *needed)?)?
-                .with("closed", time_of(alloc, closed.milliseconds())?)?
-                .into_value(),
-        ),
-        WhyNobody::BeforeOpen { side, needed } => Ok(
-            Object::new(alloc)
-                .with("reason", "before_open")?
-                .with("side", side_of(*side))?
-                .with("needed", time_of(alloc, *needed)?)?
-                .into_value(),
-        ),
-        WhyNobody::Nobody => Ok(Object::new(alloc).with("reason", "nobody")?.into_value()),
-        WhyNobody::NotShown => Ok(Object::new(alloc).with("reason", "not_shown")?.into_value()),
-        WhyNobody::Several => Ok(Object::new(alloc).with("reason", "several")?.into_value()),
+        } => {
+            reason(alloc, "past_end")
+                .with("side", side_of(*side))
+                .with_made("needed", time_of(alloc, *needed))
+                .with_made("closed", time_of(alloc, closed.milliseconds()))
+                .into_value()
+        }
+        WhyNobody::BeforeOpen { side, needed } => {
+            reason(alloc, "before_open")
+                .with("side", side_of(*side))
+                .with_made("needed", time_of(alloc, *needed))
+                .into_value()
+        }
+        WhyNobody::Nobody => reason(alloc, "nobody").into_value(),
+        WhyNobody::NotShown => reason(alloc, "not_shown").into_value(),
+        WhyNobody::Several => reason(alloc, "several").into_value(),
     }
 }
 
@@ -51,105 +49,97 @@ fn moment_or_null(alloc: Global, moment: Option<u64>) -> Result<Value, AllocErro
     }
 }
 
-fn state_of(alloc: Global, state: &AtMoment, at: Reading) -> Result<Value, AllocError> {
+/// What a lease was at the moment asked of, with what is told of it so far.
+fn state(alloc: Global, name: &'static str) -> Object {
+    Object::new(alloc).with("is", name)
+}
+
+/// A lease that was given back, by its release.
+fn given_back(alloc: Global, name: &'static str, release: &Mark) -> Result<Value, AllocError> {
+    state(alloc, name)
+        .with_made("release", line_of(alloc, release.at))
+        .into_value()
+}
+
+/// A lease of which a moment is shown that lies so many milliseconds past the moment asked of, or before it.
+fn falls_short(
+    alloc: Global,
+    name: &'static str,
+    moment: (&'static str, u64),
+    short: u64,
+) -> Result<Value, AllocError> {
+    state(alloc, name)
+        .with_made(moment.0, time_of(alloc, moment.1))
+        .with("short_ms", short)
+        .into_value()
+}
+
+fn state_of(alloc: Global, found: &AtMoment, at: Reading) -> Result<Value, AllocError> {
     let at = at.milliseconds();
-    match state {
-        AtMoment::NotBegun => Ok(Object::new(alloc).with("is", "not_begun")?.into_value()),
-        AtMoment::Ended(end) => Ok(
-            Object::new(alloc)
-                .with("is", "ended")?
-                .with("by", time_of(alloc, *end)?)?
-                .into_value(),
-        ),
-        AtMoment::GivenBack(release) => {
-            Ok(
-                Object::new(alloc)
-                    .with("is", "given_back")?
-                    .with("release", line_of(alloc, release.at)?)?
-                    .into_value(),
-            )
+    match found {
+        AtMoment::NotBegun => state(alloc, "not_begun").into_value(),
+        AtMoment::Ended(end) => {
+            state(alloc, "ended")
+                .with_made("by", time_of(alloc, *end))
+                .into_value()
         }
-        AtMoment::Carried => Ok(Object::new(alloc).with("is", "carried")?.into_value()),
-        AtMoment::Beginning(begun) => Ok(
-            Object::new(alloc)
-                .with("is", "beginning")?
-                .with("begun_by", time_of(alloc, *begun)?)?
-                .with("short_ms", begun.saturating_sub(at))?
-                .into_value(),
-        ),
-        AtMoment::Ending(end) => Ok(
-            Object::new(alloc)
-                .with("is", "ending")?
-                .with("lasts_to", time_of(alloc, *end)?)?
-                .with("short_ms", (at + 1).saturating_sub(*end))?
-                .into_value(),
-        ),
-        AtMoment::MayBeGivenBack(release) => {
-            Ok(
-                Object::new(alloc)
-                    .with("is", "may_be_given_back")?
-                    .with("release", line_of(alloc, release.at)?)?
-                    .into_value(),
-            )
+        AtMoment::GivenBack(release) => given_back(alloc, "given_back", release),
+        AtMoment::Carried => state(alloc, "carried").into_value(),
+        AtMoment::Beginning(begun) => {
+            let short = begun.saturating_sub(at);
+            falls_short(alloc, "beginning", ("begun_by", *begun), short)
         }
-        AtMoment::Shown => Ok(Object::new(alloc).with("is", "shown")?.into_value()),
+        AtMoment::Ending(end) => {
+            let short = (at + 1).saturating_sub(*end);
+            falls_short(alloc, "ending", ("lasts_to", *end), short)
+        }
+        AtMoment::MayBeGivenBack(release) => given_back(alloc, "may_be_given_back", release),
+        AtMoment::Shown => state(alloc, "shown").into_value(),
     }
 }
 
 /// From when to when a lease can be shown; null where it is carried.
 fn shown_of(alloc: Global, lease: &NearLease, query: &HolderQuery) -> Result<Value, AllocError> {
-    match lease.delegation.lasting {
-        Lasting::For(valid) => Ok(
-            Object::new(alloc)
-                .with(
-                    "from",
-                    time_of(
-                        alloc,
-                        begun_by(lease.line.reading, query.skew, query.transit),
-                    )?,
-                )?
-                .with(
-                    "to",
-                    moment_or_null(alloc, lasts_from(lease.line.reading, valid, query.skew))?,
-                )?
-                .into_value(),
-        ),
-        Lasting::Until(_) => Ok(Value::Null),
-    }
+    let Lasting::For(valid) = lease.delegation.lasting else {
+        return Ok(Value::Null);
+    };
+    let reading = lease.line.reading;
+    let from = begun_by(reading, query.skew, query.transit);
+    Object::new(alloc)
+        .with_made("from", time_of(alloc, from))
+        .with_made(
+            "to",
+            moment_or_null(alloc, lasts_from(reading, valid, query.skew)),
+        )
+        .into_value()
 }
 
 /// From when to when it may have been.
 fn possible_of(alloc: Global, lease: &NearLease, query: &HolderQuery) -> Result<Value, AllocError> {
     let lasting = &lease.delegation.lasting;
-    let end = ends_by(lease.line.reading, lasting, query.skew, query.transit);
+    let reading = lease.line.reading;
     let from = match lasting {
-        Lasting::For(_) => time_of(alloc, may_begin(lease.line.reading, query.skew))?,
-        Lasting::Until(_) => Value::Null,
+        Lasting::For(_) => Some(may_begin(reading, query.skew)),
+        Lasting::Until(_) => None,
     };
-    Ok(
-        Object::new(alloc)
-            .with("from", from)?
-            .with("to", moment_or_null(alloc, end)?)?
-            .into_value(),
-    )
+    let to = ends_by(reading, lasting, query.skew, query.transit);
+    Object::new(alloc)
+        .with_made("from", moment_or_null(alloc, from))
+        .with_made("to", moment_or_null(alloc, to))
+        .into_value()
 }
 
 fn lease_of(alloc: Global, lease: &NearLease, query: &HolderQuery) -> Result<Value, AllocError> {
-    Ok(
-        Object::new(alloc)
-            .with("line", line_of(alloc, lease.line.at)?)?
-            .with(
-                "reading",
-                time_of(alloc, lease.line.reading.milliseconds())?,
-            )?
-            .with("client", client_of(alloc, &lease.delegation.client)?)?
-            .with("iaid", association_of(alloc, lease.delegation.iaid)?)?
-            .with("prefix", prefix_of(alloc, &lease.delegation.prefix)?)?
-            .with("shown", shown_of(alloc, lease, query)?)?
-            .with("possible", possible_of(alloc, lease, query)?)?
-            .with("at_the_moment", state_of(alloc, &lease.state, query.at)?)?
-            .into_value(),
-    )
+    Object::new(alloc)
+        .with_made("line", line_of(alloc, lease.line.at))
+        .with_made("reading", time_of(alloc, lease.line.reading.milliseconds()))
+        .with_made("client", client_of(alloc, &lease.delegation.client))
+        .with_made("iaid", association_of(alloc, lease.delegation.iaid))
+        .with_made("prefix", prefix_of(alloc, &lease.delegation.prefix))
+        .with_made("shown", shown_of(alloc, lease, query))
+        .with_made("possible", possible_of(alloc, lease, query))
+        .with_made("at_the_moment", state_of(alloc, &lease.state, query.at))
+        .into_value()
 }
 
 fn leases_of(
@@ -173,19 +163,17 @@ pub fn why_data(
 ) -> Result<Vec<u8>, AllocError> {
     let answer = line.strip_suffix(b"\n").unwrap_or(line);
     let (why, leases) = match reasons {
-        Some(Reasons { why, leases }) => (why_of(alloc, why)?, leases_of(alloc, leases, query)?),
-        None => (Value::Null, Value::Null),
+        Some(Reasons { why, leases }) => (why_of(alloc, why), leases_of(alloc, leases, query)),
+        None => (Ok(Value::Null), Ok(Value::Null)),
     };
-    let value = Object::new(alloc)
-        .with("answer", text_of(alloc, answer)?)?
-        .with("prefix", prefix_of(alloc, &query.prefix)?)?
-        .with("at", time_of(alloc, query.at.milliseconds())?)?
-        .with("skew_ms", query.skew.milliseconds())?
-        .with("transit_ms", query.transit.milliseconds())?
-        .with("why", why)?
-        .with("leases", leases)?
-        .into_value();
-    let mut text = value.to_string(alloc)?;
-    text.push('\n')?;
-    Ok(text.into_bytes())
+    let line = Object::new(alloc)
+        .with_made("answer", text_of(alloc, answer))
+        .with_made("prefix", prefix_of(alloc, &query.prefix))
+        .with_made("at", time_of(alloc, query.at.milliseconds()))
+        .with("skew_ms", query.skew.milliseconds())
+        .with("transit_ms", query.transit.milliseconds())
+        .with_made("why", why)
+        .with_made("leases", leases)
+        .into_line()?;
+    Ok(line.into_bytes())
 }

@@ -4,7 +4,7 @@
 //! to the book, and hands out frames, each frame of a message with the number of the line that sends it. It joins the
 //! two ends, takes the partner's messages, ends leases that have ended, shares units, and sends replies and updates; a
 //! turn costs what there is to do. The book stands behind the trait [`PairBook`], which [`LockedBook`] is by a shared
-//! book, and [`Alone`] by one that nobody else serves.
+//! book.
 //!
 //! The definitions stand in specs/: which messages the lines take and which frames are handed out (Receipts, Handed,
 //! Talking), and both of one turn (Turning). So **each message that was handed out stands in the journal, by the number
@@ -21,7 +21,6 @@
 //! ```
 #![tactic(auto)]
 
-mod alone;
 mod book;
 mod came;
 mod duties;
@@ -39,7 +38,6 @@ mod stage;
 mod taking;
 mod talk;
 
-pub use alone::{Alone, OwnBook};
 pub use book::{PairBook, Receipts};
 pub use came::Came;
 pub use error::TalkError;

@@ -7,9 +7,10 @@ use crate::servers::{
 };
 use binding_rules::Role;
 use lead_time::Reading;
-use link_talk::{Alone, Came, OwnBook, Talk, TalkError};
+use link_talk::{Came, Talk, TalkError};
 use locked_book::ServeError;
 use node_threads::WatchedBook;
+use own_book::{Alone, OwnBook};
 use prefix_range::read_text;
 use server_book::{BookError, Order, Settings};
 use std::alloc::Global;

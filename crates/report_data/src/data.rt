@@ -15,18 +15,12 @@ use serde_json::Value;
 use std::alloc::{AllocError, Global};
 
 fn question_of(alloc: Global, certificate: &Certificate) -> Result<Value, AllocError> {
-    let client = client_of(alloc, &certificate.holder)?;
-    let prefix = prefix_of(alloc, &certificate.prefix)?;
-    let from = time_of(alloc, certificate.from.milliseconds())?;
-    let to = time_of(alloc, certificate.to.milliseconds())?;
-    Ok(
-        Object::new(alloc)
-            .with("client", client)?
-            .with("prefix", prefix)?
-            .with("from", from)?
-            .with("to", to)?
-            .into_value(),
-    )
+    Object::new(alloc)
+        .with_made("client", client_of(alloc, &certificate.holder))
+        .with_made("prefix", prefix_of(alloc, &certificate.prefix))
+        .with_made("from", time_of(alloc, certificate.from.milliseconds()))
+        .with_made("to", time_of(alloc, certificate.to.milliseconds()))
+        .into_value()
 }
 
 /// A reading, or null.
@@ -38,15 +32,11 @@ fn reading_of(alloc: Global, reading: Option<Reading>) -> Result<Value, AllocErr
 }
 
 fn side_of(alloc: Global, side: &SideReport) -> Result<Value, AllocError> {
-    let opened = reading_of(alloc, side.opened)?;
-    let closed = time_of(alloc, side.closed.milliseconds())?;
-    Ok(
-        Object::new(alloc)
-            .with("volume", side.volume)?
-            .with("opened", opened)?
-            .with("closed", closed)?
-            .into_value(),
-    )
+    Object::new(alloc)
+        .with("volume", side.volume)
+        .with_made("opened", reading_of(alloc, side.opened))
+        .with_made("closed", time_of(alloc, side.closed.milliseconds()))
+        .into_value()
 }
 
 /// What a line says behind its number, without the space before it.
@@ -60,16 +50,11 @@ fn entry_of(alloc: Global, cited: &Cited) -> Result<Value, AllocError> {
 }
 
 fn cited_of(alloc: Global, cited: &Cited) -> Result<Value, AllocError> {
-    let line = line_of(alloc, cited.at)?;
-    let reading = time_of(alloc, cited.line.reading.milliseconds())?;
-    let text = entry_of(alloc, cited)?;
-    Ok(
-        Object::new(alloc)
-            .with("line", line)?
-            .with("reading", reading)?
-            .with("text", text)?
-            .into_value(),
-    )
+    Object::new(alloc)
+        .with_made("line", line_of(alloc, cited.at))
+        .with_made("reading", time_of(alloc, cited.line.reading.milliseconds()))
+        .with_made("text", entry_of(alloc, cited))
+        .into_value()
 }
 
 fn lines_of(alloc: Global, cited: &[Cited]) -> Result<Value, AllocError> {
@@ -81,24 +66,16 @@ fn lines_of(alloc: Global, cited: &[Cited]) -> Result<Value, AllocError> {
 }
 
 fn report_of(alloc: Global, report: &Report<'_>) -> Result<Value, AllocError> {
-    let question = question_of(alloc, report.certificate)?;
-    let primary = side_of(alloc, &report.primary)?;
-    let secondary = side_of(alloc, &report.secondary)?;
-    let pieces = pieces_of(alloc, &report.pieces)?;
-    let foreign = foreign_of(alloc, &report.foreign)?;
-    let lines = lines_of(alloc, &report.cited)?;
-    Ok(
-        Object::new(alloc)
-            .with("question", question)?
-            .with("skew_ms", report.skew.milliseconds())?
-            .with("transit_ms", report.transit.milliseconds())?
-            .with("journal_a", primary)?
-            .with("journal_b", secondary)?
-            .with("pieces", pieces)?
-            .with("foreign", foreign)?
-            .with("lines", lines)?
-            .into_value(),
-    )
+    Object::new(alloc)
+        .with_made("question", question_of(alloc, report.certificate))
+        .with("skew_ms", report.skew.milliseconds())
+        .with("transit_ms", report.transit.milliseconds())
+        .with_made("journal_a", side_of(alloc, &report.primary))
+        .with_made("journal_b", side_of(alloc, &report.secondary))
+        .with_made("pieces", pieces_of(alloc, &report.pieces))
+        .with_made("foreign", foreign_of(alloc, &report.foreign))
+        .with_made("lines", lines_of(alloc, &report.cited))
+        .into_value()
 }
 
 /// What a certificate shows, or null.
@@ -125,17 +102,10 @@ pub fn data_of(
     explanation: &Explanation<'_>,
     certificate: &[u8],
 ) -> Result<String, AllocError> {
-    let verdict = verdict_of(alloc, explanation)?;
-    let failure = failure_of(alloc, &explanation.failure)?;
-    let report = shown_of(alloc, &explanation.report)?;
-    let certificate = text_of(alloc, certificate)?;
-    let value = Object::new(alloc)
-        .with("verdict", verdict)?
-        .with("failure", failure)?
-        .with("report", report)?
-        .with("certificate", certificate)?
-        .into_value();
-    let mut text = value.to_string(alloc)?;
-    text.push('\n')?;
-    Ok(text)
+    Object::new(alloc)
+        .with_made("verdict", verdict_of(alloc, explanation))
+        .with_made("failure", failure_of(alloc, &explanation.failure))
+        .with_made("report", shown_of(alloc, &explanation.report))
+        .with_made("certificate", text_of(alloc, certificate))
+        .into_line()
 }

@@ -6,12 +6,18 @@ use crate::values::{client_of, line_of, prefix_of, side_of, time_of};
 use attribution::Delegation;
 use binding_rules::Role;
 use claims::Ref;
-use client_id::Duid;
 use evidence_report::{Failure, ForeignFault, PieceFault};
 use lead_time::Reading;
-use prefix_range::Prefix;
 use serde_json::Value;
 use std::alloc::{AllocError, Global};
+
+/// A moment, or null.
+fn moment_of(alloc: Global, moment: Option<Reading>) -> Result<Value, AllocError> {
+    match moment {
+        Some(moment) => time_of(alloc, moment.milliseconds()),
+        None => Ok(Value::Null),
+    }
+}
 
 fn gap_of(
     alloc: Global,
@@ -20,109 +26,83 @@ fn gap_of(
     piece: &Option<(Reading, Reading)>,
 ) -> Result<Value, AllocError> {
     let (begins, ends) = match piece {
-        Some((begins, ends)) => {
-            (
-                time_of(alloc, begins.milliseconds())?,
-                time_of(alloc, ends.milliseconds())?,
-            )
-        }
-        None => (Value::Null, Value::Null),
+        Some((begins, ends)) => (Some(*begins), Some(*ends)),
+        None => (None, None),
     };
-    Ok(
-        Object::new(alloc)
-            .with("condition", "C6")?
-            .with("piece", number)?
-            .with("must_begin", time_of(alloc, must.milliseconds())?)?
-            .with("begins", begins)?
-            .with("ends", ends)?
-            .into_value(),
-    )
+    Object::new(alloc)
+        .with("condition", "C6")
+        .with("piece", number)
+        .with_made("must_begin", time_of(alloc, must.milliseconds()))
+        .with_made("begins", moment_of(alloc, begins))
+        .with_made("ends", moment_of(alloc, ends))
+        .into_value()
 }
 
-/// A fault of a piece that has no numbers.
-fn named_piece(alloc: Global, number: u64, name: &'static str) -> Result<Value, AllocError> {
-    Ok(
-        Object::new(alloc)
-            .with("condition", "C7")?
-            .with("piece", number)?
-            .with("fault", name)?
-            .into_value(),
-    )
+/// A fault of a piece, with what is told of it so far.
+fn piece_fault(alloc: Global, number: u64, name: &'static str) -> Object {
+    Object::new(alloc)
+        .with("condition", "C7")
+        .with("piece", number)
+        .with("fault", name)
 }
 
-fn other_client(alloc: Global, number: u64, client: &Duid) -> Result<Value, AllocError> {
-    let client = client_of(alloc, client)?;
-    Ok(
-        Object::new(alloc)
-            .with("condition", "C7")?
-            .with("piece", number)?
-            .with("fault", "other_client")?
-            .with("client", client)?
-            .into_value(),
-    )
-}
-
-fn other_prefix(alloc: Global, number: u64, prefix: &Prefix) -> Result<Value, AllocError> {
-    let prefix = prefix_of(alloc, prefix)?;
-    Ok(
-        Object::new(alloc)
-            .with("condition", "C7")?
-            .with("piece", number)?
-            .with("fault", "other_prefix")?
-            .with("prefix", prefix)?
-            .into_value(),
-    )
-}
-
-fn begun_late(alloc: Global, number: u64, begun: u64, from: u64) -> Result<Value, AllocError> {
-    let begun = time_of(alloc, begun)?;
-    let from = time_of(alloc, from)?;
-    Ok(
-        Object::new(alloc)
-            .with("condition", "C7")?
-            .with("piece", number)?
-            .with("fault", "begun_late")?
-            .with("begun", begun)?
-            .with("from", from)?
-            .into_value(),
-    )
-}
-
-fn ends_early(alloc: Global, number: u64, needed: u64, shown: u64) -> Result<Value, AllocError> {
-    let needed = time_of(alloc, needed)?;
-    let shown = time_of(alloc, shown)?;
-    Ok(
-        Object::new(alloc)
-            .with("condition", "C7")?
-            .with("piece", number)?
-            .with("fault", "ends_early")?
-            .with("needed", needed)?
-            .with("shown", shown)?
-            .into_value(),
-    )
+/// A fault of a piece, with the two moments that were compared, by their names.
+fn compared_piece(
+    alloc: Global,
+    number: u64,
+    name: &'static str,
+    later: (&'static str, u64),
+    earlier: (&'static str, u64),
+) -> Result<Value, AllocError> {
+    piece_fault(alloc, number, name)
+        .with_made(later.0, time_of(alloc, later.1))
+        .with_made(earlier.0, time_of(alloc, earlier.1))
+        .into_value()
 }
 
 fn piece_fault_of(alloc: Global, number: u64, fault: &PieceFault) -> Result<Value, AllocError> {
     match fault {
-        PieceFault::NoGrant => named_piece(alloc, number, "no_grant"),
-        PieceFault::OtherClient(client) => other_client(alloc, number, client),
-        PieceFault::OtherPrefix(prefix) => other_prefix(alloc, number, prefix),
-        PieceFault::NoChainFrom => named_piece(alloc, number, "no_chain_from"),
-        PieceFault::BegunLate { begun, from } => begun_late(alloc, number, *begun, *from),
-        PieceFault::NoChainTo => named_piece(alloc, number, "no_chain_to"),
-        PieceFault::EndsEarly { needed, shown } => ends_early(alloc, number, *needed, *shown),
+        PieceFault::NoGrant => piece_fault(alloc, number, "no_grant").into_value(),
+        PieceFault::OtherClient(client) => {
+            piece_fault(alloc, number, "other_client")
+                .with_made("client", client_of(alloc, client))
+                .into_value()
+        }
+        PieceFault::OtherPrefix(prefix) => {
+            piece_fault(alloc, number, "other_prefix")
+                .with_made("prefix", prefix_of(alloc, prefix))
+                .into_value()
+        }
+        PieceFault::NoChainFrom => piece_fault(alloc, number, "no_chain_from").into_value(),
+        PieceFault::BegunLate { begun, from } => compared_piece(
+            alloc,
+            number,
+            "begun_late",
+            ("begun", *begun),
+            ("from", *from),
+        ),
+        PieceFault::NoChainTo => piece_fault(alloc, number, "no_chain_to").into_value(),
+        PieceFault::EndsEarly { needed, shown } => compared_piece(
+            alloc,
+            number,
+            "ends_early",
+            ("needed", *needed),
+            ("shown", *shown),
+        ),
     }
+}
+
+/// A foreign entry's fault, with what is told of it so far.
+fn line_fault(alloc: Global, at: Ref, name: &'static str) -> Object {
+    Object::new(alloc)
+        .with("condition", "C10")
+        .with_made("line", line_of(alloc, at))
+        .with("fault", name)
 }
 
 /// A foreign entry's fault that has no numbers.
 fn named_fault(alloc: Global, at: Ref, name: &'static str) -> Result<Value, AllocError> {
-    Ok(
-        Object::new(alloc)
-            .with("condition", "C10")?
-            .with("line", line_of(alloc, at)?)?
-            .with("fault", name)?
-            .into_value(),
-    )
+    line_fault(alloc, at, name).into_value()
 }
 
 /// A foreign entry's fault, with the two moments that were compared.
@@ -133,15 +113,10 @@ fn compared_fault(
     later: u64,
     earlier: u64,
 ) -> Result<Value, AllocError> {
-    Ok(
-        Object::new(alloc)
-            .with("condition", "C10")?
-            .with("line", line_of(alloc, at)?)?
-            .with("fault", name)?
-            .with("later", time_of(alloc, later)?)?
-            .with("earlier", time_of(alloc, earlier)?)?
-            .into_value(),
-    )
+    line_fault(alloc, at, name)
+        .with_made("later", time_of(alloc, later))
+        .with_made("earlier", time_of(alloc, earlier))
+        .into_value()
 }
 
 fn foreign_fault_of(alloc: Global, at: Ref, fault: &ForeignFault) -> Result<Value, AllocError> {
@@ -165,74 +140,53 @@ fn foreign_fault_of(alloc: Global, at: Ref, fault: &ForeignFault) -> Result<Valu
 }
 
 fn empty_interval(alloc: Global, from: Reading, to: Reading) -> Result<Value, AllocError> {
-    let from = time_of(alloc, from.milliseconds())?;
-    let to = time_of(alloc, to.milliseconds())?;
-    Ok(
-        Object::new(alloc)
-            .with("condition", "C4")?
-            .with("from", from)?
-            .with("to", to)?
-            .into_value(),
-    )
+    Object::new(alloc)
+        .with("condition", "C4")
+        .with_made("from", time_of(alloc, from.milliseconds()))
+        .with_made("to", time_of(alloc, to.milliseconds()))
+        .into_value()
 }
 
 fn past_end(alloc: Global, side: Role, needed: u64, closed: Reading) -> Result<Value, AllocError> {
-    let needed = time_of(alloc, needed)?;
-    let closed = time_of(alloc, closed.milliseconds())?;
-    Ok(
-        Object::new(alloc)
-            .with("condition", "C5")?
-            .with("side", side_of(side))?
-            .with("needed", needed)?
-            .with("closed", closed)?
-            .into_value(),
-    )
+    Object::new(alloc)
+        .with("condition", "C5")
+        .with("side", side_of(side))
+        .with_made("needed", time_of(alloc, needed))
+        .with_made("closed", time_of(alloc, closed.milliseconds()))
+        .into_value()
 }
 
 fn before_open(alloc: Global, side: Role, needed: u64, from: Reading) -> Result<Value, AllocError> {
-    let needed = time_of(alloc, needed)?;
-    let from = time_of(alloc, from.milliseconds())?;
-    Ok(
-        Object::new(alloc)
-            .with("condition", "C11")?
-            .with("side", side_of(side))?
-            .with("needed", needed)?
-            .with("from", from)?
-            .into_value(),
-    )
+    Object::new(alloc)
+        .with("condition", "C11")
+        .with("side", side_of(side))
+        .with_made("needed", time_of(alloc, needed))
+        .with_made("from", time_of(alloc, from.milliseconds()))
+        .into_value()
 }
 
 fn piece_before_open(alloc: Global, number: u64, side: Role) -> Result<Value, AllocError> {
-    Ok(
-        Object::new(alloc)
-            .with("condition", "C11")?
-            .with("side", side_of(side))?
-            .with("piece", number)?
-            .into_value(),
-    )
+    Object::new(alloc)
+        .with("condition", "C11")
+        .with("side", side_of(side))
+        .with("piece", number)
+        .into_value()
 }
 
 fn piece_release(alloc: Global, number: u64, release: Ref) -> Result<Value, AllocError> {
-    let line = line_of(alloc, release)?;
-    Ok(
-        Object::new(alloc)
-            .with("condition", "C8")?
-            .with("piece", number)?
-            .with("line", line)?
-            .into_value(),
-    )
+    Object::new(alloc)
+        .with("condition", "C8")
+        .with("piece", number)
+        .with_made("line", line_of(alloc, release))
+        .into_value()
 }
 
 fn uncovered(alloc: Global, at: Ref, delegation: &Delegation) -> Result<Value, AllocError> {
-    let line = line_of(alloc, at)?;
-    let delegation = delegation_of(alloc, delegation)?;
-    Ok(
-        Object::new(alloc)
-            .with("condition", "C9")?
-            .with("line", line)?
-            .with("delegation", delegation)?
-            .into_value(),
-    )
+    Object::new(alloc)
+        .with("condition", "C9")
+        .with_made("line", line_of(alloc, at))
+        .with_made("delegation", delegation_of(alloc, delegation))
+        .into_value()
 }
 
 fn condition_of(alloc: Global, failure: &Failure) -> Result<Value, AllocError> {

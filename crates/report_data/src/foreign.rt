@@ -28,30 +28,20 @@ fn until_of(alloc: Global, lasting: &Lasting) -> Result<Value, AllocError> {
 
 /// Whose a delegation is, of which prefix, and how long it lasts: one of the last two is null.
 pub(crate) fn delegation_of(alloc: Global, delegation: &Delegation) -> Result<Value, AllocError> {
-    let client = client_of(alloc, &delegation.client)?;
-    let iaid = association_of(alloc, delegation.iaid)?;
-    let prefix = prefix_of(alloc, &delegation.prefix)?;
-    let until = until_of(alloc, &delegation.lasting)?;
-    Ok(
-        Object::new(alloc)
-            .with("client", client)?
-            .with("iaid", iaid)?
-            .with("prefix", prefix)?
-            .with("valid_s", seconds_of(&delegation.lasting))?
-            .with("until", until)?
-            .into_value(),
-    )
+    Object::new(alloc)
+        .with_made("client", client_of(alloc, &delegation.client))
+        .with_made("iaid", association_of(alloc, delegation.iaid))
+        .with_made("prefix", prefix_of(alloc, &delegation.prefix))
+        .with("valid_s", seconds_of(&delegation.lasting))
+        .with_made("until", until_of(alloc, &delegation.lasting))
+        .into_value()
 }
 
 fn delegated_of(alloc: Global, told: &Told) -> Result<Value, AllocError> {
-    let reading = time_of(alloc, told.reading.milliseconds())?;
-    let delegation = delegation_of(alloc, &told.delegation)?;
-    Ok(
-        Object::new(alloc)
-            .with("reading", reading)?
-            .with("delegation", delegation)?
-            .into_value(),
-    )
+    Object::new(alloc)
+        .with_made("reading", time_of(alloc, told.reading.milliseconds()))
+        .with_made("delegation", delegation_of(alloc, &told.delegation))
+        .into_value()
 }
 
 fn told_of(alloc: Global, told: &Option<Told>) -> Result<Value, AllocError> {
@@ -62,27 +52,19 @@ fn told_of(alloc: Global, told: &Option<Told>) -> Result<Value, AllocError> {
 }
 
 fn early_of(alloc: Global, chain: &Chain, latest: &Option<Mark>) -> Result<Value, AllocError> {
-    let chain = chain_of(alloc, chain)?;
-    let latest = mark_of(alloc, latest)?;
-    Ok(
-        Object::new(alloc)
-            .with("why", "early")?
-            .with("chain", chain)?
-            .with("written_by", latest)?
-            .into_value(),
-    )
+    Object::new(alloc)
+        .with("why", "early")
+        .with_made("chain", chain_of(alloc, chain))
+        .with_made("written_by", mark_of(alloc, latest))
+        .into_value()
 }
 
 fn late_of(alloc: Global, chain: &Chain, earliest: &Option<Mark>) -> Result<Value, AllocError> {
-    let chain = chain_of(alloc, chain)?;
-    let earliest = mark_of(alloc, earliest)?;
-    Ok(
-        Object::new(alloc)
-            .with("why", "late")?
-            .with("chain", chain)?
-            .with("written_from", earliest)?
-            .into_value(),
-    )
+    Object::new(alloc)
+        .with("why", "late")
+        .with_made("chain", chain_of(alloc, chain))
+        .with_made("written_from", mark_of(alloc, earliest))
+        .into_value()
 }
 
 fn released_of(
@@ -93,20 +75,14 @@ fn released_of(
     chain: &Chain,
     latest: &Option<Mark>,
 ) -> Result<Value, AllocError> {
-    let release = line_of(alloc, release)?;
-    let order = order_of(alloc, order)?;
-    let chain = chain_of(alloc, chain)?;
-    let latest = mark_of(alloc, latest)?;
-    Ok(
-        Object::new(alloc)
-            .with("why", "released")?
-            .with("release", release)?
-            .with("gives_back", gives_back)?
-            .with("order", order)?
-            .with("chain", chain)?
-            .with("written_by", latest)?
-            .into_value(),
-    )
+    Object::new(alloc)
+        .with("why", "released")
+        .with_made("release", line_of(alloc, release))
+        .with("gives_back", gives_back)
+        .with_made("order", order_of(alloc, order))
+        .with_made("chain", chain_of(alloc, chain))
+        .with_made("written_by", mark_of(alloc, latest))
+        .into_value()
 }
 
 fn outside_of(alloc: Global, outside: &Outside<'_>) -> Result<Value, AllocError> {
@@ -124,16 +100,11 @@ fn outside_of(alloc: Global, outside: &Outside<'_>) -> Result<Value, AllocError>
 }
 
 fn entry_of(alloc: Global, report: &ForeignReport<'_>) -> Result<Value, AllocError> {
-    let line = line_of(alloc, report.entry.grant)?;
-    let told = told_of(alloc, &report.told)?;
-    let outside = outside_of(alloc, &report.outside)?;
-    Ok(
-        Object::new(alloc)
-            .with("line", line)?
-            .with("told", told)?
-            .with("outside", outside)?
-            .into_value(),
-    )
+    Object::new(alloc)
+        .with_made("line", line_of(alloc, report.entry.grant))
+        .with_made("told", told_of(alloc, &report.told))
+        .with_made("outside", outside_of(alloc, &report.outside))
+        .into_value()
 }
 
 /// Each foreign entry, in order.

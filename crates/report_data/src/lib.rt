@@ -19,4 +19,4 @@ mod values;
 
 pub use data::data_of;
 pub use object::Object;
-pub use values::{association_of, client_of, line_of, prefix_of, text_of, time_of};
+pub use values::{association_of, client_of, line_of, prefix_of, side_of, text_of, time_of};

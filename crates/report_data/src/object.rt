@@ -1,46 +1,94 @@
 //! Objects, field by field.
 
-ghost use Rattle.std.specs.Prelude.{◌≡◌, IfOk};
-ghost use Rattle.serde_json.specs.Data.{object, no_members};
+ghost use Rattle.std.specs.Prelude.{◌≡◌, Err, IfOk, IsOkAnd, MatchResult};
+ghost use Rattle.serde_json.specs.Data.{object, no_members, put as with_member};
 ghost use Rattle.serde_json.specs.View.{view, members_view};
 ghost use Rattle.report_data.specs.Fields.{HasField};
 
 use serde_json::{Map, ToValue, Value, put};
 use std::alloc::{AllocError, Global};
 
-/// An object of the fields so far.
+/// The fields of an object.
+type Fields = Map<String, Value>;
+
+/// An object of the fields so far, or the refusal of a growth for one of them: then fields that follow change nothing,
+/// and [`into_value`](Object::into_value) answers it.
 #[derive(Drop)]
 pub struct Object {
     alloc: Global,
-    fields: Map<String, Value>,
+    fields: Result<Fields, AllocError>,
+}
+
+/// The fields with this value at a name, in the place of what was there.
+fn extended(alloc: Global, fields: Fields, name: &str, value: Value) -> Result<Fields, AllocError>
+    ensures { IfOk result
+        (λ f. members_view f.entries ≡ with_member name.now (view value) (members_view fields.entries)) }
+{
+    let mut fields = fields;
+    match put(&mut fields, alloc, name, value) {
+        Ok(()) => Ok(fields),
+        Err(error) => Err(error),
+    }
+}
+
+/// The fields as a value.
+fn as_value(fields: Fields) -> Value
+    ensures { view result ≡ object (members_view fields.entries) }
+{
+    Value::Object(fields)
 }
 
 impl Object {
     /// An object without a field.
     pub fn new(alloc: Global) -> Object
-        ensures { members_view result.fields.entries ≡ no_members }
+        ensures { MatchResult result.fields (λ f. members_view f.entries ≡ no_members) (λ _. ⊥) }
     {
         Object {
             alloc,
-            fields: Map::new(alloc),
+            fields: Ok(Map::new(alloc)),
         }
     }
 
-    /// The object with this value at a name, in the place of what was there. `AllocError` where a growth was refused.
-    pub fn with<V: ToValue>(self, name: &str, value: V) -> Result<Object, AllocError>
-        ensures { IfOk result (λ o. HasField V.gives name.now value (members_view self.fields.entries)
-            (members_view o.fields.entries)) }
+    /// The object with this value at a name, in the place of what was there.
+    pub fn with<V: ToValue>(self, name: &str, value: V) -> Object
+        ensures { IfOk result.fields (λ f. IsOkAnd self.fields
+            (λ before. HasField V.gives name.now value (members_view before.entries) (members_view f.entries))) }
     {
-        let Object { alloc, mut fields } = self;
-        let value = value.to_value(alloc)?;
-        put(&mut fields, alloc, name, value)?;
-        Ok(Object { alloc, fields })
+        let made = value.to_value(self.alloc);
+        self.with_made(name, made)
     }
 
-    /// The object as a value.
-    pub fn into_value(self) -> Value
-        ensures { view result ≡ object (members_view self.fields.entries) }
+    /// The object with a value at a name that was to be made, in the place of what was there.
+    pub fn with_made(self, name: &str, made: Result<Value, AllocError>) -> Object
+        ensures { IfOk result.fields (λ f. IsOkAnd self.fields (λ before. IsOkAnd made (λ value.
+            members_view f.entries ≡ with_member name.now (view value) (members_view before.entries)))) }
     {
-        Value::Object(self.fields)
+        let Object { alloc, fields } = self;
+        let fields = match (fields, made) {
+            (Ok(fields), Ok(value)) => extended(alloc, fields, name, value),
+            (Err(error), _) | (_, Err(error)) => Err(error),
+        };
+        Object { alloc, fields }
+    }
+
+    /// The object as a value. `AllocError` where a growth for a field was refused.
+    pub fn into_value(self) -> Result<Value, AllocError>
+        ensures { MatchResult result (λ v. IsOkAnd self.fields (λ f. view v ≡ object (members_view f.entries)))
+            (λ e. self.fields ≡ Err e) }
+    {
+        let Object { alloc: _, fields } = self;
+        match fields {
+            Ok(fields) => Ok(as_value(fields)),
+            Err(error) => Err(error),
+        }
+    }
+
+    /// The object as a text, and a line feed. `AllocError` where a growth was refused.
+    pub fn into_line(self) -> Result<String, AllocError> {
+        let alloc = self.alloc;
+        let value = self.into_value()?;
+        let mut text = value.to_string(alloc)?;
+        text.push('\n')?;
+        Ok(text)
     }
 }

@@ -10,19 +10,13 @@ use serde_json::Value;
 use std::alloc::{AllocError, Global};
 
 fn lease_of(alloc: Global, granted: &Granted) -> Result<Value, AllocError> {
-    let reading = time_of(alloc, granted.reading.milliseconds())?;
-    let client = client_of(alloc, &granted.lease.client)?;
-    let iaid = association_of(alloc, granted.lease.iaid)?;
-    let prefix = prefix_of(alloc, &granted.lease.prefix)?;
-    Ok(
-        Object::new(alloc)
-            .with("reading", reading)?
-            .with("client", client)?
-            .with("iaid", iaid)?
-            .with("prefix", prefix)?
-            .with("valid_s", granted.lease.valid)?
-            .into_value(),
-    )
+    Object::new(alloc)
+        .with_made("reading", time_of(alloc, granted.reading.milliseconds()))
+        .with_made("client", client_of(alloc, &granted.lease.client))
+        .with_made("iaid", association_of(alloc, granted.lease.iaid))
+        .with_made("prefix", prefix_of(alloc, &granted.lease.prefix))
+        .with("valid_s", granted.lease.valid)
+        .into_value()
 }
 
 /// What a grant grants, or null.
@@ -34,13 +28,10 @@ fn granted_of(alloc: Global, granted: &Option<Granted>) -> Result<Value, AllocEr
 }
 
 fn cleared_before(alloc: Global, order: &OrderReport<'_>) -> Result<Value, AllocError> {
-    let order = order_of(alloc, order)?;
-    Ok(
-        Object::new(alloc)
-            .with("why", "before_grant")?
-            .with("order", order)?
-            .into_value(),
-    )
+    Object::new(alloc)
+        .with("why", "before_grant")
+        .with_made("order", order_of(alloc, order))
+        .into_value()
 }
 
 fn cleared_after(
@@ -48,15 +39,11 @@ fn cleared_after(
     chain: &Chain,
     earliest: &Option<Mark>,
 ) -> Result<Value, AllocError> {
-    let chain = chain_of(alloc, chain)?;
-    let earliest = mark_of(alloc, earliest)?;
-    Ok(
-        Object::new(alloc)
-            .with("why", "after_piece")?
-            .with("chain", chain)?
-            .with("written_from", earliest)?
-            .into_value(),
-    )
+    Object::new(alloc)
+        .with("why", "after_piece")
+        .with_made("chain", chain_of(alloc, chain))
+        .with_made("written_from", mark_of(alloc, earliest))
+        .into_value()
 }
 
 /// Why a release doesn't end the piece, or null.
@@ -69,17 +56,15 @@ fn cleared_of(alloc: Global, entry: &Option<(&Clear, Cleared<'_>)>) -> Result<Va
 }
 
 fn release_of(alloc: Global, report: &ReleaseReport<'_>) -> Result<Value, AllocError> {
-    let line = line_of(alloc, report.release.at)?;
-    let reading = time_of(alloc, report.release.reading.milliseconds())?;
-    let cleared = cleared_of(alloc, &report.entry)?;
-    Ok(
-        Object::new(alloc)
-            .with("line", line)?
-            .with("reading", reading)?
-            .with("cleared", cleared)?
-            .with("discharged", report.is_discharged)?
-            .into_value(),
-    )
+    Object::new(alloc)
+        .with_made("line", line_of(alloc, report.release.at))
+        .with_made(
+            "reading",
+            time_of(alloc, report.release.reading.milliseconds()),
+        )
+        .with_made("cleared", cleared_of(alloc, &report.entry))
+        .with("discharged", report.is_discharged)
+        .into_value()
 }
 
 fn releases_of(alloc: Global, releases: &[ReleaseReport<'_>]) -> Result<Value, AllocError> {
@@ -91,28 +76,17 @@ fn releases_of(alloc: Global, releases: &[ReleaseReport<'_>]) -> Result<Value, A
 }
 
 fn piece_of(alloc: Global, report: &PieceReport<'_>) -> Result<Value, AllocError> {
-    let from = time_of(alloc, report.piece.from.milliseconds())?;
-    let to = time_of(alloc, report.piece.to.milliseconds())?;
-    let grant = line_of(alloc, report.piece.grant)?;
-    let granted = granted_of(alloc, &report.granted)?;
-    let latest_chain = chain_of(alloc, &report.piece.latest)?;
-    let latest = mark_of(alloc, &report.latest)?;
-    let earliest_chain = chain_of(alloc, &report.piece.earliest)?;
-    let earliest = mark_of(alloc, &report.earliest)?;
-    let releases = releases_of(alloc, &report.releases)?;
-    Ok(
-        Object::new(alloc)
-            .with("from", from)?
-            .with("to", to)?
-            .with("grant", grant)?
-            .with("granted", granted)?
-            .with("chain_from_grant", latest_chain)?
-            .with("granted_by", latest)?
-            .with("chain_to_grant", earliest_chain)?
-            .with("granted_from", earliest)?
-            .with("releases", releases)?
-            .into_value(),
-    )
+    Object::new(alloc)
+        .with_made("from", time_of(alloc, report.piece.from.milliseconds()))
+        .with_made("to", time_of(alloc, report.piece.to.milliseconds()))
+        .with_made("grant", line_of(alloc, report.piece.grant))
+        .with_made("granted", granted_of(alloc, &report.granted))
+        .with_made("chain_from_grant", chain_of(alloc, &report.piece.latest))
+        .with_made("granted_by", mark_of(alloc, &report.latest))
+        .with_made("chain_to_grant", chain_of(alloc, &report.piece.earliest))
+        .with_made("granted_from", mark_of(alloc, &report.earliest))
+        .with_made("releases", releases_of(alloc, &report.releases))
+        .into_value()
 }
 
 /// Each piece, in order.

@@ -43,17 +43,14 @@ pub fn time_of(alloc: Global, milliseconds: u64) -> Result<Value, AllocError>
         Ok(moment) => push_time(&mut text, moment)?,
         Err(_) => push_number(&mut text, milliseconds)?,
     }
-    let utc = text_of(alloc, &text)?;
-    Ok(
-        Object::new(alloc)
-            .with("ms", milliseconds)?
-            .with("utc", utc)?
-            .into_value(),
-    )
+    Object::new(alloc)
+        .with("ms", milliseconds)
+        .with_made("utc", text_of(alloc, &text))
+        .into_value()
 }
 
 /// A side of the pair.
-pub(crate) fn side_of(side: Role) -> &'static str
+pub fn side_of(side: Role) -> &'static str
     ensures { result.now ≡ side_text side }
 {
     match side {
@@ -108,14 +105,10 @@ pub(crate) fn chain_of(alloc: Global, chain: &Chain) -> Result<Value, AllocError
 }
 
 fn marked_of(alloc: Global, mark: &Mark) -> Result<Value, AllocError> {
-    let line = line_of(alloc, mark.at)?;
-    let reading = time_of(alloc, mark.reading.milliseconds())?;
-    Ok(
-        Object::new(alloc)
-            .with("line", line)?
-            .with("reading", reading)?
-            .into_value(),
-    )
+    Object::new(alloc)
+        .with_made("line", line_of(alloc, mark.at))
+        .with_made("reading", time_of(alloc, mark.reading.milliseconds()))
+        .into_value()
 }
 
 /// A line with its reading, or null.
@@ -127,14 +120,11 @@ pub(crate) fn mark_of(alloc: Global, mark: &Option<Mark>) -> Result<Value, Alloc
 }
 
 fn chain_order(alloc: Global, chain: &Chain, leads: bool) -> Result<Value, AllocError> {
-    let chain = chain_of(alloc, chain)?;
-    Ok(
-        Object::new(alloc)
-            .with("by", "chain")?
-            .with("chain", chain)?
-            .with("leads", leads)?
-            .into_value(),
-    )
+    Object::new(alloc)
+        .with("by", "chain")
+        .with_made("chain", chain_of(alloc, chain))
+        .with("leads", leads)
+        .into_value()
 }
 
 fn clock_order(
@@ -144,19 +134,13 @@ fn clock_order(
     after: &Chain,
     earliest: &Option<Mark>,
 ) -> Result<Value, AllocError> {
-    let before = chain_of(alloc, before)?;
-    let latest = mark_of(alloc, latest)?;
-    let after = chain_of(alloc, after)?;
-    let earliest = mark_of(alloc, earliest)?;
-    Ok(
-        Object::new(alloc)
-            .with("by", "clocks")?
-            .with("from_first", before)?
-            .with("first_by", latest)?
-            .with("to_second", after)?
-            .with("second_from", earliest)?
-            .into_value(),
-    )
+    Object::new(alloc)
+        .with("by", "clocks")
+        .with_made("from_first", chain_of(alloc, before))
+        .with_made("first_by", mark_of(alloc, latest))
+        .with_made("to_second", chain_of(alloc, after))
+        .with_made("second_from", mark_of(alloc, earliest))
+        .into_value()
 }
 
 /// Why one line was written before another.
