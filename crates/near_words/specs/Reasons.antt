@@ -1,5 +1,5 @@
 -- What is told of why nobody is named: the values of the blocks, in order. Its prose isn't said here.
-use Rattle.std.specs.Prelude.{◌≡◌, ℕ, ◌+◌, ◌-◌, ◌*◌, List, [], ◌∷◌, ◌++◌, Option, Some, None, nat_eq, if◌then◌else◌}
+use Rattle.std.specs.Prelude.{ℕ, ◌+◌, ◌-◌, ◌*◌, List, [], ◌∷◌, ◌++◌, Option, Some, None, nat_eq, if◌then◌else◌}
 use Rattle.std.specs.List.{flat_map}
 use Rattle.attribution.specs.Run.{infinity}
 use Rattle.attribution.specs.declared.delegation.Lasting.{Lasting}

@@ -1,75 +1,64 @@
 //! A delegation near the moment, in words.
 
-ghost use Rattle.std.specs.Prelude.{◌∷◌, [], OnOk};
+ghost use Rattle.std.specs.Prelude.{◌≡◌, ◌∷◌, [], OnOk};
 ghost use Rattle.near_leases.specs.Near.{shows_to};
-ghost use Rattle.report_words.specs.Telling.{Tells};
+ghost use Rattle.report_words.specs.Telling.{values_in, Tells};
 ghost use Rattle.near_words.specs.Reasons.{line_told, begun_told, lasts_told, may_begin_told, may_last_told};
 ghost use Rattle.near_words.specs.Reasons.{shown_told, possible_told, carried_told, lasting_told};
 ghost use Rattle.near_words.specs.Reasons.{state_told, lease_told};
+ghost use Rattle.report_words.specs.declared.word.Word.TheVariants as word;
 
-use crate::moments::push_block;
 use attribution::Lasting;
 use journal_lines::Lease;
 use lead_time::{End, Reading};
 use near_leases::{AtMoment, NearLease, begun_by, lasts_from, may_begin};
 use plain_search::HolderQuery;
-use report_words::{Block, Kind, Word};
-use std::alloc::{AllocError, Global};
+use report_words::{Block, Kind, Part, Word, push_block, push_sum};
+use std::alloc::AllocError;
+
+/// The skew and the transit, added, and the moment that they come to.
+fn with_both(query: &HolderQuery, moment: u64) -> [Part; 3]
+    ensures { values_in result ≡ word.Number query.now.skew ∷ word.Number query.now.transit ∷ word.Moment moment ∷ [] }
+{
+    [
+        (" + ", Word::Number(query.skew.milliseconds())),
+        (" (skew) + ", Word::Number(query.transit.milliseconds())),
+        (" (transit) = ", Word::Moment(moment)),
+    ]
+}
 
 /// What the line tells of.
-fn push_told(alloc: Global, out: &mut Vec<Block>, lease: &NearLease) -> Result<(), AllocError>
+fn push_told(out: &mut Vec<Block>, lease: &NearLease) -> Result<(), AllocError>
     ensures { OnOk result (Tells (line_told lease.now ∷ []) out.old.items out.new.items) }
 {
-    push_block(
-        alloc,
-        out,
-        Kind::Heading,
-        &[
-            Word::Prose("Line "),
-            Word::Line(lease.line.at),
-            Word::Prose(": prefix "),
-            Word::Prefix(lease.delegation.prefix),
-            Word::Prose(" to client "),
-            Word::Client(lease.delegation.client),
-            Word::Prose(" under identity association "),
-            Word::Association(lease.delegation.iaid),
-        ],
-    )
+    let delegation = &lease.delegation;
+    let told = [
+        ("Line ", Word::Line(lease.line.at)),
+        (": prefix ", Word::Prefix(delegation.prefix)),
+        (" to client ", Word::Client(delegation.client)),
+        (
+            " under identity association ",
+            Word::Association(delegation.iaid),
+        ),
+    ];
+    push_block(out, Kind::Heading, &told, "")
 }
 
 /// By when what was granted had begun.
-fn push_begun(
-    alloc: Global,
-    out: &mut Vec<Block>,
-    reading: Reading,
-    query: &HolderQuery,
-) -> Result<(), AllocError>
+fn push_begun(out: &mut Vec<Block>, reading: Reading, query: &HolderQuery) -> Result<(), AllocError>
     ensures { OnOk result (Tells (begun_told query.now reading ∷ []) out.old.items out.new.items) }
 {
-    let (skew, transit) = (query.skew.milliseconds(), query.transit.milliseconds());
-    push_block(
-        alloc,
-        out,
-        Kind::Item,
-        &[
-            Word::Prose("The clock showed "),
-            Word::Reading(reading.milliseconds()),
-            Word::Prose(". So the lease had begun by "),
-            Word::Number(reading.milliseconds()),
-            Word::Prose(" + "),
-            Word::Number(skew),
-            Word::Prose(" (skew) + "),
-            Word::Number(transit),
-            Word::Prose(" (transit) = "),
-            Word::Moment(begun_by(reading, query.skew, query.transit)),
-            Word::Prose("."),
-        ],
-    )
+    let begun = begun_by(reading, query.skew, query.transit);
+    let reading = reading.milliseconds();
+    let shown = [
+        ("The clock showed ", Word::Reading(reading)),
+        (". So the lease had begun by ", Word::Number(reading)),
+    ];
+    push_sum(out, &shown, &with_both(query, begun), ".")
 }
 
 /// Up to when it surely lasts.
 fn push_lasts(
-    alloc: Global,
     out: &mut Vec<Block>,
     reading: Reading,
     valid: u32,
@@ -78,137 +67,118 @@ fn push_lasts(
     ensures { OnOk result (Tells (lasts_told query.now reading valid (shows_to query.now.skew reading valid) ∷ [])
         out.old.items out.new.items) }
 {
-    let skew = query.skew.milliseconds();
     match lasts_from(reading, valid, query.skew) {
-        Some(end) => push_block(
-            alloc,
-            out,
-            Kind::Item,
-            &[
-                Word::Prose("If nothing gave it back it lasted at least to "),
-                Word::Number(reading.milliseconds()),
-                Word::Prose(" + "),
-                Word::Number(u64::from(valid) * 1000),
-                Word::Prose(" (lifetime) - "),
-                Word::Number(skew),
-                Word::Prose(" (skew) = "),
-                Word::Moment(end),
-                Word::Prose("."),
-            ],
-        ),
-        None => push_block(
-            alloc,
-            out,
-            Kind::Item,
-            &[Word::Prose("Its lifetime never ends.")],
-        ),
+        Some(end) => {
+            let from = "If nothing gave it back it lasted at least to ";
+            let lasts = [
+                (from, Word::Number(reading.milliseconds())),
+                (" + ", Word::Number(u64::from(valid) * 1000)),
+                (" (lifetime) - ", Word::Number(query.skew.milliseconds())),
+                (" (skew) = ", Word::Moment(end)),
+            ];
+            push_block(out, Kind::Item, &lasts, ".")
+        }
+        None => push_block(out, Kind::Item, &[], "Its lifetime never ends."),
     }
 }
 
 /// From when to when what was granted can be shown to be its client's.
 fn push_shown(
-    alloc: Global,
     out: &mut Vec<Block>,
-    lease: &NearLease,
+    reading: Reading,
     valid: u32,
     query: &HolderQuery,
 ) -> Result<(), AllocError>
-    ensures { OnOk result (Tells (shown_told query.now lease.now.line.reading valid) out.old.items out.new.items) }
+    ensures { OnOk result (Tells (shown_told query.now reading valid) out.old.items out.new.items) }
 {
-    push_begun(alloc, out, lease.line.reading, query)?;
-    push_lasts(alloc, out, lease.line.reading, valid, query)
+    push_begun(out, reading, query)?;
+    push_lasts(out, reading, valid, query)
+}
+
+/// From when on it may have begun.
+fn push_may_begin(
+    out: &mut Vec<Block>,
+    reading: Reading,
+    query: &HolderQuery,
+) -> Result<(), AllocError>
+    ensures { OnOk result (Tells (may_begin_told query.now reading ∷ []) out.old.items out.new.items) }
+{
+    let begins = [
+        (
+            "It may have begun from ",
+            Word::Number(reading.milliseconds()),
+        ),
+        (" - ", Word::Number(query.skew.milliseconds())),
+        (" (skew) = ", Word::Moment(may_begin(reading, query.skew))),
+    ];
+    push_block(out, Kind::Item, &begins, " on.")
+}
+
+/// Up to when it may have lasted, if it ends.
+fn push_may_last(
+    out: &mut Vec<Block>,
+    reading: Reading,
+    valid: u32,
+    query: &HolderQuery,
+) -> Result<(), AllocError>
+    ensures { OnOk result (Tells (may_last_told query.now reading valid) out.old.items out.new.items) }
+{
+    if valid == Lease::INFINITE {
+        return Ok(());
+    }
+    let (skew, transit) = (query.skew.milliseconds(), query.transit.milliseconds());
+    let (first, lifetime) = (reading.milliseconds(), u64::from(valid) * 1000);
+    let end = begun_by(reading, query.skew, query.transit) + lifetime;
+    let sum = [
+        ("It may have lasted up to ", Word::Number(first)),
+        (" + ", Word::Number(lifetime)),
+        (" (lifetime) + ", Word::Number(skew)),
+        (" (skew) + ", Word::Number(transit)),
+        (" (transit) = ", Word::Moment(end)),
+    ];
+    push_block(out, Kind::Item, &sum, ".")
 }
 
 /// From when to when what was granted may have been its client's.
 fn push_possible(
-    alloc: Global,
     out: &mut Vec<Block>,
-    lease: &NearLease,
+    reading: Reading,
     valid: u32,
     query: &HolderQuery,
 ) -> Result<(), AllocError>
-    ensures { OnOk result (Tells (possible_told query.now lease.now.line.reading valid) out.old.items out.new.items) }
+    ensures { OnOk result (Tells (possible_told query.now reading valid) out.old.items out.new.items) }
 {
-    let reading = lease.line.reading;
-    let (skew, transit) = (query.skew.milliseconds(), query.transit.milliseconds());
-    push_block(
-        alloc,
-        out,
-        Kind::Item,
-        &[
-            Word::Prose("It may have begun from "),
-            Word::Number(reading.milliseconds()),
-            Word::Prose(" - "),
-            Word::Number(skew),
-            Word::Prose(" (skew) = "),
-            Word::Moment(may_begin(reading, query.skew)),
-            Word::Prose(" on."),
-        ],
-    )?;
-    if valid == Lease::INFINITE {
-        return Ok(());
-    }
-    let end = begun_by(reading, query.skew, query.transit) + u64::from(valid) * 1000;
-    push_block(
-        alloc,
-        out,
-        Kind::Item,
-        &[
-            Word::Prose("It may have lasted up to "),
-            Word::Number(reading.milliseconds()),
-            Word::Prose(" + "),
-            Word::Number(u64::from(valid) * 1000),
-            Word::Prose(" (lifetime) + "),
-            Word::Number(skew),
-            Word::Prose(" (skew) + "),
-            Word::Number(transit),
-            Word::Prose(" (transit) = "),
-            Word::Moment(end),
-            Word::Prose("."),
-        ],
-    )
+    push_may_begin(out, reading, query)?;
+    push_may_last(out, reading, valid, query)
 }
 
+const CARRIED_TO: &str =
+    "It is carried from earlier volumes, which show when it began. It may have lasted up to ";
+
 /// Up to when what is carried may have been its client's.
-fn push_carried(
-    alloc: Global,
-    out: &mut Vec<Block>,
-    end: End,
-    query: &HolderQuery,
-) -> Result<(), AllocError>
+fn push_carried(out: &mut Vec<Block>, end: End, query: &HolderQuery) -> Result<(), AllocError>
     ensures { OnOk result (Tells (carried_told query.now end) out.old.items out.new.items) }
 {
     let (skew, transit) = (query.skew.milliseconds(), query.transit.milliseconds());
-    push_block(
-        alloc,
-        out,
-        Kind::Item,
-        &[
-            Word::Prose(
-                "It is carried from earlier volumes, which show when it began. It may have lasted up to ",
-            ),
-            Word::Number(end.milliseconds()),
-            Word::Prose(" (its end by its server's clock) + "),
-            Word::Number(skew),
-            Word::Prose(" (skew) + "),
-            Word::Number(transit),
-            Word::Prose(" (transit) = "),
-            Word::Moment(end.milliseconds() + skew + transit),
-            Word::Prose("."),
-        ],
-    )
+    let end = end.milliseconds();
+    let carried = [
+        (CARRIED_TO, Word::Number(end)),
+        (" (its end by its server's clock) + ", Word::Number(skew)),
+        (" (skew) + ", Word::Number(transit)),
+        (" (transit) = ", Word::Moment(end + skew + transit)),
+    ];
+    push_block(out, Kind::Item, &carried, ".")
 }
 
 const CARRIED: &str =
     " it may have been its client's, but this journal doesn't show when it began.";
 
+const BEGINNING: &str = " it may not have begun yet: the moment is too early by ";
+
+const ENDING: &str = " it may have ended: the last moment that is shown was earlier by ";
+
 /// What is so at the moment asked about.
-fn push_state(
-    alloc: Global,
-    out: &mut Vec<Block>,
-    state: &AtMoment,
-    at: Reading,
-) -> Result<(), AllocError>
+fn push_state(out: &mut Vec<Block>, state: &AtMoment, at: Reading) -> Result<(), AllocError>
     ensures { OnOk result (Tells (state_told at state.now ∷ []) out.old.items out.new.items) }
 {
     let at = at.milliseconds();
@@ -221,11 +191,11 @@ fn push_state(
         ),
         AtMoment::Carried => (CARRIED, None),
         AtMoment::Beginning(begun) => (
-            " it may not have begun yet: the moment is too early by ",
+            BEGINNING,
             Some(Word::Milliseconds(begun.saturating_sub(at))),
         ),
         AtMoment::Ending(end) => (
-            " it may have ended: the last moment that is shown was earlier by ",
+            ENDING,
             Some(Word::Milliseconds((at + 1).saturating_sub(*end))),
         ),
         AtMoment::MayBeGivenBack(release) => (
@@ -234,32 +204,29 @@ fn push_state(
         ),
         AtMoment::Shown => (" it was its client's.", None),
     };
-    let (front, moment, said) = (Word::Prose("At "), Word::Moment(at), Word::Prose(said));
+    let moment = ("At ", Word::Moment(at));
     match value {
-        Some(value) => {
-            let words = [front, moment, said, value, Word::Prose(".")];
-            push_block(alloc, out, Kind::Item, &words)
-        }
-        None => push_block(alloc, out, Kind::Item, &[front, moment, said]),
+        Some(value) => push_block(out, Kind::Item, &[moment, (said, value)], "."),
+        None => push_block(out, Kind::Item, &[moment], said),
     }
 }
 
 /// All that is told of a delegation near the moment.
 pub fn push_lease(
-    alloc: Global,
     out: &mut Vec<Block>,
     lease: &NearLease,
     query: &HolderQuery,
 ) -> Result<(), AllocError>
     ensures { OnOk result (Tells (lease_told query.now lease.now) out.old.items out.new.items) }
 {
-    push_told(alloc, out, lease)?;
+    push_told(out, lease)?;
+    let reading = lease.line.reading;
     match lease.delegation.lasting {
         Lasting::For(valid) => {
-            push_shown(alloc, out, lease, valid, query)?;
-            push_possible(alloc, out, lease, valid, query)?;
+            push_shown(out, reading, valid, query)?;
+            push_possible(out, reading, valid, query)?;
         }
-        Lasting::Until(end) => push_carried(alloc, out, end, query)?,
+        Lasting::Until(end) => push_carried(out, end, query)?,
     }
-    push_state(alloc, out, &lease.state, query.at)
+    push_state(out, &lease.state, query.at)
 }

@@ -10,7 +10,6 @@
 #![tactic(auto)]
 
 mod leases;
-mod moments;
 mod whole;
 
 pub use whole::why_blocks;

@@ -2,88 +2,64 @@
 
 ghost use Rattle.std.specs.Prelude.{◌≡◌, ◌∷◌, [], IfOk, OnOk, map};
 ghost use Rattle.std.specs.List.{flat_map};
-ghost use Rattle.report_words.specs.Telling.{told_of, Tells};
+ghost use Rattle.report_words.specs.Telling.{told_of, paragraph, values_in, Tells};
 ghost use Rattle.near_words.specs.Reasons.{question_told, reason_told, why_told, lease_told, reasons_told};
 
 use crate::leases::push_lease;
-use crate::moments::push_block;
 use binding_rules::Role;
 use lead_time::Reading;
 use near_leases::{NearLease, WhyNobody};
 use plain_search::HolderQuery;
-use report_words::{Block, Kind, Word};
+use report_words::{Block, Kind, Part, Word, push_block};
 use std::alloc::{AllocError, Global};
 
+const NO_CLIENT: &str = " (the transit)? No client is named: none is shown to have had it.";
+
 /// What is asked, and by which bounds.
-fn push_question(alloc: Global, out: &mut Vec<Block>, query: &HolderQuery) -> Result<(), AllocError>
+fn push_question(out: &mut Vec<Block>, query: &HolderQuery) -> Result<(), AllocError>
     ensures { OnOk result (Tells (question_told query.now) out.old.items out.new.items) }
 {
-    push_block(alloc, out, Kind::Heading, &[Word::Prose("The question")])?;
-    push_block(
-        alloc,
-        out,
-        Kind::Paragraph,
-        &[
-            Word::Prose("Which client had all of prefix "),
+    let (skew, transit) = (query.skew.milliseconds(), query.transit.milliseconds());
+    push_block(out, Kind::Heading, &[], "The question")?;
+    let asked = [
+        (
+            "Which client had all of prefix ",
             Word::Prefix(query.prefix),
-            Word::Prose(" at "),
-            Word::Moment(query.at.milliseconds()),
-            Word::Prose(", with each clock within "),
-            Word::Milliseconds(query.skew.milliseconds()),
-            Word::Prose(" of true time (the skew) and each answer at its client within "),
-            Word::Milliseconds(query.transit.milliseconds()),
-            Word::Prose(" (the transit)? No client is named: none is shown to have had it."),
-        ],
-    )
+        ),
+        (" at ", Word::Moment(query.at.milliseconds())),
+        (", with each clock within ", Word::Milliseconds(skew)),
+        (
+            " of true time (the skew) and each answer at its client within ",
+            Word::Milliseconds(transit),
+        ),
+    ];
+    push_block(out, Kind::Paragraph, &asked, NO_CLIENT)
 }
 
+/// What doesn't cover the moment.
+const OUTSIDE: &str = "The moment is outside of what journal ";
+
 /// A moment that a journal ends before.
-fn push_past_end(
-    alloc: Global,
-    out: &mut Vec<Block>,
-    side: Role,
-    needed: u64,
-    closed: Reading,
-) -> Result<(), AllocError>
-    ensures { OnOk result (Tells (reason_told (WhyNobody.PastEnd side needed closed) ∷ []) out.old.items out.new.items) }
+fn past_end(side: Role, needed: u64, closed: Reading) -> [Part; 3]
+    ensures { paragraph (values_in result) ≡ reason_told (WhyNobody.PastEnd side needed closed) }
 {
-    push_block(
-        alloc,
-        out,
-        Kind::Paragraph,
-        &[
-            Word::Prose("The moment is outside of what journal "),
-            Word::Side(side),
-            Word::Prose(" covers: at its close line the clock showed "),
-            Word::Reading(closed.milliseconds()),
-            Word::Prose(", and the moment's end with the skew is "),
+    let closed = Word::Reading(closed.milliseconds());
+    [
+        (OUTSIDE, Word::Side(side)),
+        (" covers: at its close line the clock showed ", closed),
+        (
+            ", and the moment's end with the skew is ",
             Word::Reading(needed),
-            Word::Prose("."),
-        ],
-    )
+        ),
+    ]
 }
 
 /// A moment that isn't surely behind a server's earlier volumes.
-fn push_before_open(
-    alloc: Global,
-    out: &mut Vec<Block>,
-    side: Role,
-    needed: u64,
-) -> Result<(), AllocError>
-    ensures { OnOk result (Tells (reason_told (WhyNobody.BeforeOpen side needed) ∷ []) out.old.items out.new.items) }
+fn before_open(side: Role, needed: u64) -> [Part; 2]
+    ensures { paragraph (values_in result) ≡ reason_told (WhyNobody.BeforeOpen side needed) }
 {
-    push_block(
-        alloc,
-        out,
-        Kind::Paragraph,
-        &[
-            Word::Prose("The moment is outside of what journal "),
-            Word::Side(side),
-            Word::Prose(" covers: answers of its earlier volumes may have come up to "),
-            Word::Moment(needed),
-            Word::Prose(". Ask the volume before it."),
-        ],
-    )
+    let earlier = " covers: answers of its earlier volumes may have come up to ";
+    [(OUTSIDE, Word::Side(side)), (earlier, Word::Moment(needed))]
 }
 
 const NOBODY: &str =
@@ -100,27 +76,29 @@ const SEVERAL: &str =
     and another's began.";
 
 /// Why nobody is named.
-fn push_why(alloc: Global, out: &mut Vec<Block>, why: &WhyNobody) -> Result<(), AllocError>
+fn push_why(out: &mut Vec<Block>, why: &WhyNobody) -> Result<(), AllocError>
     ensures { OnOk result (Tells (why_told why.now) out.old.items out.new.items) }
 {
-    let heading = [Word::Prose("Why nobody is named")];
-    push_block(alloc, out, Kind::Heading, &heading)?;
+    push_block(out, Kind::Heading, &[], "Why nobody is named")?;
+    let kind = Kind::Paragraph;
     match why {
         WhyNobody::PastEnd {
             side,
             needed,
             closed,
-        } => push_past_end(alloc, out, *side, *needed, *closed),
-        WhyNobody::BeforeOpen { side, needed } => push_before_open(alloc, out, *side, *needed),
-        WhyNobody::Nobody => push_block(alloc, out, Kind::Paragraph, &[Word::Prose(NOBODY)]),
-        WhyNobody::NotShown => push_block(alloc, out, Kind::Paragraph, &[Word::Prose(NOT_SHOWN)]),
-        WhyNobody::Several => push_block(alloc, out, Kind::Paragraph, &[Word::Prose(SEVERAL)]),
+        } => push_block(out, kind, &past_end(*side, *needed, *closed), "."),
+        WhyNobody::BeforeOpen { side, needed } => {
+            let parts = before_open(*side, *needed);
+            push_block(out, kind, &parts, ". Ask the volume before it.")
+        }
+        WhyNobody::Nobody => push_block(out, kind, &[], NOBODY),
+        WhyNobody::NotShown => push_block(out, kind, &[], NOT_SHOWN),
+        WhyNobody::Several => push_block(out, kind, &[], SEVERAL),
     }
 }
 
 /// Each delegation, in its order.
 fn push_leases(
-    alloc: Global,
     out: &mut Vec<Block>,
     leases: &[NearLease],
     query: &HolderQuery,
@@ -128,7 +106,7 @@ fn push_leases(
     ensures { OnOk result (Tells (flat_map (lease_told query.now) leases.now) out.old.items out.new.items) }
 {
     for lease in leases {
-        push_lease(alloc, out, lease, query)?;
+        push_lease(out, lease, query)?;
     }
     Ok(())
 }
@@ -144,8 +122,8 @@ pub fn why_blocks(
     ensures { IfOk result (λ blocks. map told_of blocks.items ≡ reasons_told query.now why.now leases.now) }
 {
     let mut out = Vec::new(alloc);
-    push_question(alloc, &mut out, query)?;
-    push_why(alloc, &mut out, why)?;
-    push_leases(alloc, &mut out, leases, query)?;
+    push_question(&mut out, query)?;
+    push_why(&mut out, why)?;
+    push_leases(&mut out, leases, query)?;
     Ok(out)
 }

@@ -20,13 +20,14 @@ abbrev pub lasting_word : Lasting → Word
 lasting_word (For seconds) = word.Seconds seconds
 lasting_word (Until end) = word.Reading end
 
-abbrev pub delegated : Ref → ToldDelegation → List Told
-delegated r t =
-    item (
+abbrev pub delegated_values : Ref → ToldDelegation → List Word
+delegated_values r t =
     word.Line r ∷ word.Reading t.reading ∷ word.Prefix t.delegation.prefix
     ∷ word.Client t.delegation.client ∷ word.Association t.delegation.iaid
     ∷ lasting_word t.delegation.lasting ∷ []
-    ) ∷ []
+
+abbrev pub delegated : Ref → ToldDelegation → List Told
+delegated r t = item (delegated_values r t) ∷ []
 
 abbrev pub told_told : Ref → Option ToldDelegation → List Told
 told_told r None = item (word.Line r ∷ []) ∷ []

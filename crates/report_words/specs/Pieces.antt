@@ -11,6 +11,7 @@ use Rattle.evidence_report.specs.declared.piece_report.Cleared.{Cleared}
 use Rattle.evidence_report.specs.declared.piece_report.Cleared.TheVariants.{Before, After}
 use Rattle.evidence_report.specs.declared.piece_report.ReleaseReport.{ReleaseReport}
 use Rattle.evidence_report.specs.declared.piece_report.PieceReport.{PieceReport}
+use Rattle.report_words.specs.declared.word.Word.{Word}
 use Rattle.report_words.specs.declared.word.Word.TheVariants as word
 use Rattle.report_words.specs.Telling.{Told, heading, item, chain_told, no_chain, less, must, written_from, order_told}
 
@@ -18,12 +19,13 @@ abbrev pub heading_told : (number : ℕ) → Piece → List Told
 heading_told number p = heading (word.Number number ∷ word.Moment p.from ∷ word.Moment p.to ∷ []) ∷ []
 
 -- what the grant's line grants
-abbrev pub granted_told : Ref → Granted → List Told
-granted_told r g =
-    item (
+abbrev pub granted_values : Ref → Granted → List Word
+granted_values r g =
     word.Line r ∷ word.Reading g.reading ∷ word.Prefix g.lease.prefix
     ∷ word.Client g.lease.client ∷ word.Association g.lease.iaid ∷ word.Seconds g.lease.valid ∷ []
-    ) ∷ []
+
+abbrev pub granted_told : Ref → Granted → List Told
+granted_told r g = item (granted_values r g) ∷ []
 
 abbrev pub grant_told : Ref → Option Granted → List Told
 grant_told r None = item (word.Line r ∷ []) ∷ []

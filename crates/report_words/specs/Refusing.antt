@@ -1,15 +1,13 @@
 -- What is told of a ruling, and of the comparison that a refusal rests on.
-use Rattle.std.specs.Prelude.{ℕ, List, [], ◌∷◌, ◌++◌, Option, Some, None}
+use Rattle.std.specs.Prelude.{ℕ, List, [], ◌∷◌, Option, Some, None}
 use Rattle.binding_rules.specs.declared.role.Role.{Role}
 use Rattle.journal_lines.specs.declared.fault.JournalFault.{JournalFault}
 use Rattle.journal_lines.specs.declared.fault.JournalFault.TheVariants as fault
 use Rattle.claims.specs.declared.fault.CertificateFault.{CertificateFault}
 use Rattle.claims.specs.declared.fault.CertificateFault.TheVariants as text
-use Rattle.claims.specs.declared.reference.Ref.{Ref}
 use Rattle.book_rules.specs.Rules.{rule_number}
 use Rattle.attribution.specs.declared.verdict.Verdict.{Verdict}
 use Rattle.attribution.specs.declared.verdict.Verdict.TheVariants as verdict
-use Rattle.attribution.specs.declared.delegation.Delegation.{Delegation}
 use Rattle.pair_ruling.specs.declared.ruling.Ruling.{Ruling}
 use Rattle.pair_ruling.specs.declared.ruling.Ruling.TheVariants as ruling
 use Rattle.evidence_report.specs.declared.faults.PieceFault.{PieceFault}
@@ -20,7 +18,7 @@ use Rattle.evidence_report.specs.declared.faults.Failure.{Failure}
 use Rattle.evidence_report.specs.declared.faults.Failure.TheVariants as failure
 use Rattle.report_words.specs.declared.word.Word.{Word}
 use Rattle.report_words.specs.declared.word.Word.TheVariants as word
-use Rattle.report_words.specs.Telling.{Told, paragraph, item}
+use Rattle.report_words.specs.Telling.{Told, paragraph}
 
 -- ---- rulings
 

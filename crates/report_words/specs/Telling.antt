@@ -1,8 +1,7 @@
 -- What a report tells: the values of its blocks, in order. Its prose isn't said here.
 use Rattle.std.specs.Prelude.{◌≡◌, ℕ, ◌+◌, ◌-◌, nat_le, Bool, true, false, if◌then◌else◌, List, [], ◌∷◌, ◌++◌, map}
 use Rattle.std.specs.Prelude.{Option, Some, None}
-use Rattle.std.specs.List.{filter}
-use Rattle.std.specs.Borrow.{Bor}
+use Rattle.std.specs.List.{filter, flat_map}
 use Rattle.claims.specs.declared.reference.Ref.{Ref}
 use Rattle.evidence_report.specs.declared.mark.Mark.{Mark}
 use Rattle.evidence_report.specs.declared.mark.OrderReport.{OrderReport}
@@ -11,6 +10,8 @@ use Rattle.report_words.specs.declared.word.Word.{Word}
 use Rattle.report_words.specs.declared.word.Word.TheVariants as word
 use Rattle.report_words.specs.declared.word.Word.TheVariants.{Prose}
 use Rattle.report_words.specs.declared.block.Block.{Block}
+use Rattle.report_words.specs.declared.moments.Bound.{Bound}
+use Rattle.report_words.specs.declared.moments.Bound.TheVariants.{Latest, Earliest}
 use Rattle.report_words.specs.declared.block.Kind.{Kind}
 use Rattle.report_words.specs.declared.block.Kind.TheVariants.{Heading, Paragraph, Item, Cited}
 
@@ -21,6 +22,10 @@ is_value _ = true
 -- the values among words
 abbrev pub values_of : List Word → List Word
 values_of words = filter is_value words
+
+-- the values among the parts of a sentence
+abbrev pub values_in : {X : Type 0} → List (X × Word) → List Word
+values_in parts = flat_map (λ part. values_of (part.1 ∷ [])) parts
 
 -- a block without its prose
 pub record Told : Type 0 where
@@ -78,15 +83,20 @@ earliest_told skew r m =
     ∷ word.Number m.reading ∷ word.Number skew ∷ less m.reading skew ∷ []
     ) ∷ []
 
--- by when r was written, by a chain from it
-abbrev pub written_by : (skew : ℕ) → Ref → List Ref → Option Mark → List Told
-written_by skew r chain None = no_chain r
-written_by skew r chain (Some m) = chain_told chain ++ latest_told skew r m
+abbrev pub moment_told : Bound → (skew : ℕ) → Ref → Mark → List Told
+moment_told Latest skew r m = latest_told skew r m
+moment_told Earliest skew r m = earliest_told skew r m
 
--- from when on it was written, by a chain to it
+-- by when r was written, by a chain from it, or from when on, by a chain to it
+abbrev pub written : Bound → (skew : ℕ) → Ref → List Ref → Option Mark → List Told
+written bound skew r chain None = no_chain r
+written bound skew r chain (Some m) = chain_told chain ++ moment_told bound skew r m
+
+abbrev pub written_by : (skew : ℕ) → Ref → List Ref → Option Mark → List Told
+written_by skew r chain m = written Latest skew r chain m
+
 abbrev pub written_from : (skew : ℕ) → Ref → List Ref → Option Mark → List Told
-written_from skew r chain None = no_chain r
-written_from skew r chain (Some m) = chain_told chain ++ earliest_told skew r m
+written_from skew r chain m = written Earliest skew r chain m
 
 -- the moment that the one told last must not pass
 abbrev pub must : ℕ → List Told

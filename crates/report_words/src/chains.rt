@@ -4,10 +4,10 @@ ghost use Rattle.std.specs.Prelude.{◌≡◌, ◌++◌, ◌<◌, length, map, O
 ghost use Rattle.report_words.specs.Telling.{values_of, chain_told, Tells};
 ghost use Rattle.report_words.specs.declared.word.Word.TheVariants.{Line as LineWord};
 
-use crate::block::{Block, push_item};
+use crate::block::{Block, Kind, push_words};
 use crate::word::Word;
 use claims::{Chain, Ref};
-use std::alloc::{AllocError, Global};
+use std::alloc::AllocError;
 
 /// What stands before a line of a chain.
 fn step(index: usize) -> &'static str {
@@ -43,20 +43,16 @@ fn push_links(words: &mut Vec<Word>, chain: &[Ref]) -> Result<(), AllocError>
 }
 
 /// Appends the order of a chain's lines, where it has two or more.
-pub(crate) fn push_chain(
-    alloc: Global,
-    out: &mut Vec<Block>,
-    chain: &Chain,
-) -> Result<(), AllocError>
+pub(crate) fn push_chain(out: &mut Vec<Block>, chain: &Chain) -> Result<(), AllocError>
     ensures { OnOk result (Tells (chain_told chain.now) out.old.items out.new.items) }
 {
     let chain = chain.as_slice();
     if chain.len() < 2 {
         return Ok(());
     }
-    let mut words = Vec::new(alloc);
+    let mut words = Vec::new(*out.allocator());
     words.extend_from_slice(&[Word::Prose("These were written in this order: ")])?;
     push_links(&mut words, chain)?;
     words.extend_from_slice(&[Word::Prose(".")])?;
-    push_item(alloc, out, &words)
+    push_words(out, Kind::Item, words)
 }

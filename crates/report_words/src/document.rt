@@ -7,7 +7,7 @@ ghost use Rattle.report_words.specs.Whole.{asked_told, sides_told, pieces_told, 
 ghost use Rattle.report_words.specs.Whole.{report_told, explanation_told};
 ghost use Rattle.report_words.specs.Foreign.{foreign_told};
 
-use crate::block::{Block, Document, push_cited, push_heading};
+use crate::block::{Block, Document, Kind, push_block, push_words};
 use crate::failures::push_failure;
 use crate::foreign::push_foreign;
 use crate::pieces::push_piece;
@@ -31,7 +31,6 @@ pub struct Explanation<'a> {
 }
 
 fn push_pieces(
-    alloc: Global,
     out: &mut Vec<Block>,
     skew: Skew,
     transit: Transit,
@@ -40,13 +39,12 @@ fn push_pieces(
     ensures { OnOk result (Tells (pieces_told skew transit 1 pieces.now) out.old.items out.new.items) }
 {
     for index in 0..pieces.len() {
-        push_piece(alloc, out, skew, transit, index as u64 + 1, &pieces[index])?;
+        push_piece(out, skew, transit, index as u64 + 1, &pieces[index])?;
     }
     Ok(())
 }
 
 fn push_all_foreign(
-    alloc: Global,
     out: &mut Vec<Block>,
     report: &Report<'_>,
     foreign: &[ForeignReport<'_>],
@@ -55,47 +53,55 @@ fn push_all_foreign(
         report.now.certificate.now) foreign.now) out.old.items out.new.items) }
 {
     for entry in foreign {
-        push_foreign(alloc, out, report, entry)?;
+        push_foreign(out, report, entry)?;
     }
     Ok(())
 }
 
-fn push_lines(alloc: Global, out: &mut Vec<Block>, lines: &[Cited]) -> Result<(), AllocError>
+/// A line, in full.
+fn push_cited(out: &mut Vec<Block>, cited: &Cited) -> Result<(), AllocError>
+    ensures { OnOk result (Tells (cited_told cited.now) out.old.items out.new.items) }
+{
+    let mut words = Vec::new(*out.allocator());
+    words.extend_from_slice(&[Word::Line(cited.at), Word::Entry(cited.line)])?;
+    push_words(out, Kind::Cited, words)
+}
+
+fn push_lines(out: &mut Vec<Block>, lines: &[Cited]) -> Result<(), AllocError>
     ensures { OnOk result (Tells (flat_map cited_told lines.now) out.old.items out.new.items) }
 {
     for cited in lines {
-        push_cited(alloc, out, &[Word::Line(cited.at), Word::Entry(cited.line)])?;
+        push_cited(out, cited)?;
     }
     Ok(())
 }
 
 /// The lines that are cited, under a heading.
 #[tactic(auto, unfolding(crate::specs::Whole::lines_told))]
-fn push_cited_lines(alloc: Global, out: &mut Vec<Block>, lines: &[Cited]) -> Result<(), AllocError>
+fn push_cited_lines(out: &mut Vec<Block>, lines: &[Cited]) -> Result<(), AllocError>
     ensures { OnOk result (Tells (lines_told lines.now) out.old.items out.new.items) }
 {
-    push_heading(alloc, out, &[Word::Prose("The lines cited")])?;
-    push_lines(alloc, out, lines)
+    push_block(out, Kind::Heading, &[], "The lines cited")?;
+    push_lines(out, lines)
 }
 
 /// What is asked, and on what premises.
 #[tactic(auto, unfolding(crate::specs::Whole::asked_told))]
-fn push_asked(alloc: Global, out: &mut Vec<Block>, report: &Report<'_>) -> Result<(), AllocError>
+fn push_asked(out: &mut Vec<Block>, report: &Report<'_>) -> Result<(), AllocError>
     ensures { OnOk result (Tells (asked_told report.now) out.old.items out.new.items) }
 {
-    push_question(alloc, out, report.certificate)?;
-    push_premises(alloc, out, report.skew, report.transit)
+    push_question(out, report.certificate)?;
+    push_premises(out, report.skew, report.transit)
 }
 
 /// What the two journals show of the interval at all.
 #[tactic(auto, unfolding(crate::specs::Whole::sides_told))]
-fn push_sides(alloc: Global, out: &mut Vec<Block>, report: &Report<'_>) -> Result<(), AllocError>
+fn push_sides(out: &mut Vec<Block>, report: &Report<'_>) -> Result<(), AllocError>
     ensures { OnOk result (Tells (sides_told report.now) out.old.items out.new.items) }
 {
     let certificate = report.certificate;
     let (skew, transit) = (report.skew, report.transit);
     push_side(
-        alloc,
         out,
         skew,
         transit,
@@ -104,7 +110,6 @@ fn push_sides(alloc: Global, out: &mut Vec<Block>, report: &Report<'_>) -> Resul
         &report.primary,
     )?;
     push_side(
-        alloc,
         out,
         skew,
         transit,
@@ -114,14 +119,14 @@ fn push_sides(alloc: Global, out: &mut Vec<Block>, report: &Report<'_>) -> Resul
     )
 }
 
-fn push_report(alloc: Global, out: &mut Vec<Block>, report: &Report<'_>) -> Result<(), AllocError>
+fn push_report(out: &mut Vec<Block>, report: &Report<'_>) -> Result<(), AllocError>
     ensures { OnOk result (Tells (report_told report.now) out.old.items out.new.items) }
 {
-    push_asked(alloc, out, report)?;
-    push_sides(alloc, out, report)?;
-    push_pieces(alloc, out, report.skew, report.transit, &report.pieces)?;
-    push_all_foreign(alloc, out, report, &report.foreign)?;
-    push_cited_lines(alloc, out, &report.cited)
+    push_asked(out, report)?;
+    push_sides(out, report)?;
+    push_pieces(out, report.skew, report.transit, &report.pieces)?;
+    push_all_foreign(out, report, &report.foreign)?;
+    push_cited_lines(out, &report.cited)
 }
 
 /// Tells of a ruling, and of all that a certificate shows. `AllocError` where a growth was refused.
@@ -130,10 +135,10 @@ pub fn document_of(alloc: Global, explanation: &Explanation<'_>) -> Result<Docum
     ensures told { IfOk result (λ document. map told_of document.blocks.items ≡ explanation_told explanation.now) }
 {
     let mut blocks = Vec::new(alloc);
-    push_ruling(alloc, &mut blocks, &explanation.ruling)?;
-    push_failure(alloc, &mut blocks, &explanation.failure)?;
+    push_ruling(&mut blocks, &explanation.ruling)?;
+    push_failure(&mut blocks, &explanation.failure)?;
     if let Some(report) = &explanation.report {
-        push_report(alloc, &mut blocks, report)?;
+        push_report(&mut blocks, report)?;
     }
     Ok(Document {
         ruling: explanation.ruling,

@@ -1,22 +1,25 @@
 //! Other clients' delegations, and why they stand outside of the interval.
 
-ghost use Rattle.std.specs.Prelude.{◌≡◌, OnOk};
-ghost use Rattle.report_words.specs.Telling.{Tells};
-ghost use Rattle.report_words.specs.Foreign.{lasting_word, delegated, told_told, carried_by, ended_by, ended_told};
-ghost use Rattle.report_words.specs.Foreign.{early_told, late_told, gives_back_told, outside_told, foreign_told};
+ghost use Rattle.std.specs.Prelude.{◌≡◌, ◌+◌, ◌*◌, ◌∷◌, [], OnOk};
+ghost use Rattle.report_words.specs.Telling.{values_in, Tells};
+ghost use Rattle.report_words.specs.Foreign.{lasting_word, delegated_values, told_told, carried_by, ended_by};
+ghost use Rattle.report_words.specs.Foreign.{ended_told, early_told, late_told, gives_back_told, outside_told};
+ghost use Rattle.report_words.specs.Foreign.{foreign_told};
+ghost use Rattle.report_words.specs.declared.word.Word.TheVariants as word;
 
-use crate::block::{Block, push_heading, push_item};
+use crate::block::{Block, Kind, Part, push_block, push_sum};
 use crate::chains::push_chain;
-use crate::moments::{push_must, push_no_chain, push_written_by, push_written_from};
+use crate::moments::{Bound, push_must, push_no_chain, push_written};
 use crate::orders::push_order;
 use crate::pieces::{for_ever, push_endless};
+use crate::sums::{OF_LEASE, by_mark, with_both};
 use crate::word::Word;
 use attribution::Lasting;
 use claims::{Certificate, Chain, Ref};
 use evidence_report::{ForeignReport, Mark, Outside, Report, Told};
 use journal_lines::Lease;
-use lead_time::{End, Skew, Transit};
-use std::alloc::{AllocError, Global};
+use lead_time::{End, Reading, Skew, Transit};
+use std::alloc::AllocError;
 
 /// What the moment that was told last must be.
 const NO_LATER: &str = "That must be no later than the interval's beginning, ";
@@ -41,62 +44,45 @@ fn lasting_prose(lasting: &Lasting) -> (&'static str, &'static str) {
     }
 }
 
-fn push_delegated(
-    alloc: Global,
-    out: &mut Vec<Block>,
-    at: Ref,
-    told: &Told,
-) -> Result<(), AllocError>
-    ensures { OnOk result (Tells (delegated at told.now) out.old.items out.new.items) }
+/// What a line tells of, with this prose before how long it lasts.
+fn delegated_parts(at: Ref, told: &Told, before: &'static str) -> [Part; 6]
+    ensures { values_in result ≡ delegated_values at told.now }
 {
-    let (before, behind) = lasting_prose(&told.delegation.lasting);
-    push_item(
-        alloc,
-        out,
-        &[
-            Word::Prose("Line "),
-            Word::Line(at),
-            Word::Prose(" tells, with the clock at "),
+    let delegation = &told.delegation;
+    [
+        ("Line ", Word::Line(at)),
+        (
+            " tells, with the clock at ",
             Word::Reading(told.reading.milliseconds()),
-            Word::Prose(", of prefix "),
-            Word::Prefix(told.delegation.prefix),
-            Word::Prose(" for client "),
-            Word::Client(told.delegation.client),
-            Word::Prose(" under identity association "),
-            Word::Association(told.delegation.iaid),
-            Word::Prose(before),
-            lasting_word(&told.delegation.lasting),
-            Word::Prose(behind),
-        ],
-    )
+        ),
+        (", of prefix ", Word::Prefix(delegation.prefix)),
+        (" for client ", Word::Client(delegation.client)),
+        (
+            " under identity association ",
+            Word::Association(delegation.iaid),
+        ),
+        (before, lasting_word(&delegation.lasting)),
+    ]
 }
 
-/// What a line tells of.
-fn push_told(
-    alloc: Global,
-    out: &mut Vec<Block>,
-    at: Ref,
-    told: &Option<Told>,
-) -> Result<(), AllocError>
+/// What a line tells of, if it tells of a delegation.
+fn push_told(out: &mut Vec<Block>, at: Ref, told: &Option<Told>) -> Result<(), AllocError>
     ensures { OnOk result (Tells (told_told at told.now) out.old.items out.new.items) }
 {
     match told {
-        Some(told) => push_delegated(alloc, out, at, told),
-        None => push_item(
-            alloc,
-            out,
-            &[
-                Word::Prose("Line "),
-                Word::Line(at),
-                Word::Prose(" tells of no delegation."),
-            ],
-        ),
+        Some(told) => {
+            let (before, behind) = lasting_prose(&told.delegation.lasting);
+            push_block(out, Kind::Item, &delegated_parts(at, told, before), behind)
+        }
+        None => {
+            let line = [("Line ", Word::Line(at))];
+            push_block(out, Kind::Item, &line, " tells of no delegation.")
+        }
     }
 }
 
 /// By when a delegation up to this reading had ended.
 fn push_carried_by(
-    alloc: Global,
     out: &mut Vec<Block>,
     skew: Skew,
     transit: Transit,
@@ -105,30 +91,33 @@ fn push_carried_by(
 ) -> Result<(), AllocError>
     ensures { OnOk result (Tells (carried_by skew transit at end) out.old.items out.new.items) }
 {
-    let end = end.milliseconds();
+    let last = end.milliseconds();
+    let ended = last + skew.milliseconds() + transit.milliseconds();
+    let parts = [
+        ("So what ", Word::Line(at)),
+        (" tells of had ended by ", Word::Number(last)),
+    ];
+    push_sum(out, &parts, &with_both(skew, transit, ended), ".")
+}
+
+/// The skew, the transit and a lifetime of so many seconds, added to a reading.
+fn with_lifetime(reading: Reading, skew: Skew, transit: Transit, seconds: u32) -> [Part; 4]
+    ensures { values_in result ≡ word.Number skew ∷ word.Number transit ∷ word.Number (1000 * seconds)
+        ∷ word.Moment (reading + skew + transit + 1000 * seconds) ∷ [] }
+{
     let (skew, transit) = (skew.milliseconds(), transit.milliseconds());
-    push_item(
-        alloc,
-        out,
-        &[
-            Word::Prose("So what "),
-            Word::Line(at),
-            Word::Prose(" tells of had ended by "),
-            Word::Number(end),
-            Word::Prose(" + "),
-            Word::Number(skew),
-            Word::Prose(" (skew) + "),
-            Word::Number(transit),
-            Word::Prose(" (transit) = "),
-            Word::Moment(end + skew + transit),
-            Word::Prose("."),
-        ],
-    )
+    let lifetime = 1000 * u64::from(seconds);
+    let ended = reading.milliseconds() + skew + transit + lifetime;
+    [
+        (" + ", Word::Number(skew)),
+        (" (skew) + ", Word::Number(transit)),
+        (" (transit) + ", Word::Number(lifetime)),
+        (" (lifetime) = ", Word::Moment(ended)),
+    ]
 }
 
 /// By when a lease of so many seconds, granted by a reading, had ended.
 fn push_ended_by(
-    alloc: Global,
     out: &mut Vec<Block>,
     skew: Skew,
     transit: Transit,
@@ -138,37 +127,13 @@ fn push_ended_by(
 ) -> Result<(), AllocError>
     ensures { OnOk result (Tells (ended_by skew transit at seconds mark.now) out.old.items out.new.items) }
 {
-    let reading = mark.reading.milliseconds();
-    let (skew, transit) = (skew.milliseconds(), transit.milliseconds());
-    let lifetime = 1000 * u64::from(seconds);
-    push_item(
-        alloc,
-        out,
-        &[
-            Word::Prose("At "),
-            Word::Line(mark.at),
-            Word::Prose(" the clock showed "),
-            Word::Reading(reading),
-            Word::Prose(". So the lease of "),
-            Word::Line(at),
-            Word::Prose(" had ended by "),
-            Word::Number(reading),
-            Word::Prose(" + "),
-            Word::Number(skew),
-            Word::Prose(" (skew) + "),
-            Word::Number(transit),
-            Word::Prose(" (transit) + "),
-            Word::Number(lifetime),
-            Word::Prose(" (lifetime) = "),
-            Word::Moment(reading + skew + transit + lifetime),
-            Word::Prose("."),
-        ],
-    )
+    let parts = by_mark(mark, OF_LEASE, at, " had ended by ");
+    let sum = with_lifetime(mark.reading, skew, transit, seconds);
+    push_sum(out, &parts, &sum, ".")
 }
 
 /// By when a delegation had ended, where the line that tells of it was written by a reading.
 fn push_ended(
-    alloc: Global,
     out: &mut Vec<Block>,
     skew: Skew,
     transit: Transit,
@@ -181,42 +146,27 @@ fn push_ended(
     match lasting {
         Lasting::For(seconds) => {
             if *seconds == Lease::INFINITE {
-                push_endless(alloc, out, at)
+                push_endless(out, at)
             } else {
-                push_ended_by(alloc, out, skew, transit, at, *seconds, mark)
+                push_ended_by(out, skew, transit, at, *seconds, mark)
             }
         }
-        Lasting::Until(end) => push_carried_by(alloc, out, skew, transit, at, *end),
+        Lasting::Until(end) => push_carried_by(out, skew, transit, at, *end),
     }
 }
 
 /// That a carry line doesn't show when what it tells of began.
-fn push_late(
-    alloc: Global,
-    out: &mut Vec<Block>,
-    at: Ref,
-    lasting: &Lasting,
-) -> Result<(), AllocError>
+fn push_late(out: &mut Vec<Block>, at: Ref, lasting: &Lasting) -> Result<(), AllocError>
     ensures { OnOk result (Tells (late_told at lasting.now) out.old.items out.new.items) }
 {
+    let unshown = " carries what earlier volumes delegated, and doesn't show when that began.";
     match lasting {
         Lasting::For(_) => Ok(()),
-        Lasting::Until(_) => push_item(
-            alloc,
-            out,
-            &[
-                Word::Prose("But "),
-                Word::Line(at),
-                Word::Prose(
-                    " carries what earlier volumes delegated, and doesn't show when that began.",
-                ),
-            ],
-        ),
+        Lasting::Until(_) => push_block(out, Kind::Item, &[("But ", Word::Line(at))], unshown),
     }
 }
 
 fn push_gives_back(
-    alloc: Global,
     out: &mut Vec<Block>,
     at: Ref,
     release: Ref,
@@ -229,22 +179,12 @@ fn push_gives_back(
     } else {
         " doesn't give back what was delegated by "
     };
-    push_item(
-        alloc,
-        out,
-        &[
-            Word::Prose("Line "),
-            Word::Line(release),
-            Word::Prose(prose),
-            Word::Line(at),
-            Word::Prose("."),
-        ],
-    )
+    let lines = [("Line ", Word::Line(release)), (prose, Word::Line(at))];
+    push_block(out, Kind::Item, &lines, ".")
 }
 
 /// That it ended before the interval: by a chain from the line.
 fn push_early(
-    alloc: Global,
     out: &mut Vec<Block>,
     report: &Report<'_>,
     at: Ref,
@@ -256,24 +196,16 @@ fn push_early(
         report.now.certificate.now.from at told.now chain.now mark.now) out.old.items out.new.items) }
 {
     let Some(mark) = mark else {
-        return push_no_chain(alloc, out, at);
+        return push_no_chain(out, at);
     };
-    push_chain(alloc, out, chain)?;
-    push_ended(
-        alloc,
-        out,
-        report.skew,
-        report.transit,
-        at,
-        &told.delegation.lasting,
-        mark,
-    )?;
-    push_must(alloc, out, NO_LATER, report.certificate.from)
+    let (skew, transit) = (report.skew, report.transit);
+    push_chain(out, chain)?;
+    push_ended(out, skew, transit, at, &told.delegation.lasting, mark)?;
+    push_must(out, NO_LATER, report.certificate.from)
 }
 
 /// Why a delegation stands outside of the interval.
 fn push_outside(
-    alloc: Global,
     out: &mut Vec<Block>,
     report: &Report<'_>,
     at: Ref,
@@ -284,11 +216,11 @@ fn push_outside(
         at told.now outside.now) out.old.items out.new.items) }
 {
     match outside {
-        Outside::Early(chain, mark) => push_early(alloc, out, report, at, told, chain, mark),
+        Outside::Early(chain, mark) => push_early(out, report, at, told, chain, mark),
         Outside::Late(chain, mark) => {
-            push_written_from(alloc, out, report.skew, at, chain, mark)?;
-            push_must(alloc, out, NO_EARLIER, report.certificate.to)?;
-            push_late(alloc, out, at, &told.delegation.lasting)
+            push_written(out, Bound::Earliest, report.skew, at, chain, mark)?;
+            push_must(out, NO_EARLIER, report.certificate.to)?;
+            push_late(out, at, &told.delegation.lasting)
         }
         Outside::Released {
             release,
@@ -297,17 +229,16 @@ fn push_outside(
             chain,
             latest,
         } => {
-            push_gives_back(alloc, out, at, *release, *gives_back)?;
-            push_order(alloc, out, report.skew, at, *release, order)?;
-            push_written_by(alloc, out, report.skew, *release, chain, latest)?;
-            push_must(alloc, out, NO_LATER, report.certificate.from)
+            push_gives_back(out, at, *release, *gives_back)?;
+            push_order(out, report.skew, at, *release, order)?;
+            push_written(out, Bound::Latest, report.skew, *release, chain, latest)?;
+            push_must(out, NO_LATER, report.certificate.from)
         }
     }
 }
 
 /// What a foreign entry's line tells of, and why that stands outside of the interval.
 pub(crate) fn push_foreign(
-    alloc: Global,
     out: &mut Vec<Block>,
     report: &Report<'_>,
     foreign: &ForeignReport<'_>,
@@ -316,17 +247,11 @@ pub(crate) fn push_foreign(
         foreign.now) out.old.items out.new.items) }
 {
     let at = foreign.entry.grant;
-    push_heading(
-        alloc,
-        out,
-        &[
-            Word::Prose("Another client's delegation, of line "),
-            Word::Line(at),
-        ],
-    )?;
-    push_told(alloc, out, at, &foreign.told)?;
+    let heading = [("Another client's delegation, of line ", Word::Line(at))];
+    push_block(out, Kind::Heading, &heading, "")?;
+    push_told(out, at, &foreign.told)?;
     match &foreign.told {
-        Some(told) => push_outside(alloc, out, report, at, told, &foreign.outside),
+        Some(told) => push_outside(out, report, at, told, &foreign.outside),
         None => Ok(()),
     }
 }

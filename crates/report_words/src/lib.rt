@@ -4,7 +4,7 @@
 //! paragraphs, items and cited lines, each of which is a list of [`Word`]s. A word is prose, or a value of the report:
 //! a line, a reading, a moment, a client. A writer spells them, and adds no number of its own. The contracts say, block
 //! by block, which values stand there and in which order, with each sum; specs/Telling and the files beside it have
-//! them. The prose is what nothing but a reader judges.
+//! them. The prose is what nothing but a reader judges. [`push_block`] and [`push_sum`] append sentences of one's own.
 //!
 //! ```text
 //! let explanation = Explanation { ruling, report: Some(report), failure };
@@ -24,8 +24,9 @@ mod question;
 mod releases;
 mod rule_words;
 mod rulings;
+mod sums;
 mod word;
 
-pub use block::{Block, Document, Kind};
+pub use block::{Block, Document, Kind, Part, push_block, push_sum};
 pub use document::{Explanation, document_of};
 pub use word::Word;

@@ -3,68 +3,46 @@
 ghost use Rattle.std.specs.Prelude.{◌≡◌, OnOk};
 ghost use Rattle.report_words.specs.Telling.{order_told, before_told, Tells};
 
-use crate::block::{Block, push_item};
+use crate::block::{Block, Kind, push_block};
 use crate::chains::push_chain;
-use crate::moments::{push_written_by, push_written_from};
+use crate::moments::{Bound, push_written};
 use crate::word::Word;
 use claims::Ref;
 use evidence_report::OrderReport;
 use lead_time::Skew;
-use std::alloc::{AllocError, Global};
+use std::alloc::AllocError;
 
-/// That a chain leads from the one line to the other, or doesn't.
-fn push_before(
-    alloc: Global,
+/// What is said of the two lines where clocks have to show their order.
+const BY_CLOCKS: (&str, &str) = (
+    "The latest moment of ",
+    " must come before the earliest moment of ",
+);
+
+/// What prose says of two lines.
+fn push_two(
     out: &mut Vec<Block>,
+    prose: (&'static str, &'static str),
     first: Ref,
     second: Ref,
-    leads: bool,
 ) -> Result<(), AllocError>
     ensures { OnOk result (Tells (before_told first second) out.old.items out.new.items) }
 {
-    let (opening, middle) = if leads {
+    let (opening, middle) = prose;
+    let lines = [(opening, Word::Line(first)), (middle, Word::Line(second))];
+    push_block(out, Kind::Item, &lines, ".")
+}
+
+/// Whether a chain leads from the one line to the other.
+fn leading(leads: bool) -> (&'static str, &'static str) {
+    if leads {
         ("So ", " was written before ")
     } else {
         ("That is no chain of two lines or more from ", " to ")
-    };
-    push_item(
-        alloc,
-        out,
-        &[
-            Word::Prose(opening),
-            Word::Line(first),
-            Word::Prose(middle),
-            Word::Line(second),
-            Word::Prose("."),
-        ],
-    )
+    }
 }
 
-/// That the one line's latest moment has to come before the other's earliest.
-fn push_clocks(
-    alloc: Global,
-    out: &mut Vec<Block>,
-    first: Ref,
-    second: Ref,
-) -> Result<(), AllocError>
-    ensures { OnOk result (Tells (before_told first second) out.old.items out.new.items) }
-{
-    push_item(
-        alloc,
-        out,
-        &[
-            Word::Prose("The latest moment of "),
-            Word::Line(first),
-            Word::Prose(" must come before the earliest moment of "),
-            Word::Line(second),
-            Word::Prose("."),
-        ],
-    )
-}
-
-/// Why one line was written before another.
+/// Why one line was written before another: by a chain that leads to it, or since its earliest moment is later.
 pub(crate) fn push_order(
-    alloc: Global,
     out: &mut Vec<Block>,
     skew: Skew,
     first: Ref,
@@ -75,8 +53,8 @@ pub(crate) fn push_order(
 {
     match order {
         OrderReport::Chain { chain, leads } => {
-            push_chain(alloc, out, chain)?;
-            push_before(alloc, out, first, second, *leads)
+            push_chain(out, chain)?;
+            push_two(out, leading(*leads), first, second)
         }
         OrderReport::Clock {
             before,
@@ -84,9 +62,9 @@ pub(crate) fn push_order(
             after,
             earliest,
         } => {
-            push_written_by(alloc, out, skew, first, before, latest)?;
-            push_written_from(alloc, out, skew, second, after, earliest)?;
-            push_clocks(alloc, out, first, second)
+            push_written(out, Bound::Latest, skew, first, before, latest)?;
+            push_written(out, Bound::Earliest, skew, second, after, earliest)?;
+            push_two(out, BY_CLOCKS, first, second)
         }
     }
 }

@@ -1,11 +1,11 @@
 //! What a ruling says, in words.
 
 ghost use Rattle.std.specs.Prelude.{◌≡◌, ◌∷◌, ◌++◌, [], OnOk};
-ghost use Rattle.report_words.specs.Telling.{paragraph, Tells};
+ghost use Rattle.report_words.specs.Telling.{values_in, paragraph, Tells};
 ghost use Rattle.report_words.specs.Refusing.{journal_values, certificate_values, verdict_values, ruling_told};
 ghost use Rattle.report_words.specs.declared.word.Word.TheVariants as word;
 
-use crate::block::{Block, push_paragraph};
+use crate::block::{Block, Kind, Part, push_block};
 use crate::rule_words::rule_words;
 use crate::word::Word;
 use attribution::Verdict;
@@ -14,83 +14,7 @@ use book_rules::Rule;
 use claims::{CertificateFault, Ref};
 use journal_lines::JournalFault;
 use pair_ruling::Ruling;
-use std::alloc::{AllocError, Global};
-
-/// Prose alone.
-fn push_prose(alloc: Global, out: &mut Vec<Block>, prose: &'static str) -> Result<(), AllocError>
-    ensures { OnOk result (Tells (paragraph [] ∷ []) out.old.items out.new.items) }
-{
-    push_paragraph(alloc, out, &[Word::Prose(prose)])
-}
-
-/// A side between two pieces of prose.
-fn push_of_side(
-    alloc: Global,
-    out: &mut Vec<Block>,
-    before: &'static str,
-    side: Role,
-    behind: &'static str,
-) -> Result<(), AllocError>
-    ensures { OnOk result (Tells (paragraph (word.Side side ∷ []) ∷ []) out.old.items out.new.items) }
-{
-    push_paragraph(
-        alloc,
-        out,
-        &[Word::Prose(before), Word::Side(side), Word::Prose(behind)],
-    )
-}
-
-/// A line between two pieces of prose.
-pub(crate) fn push_of_line(
-    alloc: Global,
-    out: &mut Vec<Block>,
-    before: &'static str,
-    at: Ref,
-    behind: &'static str,
-) -> Result<(), AllocError>
-    ensures { OnOk result (Tells (paragraph (word.Line at ∷ []) ∷ []) out.old.items out.new.items) }
-{
-    push_paragraph(
-        alloc,
-        out,
-        &[Word::Prose(before), Word::Line(at), Word::Prose(behind)],
-    )
-}
-
-/// A number between two pieces of prose.
-pub(crate) fn push_of_number(
-    alloc: Global,
-    out: &mut Vec<Block>,
-    before: &'static str,
-    number: u64,
-    behind: &'static str,
-) -> Result<(), AllocError>
-    ensures { OnOk result (Tells (paragraph (word.Number number ∷ []) ∷ []) out.old.items out.new.items) }
-{
-    push_paragraph(
-        alloc,
-        out,
-        &[
-            Word::Prose(before),
-            Word::Number(number),
-            Word::Prose(behind),
-        ],
-    )
-}
-
-/// A line of a side's text, as it's counted there.
-fn push_counted(
-    alloc: Global,
-    out: &mut Vec<Block>,
-    side: Role,
-    number: u32,
-    behind: &'static str,
-) -> Result<(), AllocError>
-    ensures { OnOk result (Tells (paragraph (word.Line (record { side = side; number = number }) ∷ []) ∷ [])
-        out.old.items out.new.items) }
-{
-    push_of_line(alloc, out, "Line ", Ref { side, number }, behind)
-}
+use std::alloc::AllocError;
 
 const NO_HEAD: &str = " doesn't begin with the head line of such a journal.";
 
@@ -103,101 +27,14 @@ const OTHER_NUMBER: &str = ", counted behind the head line, has another number t
 const OTHER_READING: &str =
     ", counted behind the head line, has a reading below the one before, or over the limit.";
 
-fn push_journal(
-    alloc: Global,
-    out: &mut Vec<Block>,
-    side: Role,
-    fault: &JournalFault,
-) -> Result<(), AllocError>
-    ensures { OnOk result (Tells (paragraph (journal_values side fault.now) ∷ []) out.old.items out.new.items) }
-{
-    let text = "The text given as journal ";
-    match fault {
-        JournalFault::Head => push_of_side(alloc, out, text, side, NO_HEAD),
-        JournalFault::Form { line } => push_counted(alloc, out, side, *line, NO_LINE),
-        JournalFault::Number { line } => push_counted(alloc, out, side, *line, OTHER_NUMBER),
-        JournalFault::Reading { line } => push_counted(alloc, out, side, *line, OTHER_READING),
-        JournalFault::End => push_of_side(alloc, out, text, side, NO_END),
-    }
-}
+const NO_CERTIFICATE: &str =
+    "The text given as the certificate doesn't begin with the head line of one.";
 
-fn push_certificate(
-    alloc: Global,
-    out: &mut Vec<Block>,
-    fault: &CertificateFault,
-) -> Result<(), AllocError>
-    ensures { OnOk result (Tells (paragraph (certificate_values fault.now) ∷ []) out.old.items out.new.items) }
-{
-    match fault {
-        CertificateFault::Head => push_prose(
-            alloc,
-            out,
-            "The text given as the certificate doesn't begin with the head line of one.",
-        ),
-        CertificateFault::Form { line } => push_of_number(
-            alloc,
-            out,
-            "Line ",
-            u64::from(*line),
-            " of the certificate's text isn't spelled as a line that may stand there.",
-        ),
-        CertificateFault::End => push_prose(
-            alloc,
-            out,
-            "The certificate's text stops before its end line, or goes on behind it.",
-        ),
-    }
-}
+const NO_CERTIFICATE_LINE: &str =
+    " of the certificate's text isn't spelled as a line that may stand there.";
 
-fn push_rule(
-    alloc: Global,
-    out: &mut Vec<Block>,
-    side: Role,
-    line: u32,
-    rule: Rule,
-) -> Result<(), AllocError>
-    ensures { OnOk result
-        (Tells (paragraph (verdict_values (Verdict.Rule side line rule)) ∷ []) out.old.items out.new.items) }
-{
-    push_paragraph(
-        alloc,
-        out,
-        &[
-            Word::Prose("Line "),
-            Word::Line(Ref { side, number: line }),
-            Word::Prose(
-                " breaks a rule of the pair's journals, so nothing is concluded from them. It is rule ",
-            ),
-            Word::Number(u64::from(rule.number())),
-            Word::Prose(": "),
-            Word::Prose(rule_words(rule)),
-        ],
-    )
-}
-
-fn push_release(
-    alloc: Global,
-    out: &mut Vec<Block>,
-    number: u64,
-    release: Ref,
-) -> Result<(), AllocError>
-    ensures { OnOk result
-        (Tells (paragraph (verdict_values (Verdict.PieceRelease number release)) ∷ []) out.old.items out.new.items) }
-{
-    push_paragraph(
-        alloc,
-        out,
-        &[
-            Word::Prose("What the grant of piece "),
-            Word::Number(number),
-            Word::Prose(" gave is given back by line "),
-            Word::Line(release),
-            Word::Prose(
-                ", and no entry of the certificate shows that this was before the grant or after the piece.",
-            ),
-        ],
-    )
-}
+const NO_CERTIFICATE_END: &str =
+    "The certificate's text stops before its end line, or goes on behind it.";
 
 const ACCEPTED: &str =
     "The answer to the question below is yes. In every run of the two servers that leaves these \
@@ -225,6 +62,9 @@ const GAP: &str = " doesn't begin where it must, or has no moment.";
 
 const NOT_CARRIED: &str = " isn't carried by the grant that it names.";
 
+const NOT_DISCHARGED: &str =
+    ", and no entry of the certificate shows that this was before the grant or after the piece.";
+
 const UNCOVERED: &str =
     " tells of another client's delegation that touches the prefix, and no entry of the certificate \
     names it.";
@@ -232,26 +72,126 @@ const UNCOVERED: &str =
 const NO_REASON: &str =
     " is named by an entry whose reason why it doesn't touch the interval doesn't hold.";
 
+/// What is so of a line.
+fn push_line(out: &mut Vec<Block>, at: Ref, what: &'static str) -> Result<(), AllocError>
+    ensures { OnOk result (Tells (paragraph (word.Line at ∷ []) ∷ []) out.old.items out.new.items) }
+{
+    push_block(out, Kind::Paragraph, &[("Line ", Word::Line(at))], what)
+}
+
+/// What is so of a piece.
+fn push_piece(out: &mut Vec<Block>, number: u64, what: &'static str) -> Result<(), AllocError>
+    ensures { OnOk result (Tells (paragraph (word.Number number ∷ []) ∷ []) out.old.items out.new.items) }
+{
+    push_block(
+        out,
+        Kind::Paragraph,
+        &[("Piece ", Word::Number(number))],
+        what,
+    )
+}
+
+/// What is wrong with a text that was given as a journal.
+fn push_journal(out: &mut Vec<Block>, side: Role, fault: &JournalFault) -> Result<(), AllocError>
+    ensures { OnOk result (Tells (paragraph (journal_values side fault.now) ∷ []) out.old.items out.new.items) }
+{
+    let text = [("The text given as journal ", Word::Side(side))];
+    match fault {
+        JournalFault::Head => push_block(out, Kind::Paragraph, &text, NO_HEAD),
+        JournalFault::Form { line } => push_line(
+            out,
+            Ref {
+                side,
+                number: *line,
+            },
+            NO_LINE,
+        ),
+        JournalFault::Number { line } => push_line(
+            out,
+            Ref {
+                side,
+                number: *line,
+            },
+            OTHER_NUMBER,
+        ),
+        JournalFault::Reading { line } => push_line(
+            out,
+            Ref {
+                side,
+                number: *line,
+            },
+            OTHER_READING,
+        ),
+        JournalFault::End => push_block(out, Kind::Paragraph, &text, NO_END),
+    }
+}
+
+/// What is wrong with the certificate's text.
+fn push_certificate(out: &mut Vec<Block>, fault: &CertificateFault) -> Result<(), AllocError>
+    ensures { OnOk result (Tells (paragraph (certificate_values fault.now) ∷ []) out.old.items out.new.items) }
+{
+    match fault {
+        CertificateFault::Head => push_block(out, Kind::Paragraph, &[], NO_CERTIFICATE),
+        CertificateFault::Form { line } => {
+            let line = [("Line ", Word::Number(u64::from(*line)))];
+            push_block(out, Kind::Paragraph, &line, NO_CERTIFICATE_LINE)
+        }
+        CertificateFault::End => push_block(out, Kind::Paragraph, &[], NO_CERTIFICATE_END),
+    }
+}
+
+/// A rule that a line breaks.
+fn rule_parts(side: Role, line: u32, rule: Rule) -> [Part; 3]
+    ensures { values_in result ≡ verdict_values (Verdict.Rule side line rule) }
+{
+    [
+        ("Line ", Word::Line(Ref { side, number: line })),
+        (
+            " breaks a rule of the pair's journals, so nothing is concluded from them. It is rule ",
+            Word::Number(u64::from(rule.number())),
+        ),
+        (": ", Word::Prose(rule_words(rule))),
+    ]
+}
+
+/// A release that no entry discharges.
+fn release_parts(number: u64, release: Ref) -> [Part; 2]
+    ensures { values_in result ≡ verdict_values (Verdict.PieceRelease number release) }
+{
+    [
+        ("What the grant of piece ", Word::Number(number)),
+        (" gave is given back by line ", Word::Line(release)),
+    ]
+}
+
 /// What a verdict says.
-fn push_verdict(alloc: Global, out: &mut Vec<Block>, verdict: &Verdict) -> Result<(), AllocError>
+fn push_verdict(out: &mut Vec<Block>, verdict: &Verdict) -> Result<(), AllocError>
     ensures { OnOk result (Tells (paragraph (verdict_values verdict.now) ∷ []) out.old.items out.new.items) }
 {
+    let kind = Kind::Paragraph;
     match verdict {
-        Verdict::Accepted => push_prose(alloc, out, ACCEPTED),
-        Verdict::Journal(side, fault) => push_journal(alloc, out, *side, fault),
-        Verdict::Certificate(fault) => push_certificate(alloc, out, fault),
-        Verdict::Rule(side, line, rule) => push_rule(alloc, out, *side, *line, *rule),
-        Verdict::Unsent(at) => push_of_line(alloc, out, "Line ", *at, UNSENT),
-        Verdict::Differs(at) => push_of_line(alloc, out, "Line ", *at, DIFFERS),
-        Verdict::Circular => push_prose(alloc, out, CIRCULAR),
-        Verdict::EmptyInterval => push_prose(alloc, out, EMPTY),
-        Verdict::PastEnd(side) => push_of_side(alloc, out, PAST_END, *side, "."),
-        Verdict::PieceGap(number) => push_of_number(alloc, out, "Piece ", *number, GAP),
-        Verdict::PieceGrant(number) => push_of_number(alloc, out, "Piece ", *number, NOT_CARRIED),
-        Verdict::BeforeOpen => push_prose(alloc, out, BEFORE_OPEN),
-        Verdict::PieceRelease(number, release) => push_release(alloc, out, *number, *release),
-        Verdict::Uncovered(at) => push_of_line(alloc, out, "Line ", *at, UNCOVERED),
-        Verdict::Reason(at) => push_of_line(alloc, out, "Line ", *at, NO_REASON),
+        Verdict::Accepted => push_block(out, kind, &[], ACCEPTED),
+        Verdict::Journal(side, fault) => push_journal(out, *side, fault),
+        Verdict::Certificate(fault) => push_certificate(out, fault),
+        Verdict::Rule(side, line, rule) => push_block(
+            out,
+            kind,
+            &rule_parts(*side, *line, *rule),
+            "",
+        ),
+        Verdict::Unsent(at) => push_line(out, *at, UNSENT),
+        Verdict::Differs(at) => push_line(out, *at, DIFFERS),
+        Verdict::Circular => push_block(out, kind, &[], CIRCULAR),
+        Verdict::EmptyInterval => push_block(out, kind, &[], EMPTY),
+        Verdict::PastEnd(side) => push_block(out, kind, &[(PAST_END, Word::Side(*side))], "."),
+        Verdict::PieceGap(number) => push_piece(out, *number, GAP),
+        Verdict::PieceGrant(number) => push_piece(out, *number, NOT_CARRIED),
+        Verdict::BeforeOpen => push_block(out, kind, &[], BEFORE_OPEN),
+        Verdict::PieceRelease(number, release) => {
+            push_block(out, kind, &release_parts(*number, *release), NOT_DISCHARGED)
+        }
+        Verdict::Uncovered(at) => push_line(out, *at, UNCOVERED),
+        Verdict::Reason(at) => push_line(out, *at, NO_REASON),
     }
 }
 
@@ -261,25 +201,18 @@ const PAIR: &str =
 const SKEW: &str =
     "A journal's own line says a greater skew or transit than the question allows for.";
 
+const CLOCKS: &str =
+    " takes a message, and reads more than twice the skew below the line that sent it: no clocks within \
+    the skew can have written both.";
+
 /// What a ruling says.
-pub(crate) fn push_ruling(
-    alloc: Global,
-    out: &mut Vec<Block>,
-    ruling: &Ruling,
-) -> Result<(), AllocError>
+pub(crate) fn push_ruling(out: &mut Vec<Block>, ruling: &Ruling) -> Result<(), AllocError>
     ensures { OnOk result (Tells (ruling_told ruling.now) out.old.items out.new.items) }
 {
     match ruling {
-        Ruling::Verdict(verdict) => push_verdict(alloc, out, verdict),
-        Ruling::Clocks(take) => push_of_line(
-            alloc,
-            out,
-            "Line ",
-            *take,
-            " takes a message, and reads more than twice the skew below the line that sent it: no clocks within \
-                the skew can have written both.",
-        ),
-        Ruling::Pair => push_prose(alloc, out, PAIR),
-        Ruling::Skew => push_prose(alloc, out, SKEW),
+        Ruling::Verdict(verdict) => push_verdict(out, verdict),
+        Ruling::Clocks(take) => push_line(out, *take, CLOCKS),
+        Ruling::Pair => push_block(out, Kind::Paragraph, &[], PAIR),
+        Ruling::Skew => push_block(out, Kind::Paragraph, &[], SKEW),
     }
 }
