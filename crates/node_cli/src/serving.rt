@@ -105,7 +105,8 @@ pub fn serve_directory<R: Wait + Files + Net + RandomSource + Clock>(
     let text = match content_of(rt, alloc, path.as_path()) {
         Ok(text) => text,
         Err(error) => {
-            let _ = eprintln!(rt; "<3>node: the settings can't be read: {error}");
+            let shown = path.display();
+            let _ = eprintln!(rt; "<3>node: the settings can't be read: {shown}: {error}");
             return Ok(1);
         }
     };
