@@ -11,6 +11,7 @@ use settings_text::read_settings;
 use std::alloc::{AllocError, Global};
 use std::process::Abort;
 use std::test::Fail;
+use test_settings::settings;
 
 /// The primary's first volume: what it was opened with, and a last line at 10000.
 const OPEN: &[u8] = b"pd-journal 1 A
@@ -48,58 +49,24 @@ end 5
 ";
 
 /// The settings that these volumes were opened with.
-const SAME: &[u8] = b"role = \"primary\"
-duid = \"00030001020000000009\"
-skew_ms = 500
-mclt = 3600
-life = 7200
-transit_ms = 250
-[[pool]]
-prefix = \"2001:db8::/48\"
-unit = 56
-";
+const SAME: &str =
+    settings!("primary", skew 500, mclt 3600, life 7200, "transit_ms = 250\n", "2001:db8::/48");
 
 /// Settings with another lifetime and no transit.
-const OTHER: &[u8] = b"role = \"primary\"
-duid = \"00030001020000000009\"
-skew_ms = 500
-mclt = 3600
-life = 3600
-[[pool]]
-prefix = \"2001:db8::/48\"
-unit = 56
-";
+const OTHER: &str = settings!("primary", skew 500, mclt 3600, life 3600, "", "2001:db8::/48");
 
 /// Settings of which nothing agrees but the units of the pool.
-const NONE: &[u8] = b"role = \"secondary\"
-duid = \"00030001020000000009\"
-skew_ms = 501
-mclt = 3601
-life = 7201
-transit_ms = 251
-[[pool]]
-prefix = \"2001:db8:1::/48\"
-unit = 56
-";
+const NONE: &str =
+    settings!("secondary", skew 501, mclt 3601, life 7201, "transit_ms = 251\n", "2001:db8:1::/48");
 
 /// Settings with a pool more.
-const MORE: &[u8] = b"role = \"primary\"
-duid = \"00030001020000000009\"
-skew_ms = 500
-mclt = 3600
-life = 7200
-transit_ms = 250
-[[pool]]
-prefix = \"2001:db8::/48\"
-unit = 56
-[[pool]]
-prefix = \"2001:db8:1::/48\"
-unit = 56
-";
+const MORE: &str =
+    settings!("primary", skew 500, mclt 3600, life 7200, "transit_ms = 250\n", "2001:db8::/48",
+    "2001:db8:1::/48");
 
 /// Folders, settings and readings of the clock, and what a server does with them. The skew is 500 ms, so that a clock
 /// may be 1000 ms behind the last line and no more.
-const STARTS: [(&[&[u8]], &[u8], u64, &str); 12] = [
+const STARTS: [(&[&[u8]], &str, u64, &str); 12] = [
     (&[], NONE, 0, "the first book is opened"),
     (&[OPEN], SAME, 12000, "goes on with 5 12000 restart 2"),
     (&[OPEN], SAME, 9000, "goes on with 5 10000 restart 2"),
@@ -193,7 +160,7 @@ fn said(alloc: Global, start: Result<Start, StartError>) -> Result<String, Alloc
 #[test]
 fn starts_or_says_why_not(rt: HostRuntime) -> Result<(), Fail> {
     for (files, settings, now, words) in STARTS {
-        let settings = read_settings(rt.alloc(), settings)?;
+        let settings = read_settings(rt.alloc(), settings.as_bytes())?;
         let step = recover_folder(rt.alloc(), Role::Primary, &HeldFiles { files })?.step;
         let start = start_with(rt.alloc(), step, &settings, Reading::new(now)?);
         assert_eq!(rt; said(rt.alloc(), start)?.as_str(), words);

@@ -70,6 +70,17 @@ fn check_found(
     Ok(())
 }
 
+/// That a search for what an input claims over its journals gives its own certificate.
+fn check_found_itself(
+    rt: &impl Abort,
+    alloc: Global,
+    input: &str,
+    transit: u64,
+) -> Result<(), Fail> {
+    let texts = cut(alloc, input)?;
+    check_found(rt, alloc, input, transit, texts.certificate.as_str())
+}
+
 /// That a search over an index of an input's journals gives what a walk over them accepts.
 fn check_found_in_index(
     rt: &(impl Abort + Threads + Sync),
@@ -122,9 +133,8 @@ end
 
 #[test]
 fn finds_the_examples(rt: HostRuntime) -> Result<(), Fail> {
-    for input in EXAMPLES {
-        let texts = cut(rt.alloc(), input)?;
-        check_found(&rt, rt.alloc(), input, 0, texts.certificate.as_str())?;
+    for input in &EXAMPLES {
+        check_found_itself(&rt, rt.alloc(), input, 0)?;
         check_found_in_index(&rt, rt.alloc(), input)?;
     }
     check_found(&rt, rt.alloc(), END_TO_END, 0, TWO_PIECES)?;
@@ -172,19 +182,17 @@ const UNDER_WAY: [(&str, u64, bool); 3] = [
 
 #[test]
 fn finds_only_what_is_shown(rt: HostRuntime) -> Result<(), Fail> {
-    for (input, old, new) in UNSHOWN {
-        let changed = input.replacen(rt.alloc(), old, new, 1)?;
-        assert_ne!(rt; changed.as_str(), input);
+    for (input, old, new) in &UNSHOWN {
+        let changed = input.replacen(rt.alloc(), *old, *new, 1)?;
+        assert_ne!(rt; changed.as_str(), *input);
         check_found(&rt, rt.alloc(), changed.as_str(), 0, NONE)?;
     }
-    for (from, transit, is_shown) in UNDER_WAY {
-        let later = WHOLE_HOUR.replacen(rt.alloc(), " 12000 ", from, 2)?;
-        let texts = cut(rt.alloc(), later.as_str())?;
-        let wanted = texts.certificate.as_str();
-        if is_shown {
-            check_found(&rt, rt.alloc(), later.as_str(), transit, wanted)?;
+    for (from, transit, is_shown) in &UNDER_WAY {
+        let later = WHOLE_HOUR.replacen(rt.alloc(), " 12000 ", *from, 2)?;
+        if *is_shown {
+            check_found_itself(&rt, rt.alloc(), later.as_str(), *transit)?;
         } else {
-            check_found(&rt, rt.alloc(), later.as_str(), transit, NONE)?;
+            check_found(&rt, rt.alloc(), later.as_str(), *transit, NONE)?;
         }
     }
     Ok(())

@@ -73,37 +73,7 @@ pub const BOUNDS_OF_A_RELEASE: &[Change] = &[
     ("chain A3>A4 latest A4", "clock A3 A4 latest A4", ACCEPTED),
 ];
 
-/// Leases of five other clients that ended before the interval, on both sides.
-pub const FIVE_OTHERS: &str = "pd-journal 1 A
-1 500 open 2000 3600 3600
-2 500 pool 2001:0db8:0000:0000:0000:0000:0000:0000/48 56
-3 10000 grant 00030001020000000002 00000001 2001:0db8:0000:0000:0000:0000:0000:0000/56 90
-4 10000 grant 00030001020000000003 00000001 2001:0db8:0000:0000:0000:0000:0000:0000/56 90
-5 10000 grant 00030001020000000004 00000001 2001:0db8:0000:0000:0000:0000:0000:0000/56 90
-6 100000 grant 00030001020000000001 00000001 2001:0db8:0000:0000:0000:0000:0000:0000/56 3600
-7 3700000 close
-end 7
-pd-journal 1 B
-1 500 open 2000 3600 3600
-2 500 pool 2001:0db8:0000:0000:0000:0000:0000:0000/48 56
-3 10000 grant 00030001020000000005 00000001 2001:0db8:0000:0000:0000:0000:0000:0000/56 90
-4 10000 grant 00030001020000000006 00000001 2001:0db8:0000:0000:0000:0000:0000:0000/56 90
-5 3700000 close
-end 5
-pd-certificate 1
-holder 00030001020000000001
-prefix 2001:0db8:0000:0000:0000:0000:0000:0000/56
-interval 112000 200000
-piece A6 112000 200000 latest A6 earliest A6
-foreign A3 early A3
-foreign A4 early A4
-foreign A5 early A5
-foreign B3 early B3
-foreign B4 early B4
-end
-";
-
-/// Its foreign lines.
+/// The foreign lines of the leases of five others.
 const IN_ORDER: &str =
     "foreign A3 early A3\nforeign A4 early A4\nforeign A5 early A5\nforeign B3 early B3\nforeign B4 early B4\n";
 

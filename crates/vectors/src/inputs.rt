@@ -1,113 +1,67 @@
 //! Whole inputs of the desk: two journals and a certificate each.
 
+/// An input by the lines of each side, with the number of its close line, and by what is claimed of the first client.
+macro_rules! input {
+    (opened $at:literal, closed $end:literal, A $a:literal $last_a:literal, B $b:literal $last_b:literal,
+     claimed $from:literal $to:literal, $claims:literal) => {
+        concat!(
+            "pd-journal 1 A\n1 ", $at, " open 2000 3600 3600\n2 ", $at,
+            " pool 2001:0db8:0000:0000:0000:0000:0000:0000/48 56\n",
+            $a, $last_a, " ", $end, " close\nend ", $last_a,
+            "\npd-journal 1 B\n1 ", $at, " open 2000 3600 3600\n2 ", $at,
+            " pool 2001:0db8:0000:0000:0000:0000:0000:0000/48 56\n",
+            $b, $last_b, " ", $end, " close\nend ", $last_b,
+            "\npd-certificate 1\nholder 00030001020000000001\nprefix 2001:0db8:0000:0000:0000:0000:0000:0000/56\n",
+            "interval ", $from, " ", $to, "\n", $claims, "end\n"
+        )
+    };
+}
+
 /// One lease of an hour.
-pub const WHOLE_HOUR: &str = "pd-journal 1 A
-1 500 open 2000 3600 3600
-2 500 pool 2001:0db8:0000:0000:0000:0000:0000:0000/48 56
-3 10000 grant 00030001020000000001 00000001 2001:0db8:0000:0000:0000:0000:0000:0000/56 3600
-4 3700000 close
-end 4
-pd-journal 1 B
-1 500 open 2000 3600 3600
-2 500 pool 2001:0db8:0000:0000:0000:0000:0000:0000/48 56
-3 3700000 close
-end 3
-pd-certificate 1
-holder 00030001020000000001
-prefix 2001:0db8:0000:0000:0000:0000:0000:0000/56
-interval 12000 3608000
-piece A3 12000 3608000 latest A3 earliest A3
-end
-";
+pub const WHOLE_HOUR: &str = input!(opened 500, closed 3700000, A
+"3 10000 grant 00030001020000000001 00000001 2001:0db8:0000:0000:0000:0000:0000:0000/56 3600
+" 4, B "" 3, claimed 12000 3608000,
+"piece A3 12000 3608000 latest A3 earliest A3
+");
 
 /// Another client's lease that ended before the interval.
-pub const ENDED_EARLY: &str = "pd-journal 1 A
-1 500 open 2000 3600 3600
-2 500 pool 2001:0db8:0000:0000:0000:0000:0000:0000/48 56
-3 10000 grant 00030001020000000002 00000001 2001:0db8:0000:0000:0000:0000:0000:0000/56 100
+pub const ENDED_EARLY: &str = input!(opened 500, closed 3700000, A
+"3 10000 grant 00030001020000000002 00000001 2001:0db8:0000:0000:0000:0000:0000:0000/56 100
 4 100000 grant 00030001020000000001 00000001 2001:0db8:0000:0000:0000:0000:0000:0000/56 3600
-5 3700000 close
-end 5
-pd-journal 1 B
-1 500 open 2000 3600 3600
-2 500 pool 2001:0db8:0000:0000:0000:0000:0000:0000/48 56
-3 3700000 close
-end 3
-pd-certificate 1
-holder 00030001020000000001
-prefix 2001:0db8:0000:0000:0000:0000:0000:0000/56
-interval 112000 200000
-piece A4 112000 200000 latest A4 earliest A4
+" 5, B "" 3, claimed 112000 200000,
+"piece A4 112000 200000 latest A4 earliest A4
 foreign A3 early A3
-end
-";
+");
 
 /// Another client's lease, for ever, that began after the interval.
-pub const BEGAN_LATE: &str = "pd-journal 1 A
-1 500 open 2000 3600 3600
-2 500 pool 2001:0db8:0000:0000:0000:0000:0000:0000/48 56
-3 1000 grant 00030001020000000001 00000001 2001:0db8:0000:0000:0000:0000:0000:0000/56 3600
+pub const BEGAN_LATE: &str = input!(opened 500, closed 3700000, A
+"3 1000 grant 00030001020000000001 00000001 2001:0db8:0000:0000:0000:0000:0000:0000/56 3600
 4 10000 grant 00030001020000000002 00000001 2001:0db8:0000:0000:0000:0000:0000:0000/56 4294967295
-5 3700000 close
-end 5
-pd-journal 1 B
-1 500 open 2000 3600 3600
-2 500 pool 2001:0db8:0000:0000:0000:0000:0000:0000/48 56
-3 3700000 close
-end 3
-pd-certificate 1
-holder 00030001020000000001
-prefix 2001:0db8:0000:0000:0000:0000:0000:0000/56
-interval 3000 8000
-piece A3 3000 8000 latest A3 earliest A3
+" 5, B "" 3, claimed 3000 8000,
+"piece A3 3000 8000 latest A3 earliest A3
 foreign A4 late A4
-end
-";
+");
 
 /// One lease, given back, with every bound at its limit.
-pub const GIVEN_BACK: &str = "pd-journal 1 A
-1 500 open 2000 3600 3600
-2 500 pool 2001:0db8:0000:0000:0000:0000:0000:0000/48 56
-3 10000 grant 00030001020000000001 00000001 2001:0db8:0000:0000:0000:0000:0000:0000/56 10
+pub const GIVEN_BACK: &str = input!(opened 500, closed 20000, A
+"3 10000 grant 00030001020000000001 00000001 2001:0db8:0000:0000:0000:0000:0000:0000/56 10
 4 20000 release 00030001020000000001 00000001 2001:0db8:0000:0000:0000:0000:0000:0000/56
-5 20000 close
-end 5
-pd-journal 1 B
-1 500 open 2000 3600 3600
-2 500 pool 2001:0db8:0000:0000:0000:0000:0000:0000/48 56
-3 20000 close
-end 3
-pd-certificate 1
-holder 00030001020000000001
-prefix 2001:0db8:0000:0000:0000:0000:0000:0000/56
-interval 12000 18000
-piece A3 12000 18000 latest A3 earliest A3
+" 5, B "" 3, claimed 12000 18000,
+"piece A3 12000 18000 latest A3 earliest A3
 clear A4 after A4
-end
-";
+");
 
 /// Two leases end to end behind one that was given back, with releases behind them.
-pub const END_TO_END: &str = "pd-journal 1 A
-1 500 open 2000 3600 3600
-2 500 pool 2001:0db8:0000:0000:0000:0000:0000:0000/48 56
-3 6000 grant 00030001020000000001 00000001 2001:0db8:0000:0000:0000:0000:0000:0000/56 3600
+pub const END_TO_END: &str = input!(opened 500, closed 26000, A
+"3 6000 grant 00030001020000000001 00000001 2001:0db8:0000:0000:0000:0000:0000:0000/56 3600
 4 9000 release 00030001020000000001 00000001 2001:0db8:0000:0000:0000:0000:0000:0000/56
 5 10000 grant 00030001020000000001 00000001 2001:0db8:0000:0000:0000:0000:0000:0000/56 10
 6 15000 grant 00030001020000000001 00000001 2001:0db8:0000:0000:0000:0000:0000:0000/56 10
 7 25000 release 00030001020000000001 00000001 2001:0db8:0000:0000:0000:0000:0000:0000/56
-8 26000 close
-end 8
-pd-journal 1 B
-1 500 open 2000 3600 3600
-2 500 pool 2001:0db8:0000:0000:0000:0000:0000:0000/48 56
-3 5000 release 00030001020000000001 00000001 2001:0db8:0000:0000:0000:0000:0000:0000/56
-4 26000 close
-end 4
-pd-certificate 1
-holder 00030001020000000001
-prefix 2001:0db8:0000:0000:0000:0000:0000:0000/56
-interval 12000 23000
-piece A5 12000 18000 latest A5 earliest A5
+" 8, B
+"3 5000 release 00030001020000000001 00000001 2001:0db8:0000:0000:0000:0000:0000:0000/56
+" 4, claimed 12000 23000,
+"piece A5 12000 18000 latest A5 earliest A5
 clear A4 before chain A4>A5
 clear A7 after A7
 clear B3 before clock B3 A5
@@ -115,79 +69,60 @@ piece A6 18000 23000 latest A6 earliest A6
 clear B3 before clock B3 A6
 clear A7 after A7
 clear A4 before chain A4>A6
-end
-";
+");
 
 /// Another client's lease on the primary, given back on the secondary.
-pub const AT_THE_PARTNER: &str = "pd-journal 1 A
-1 9000 open 2000 3600 3600
-2 9000 pool 2001:0db8:0000:0000:0000:0000:0000:0000/48 56
-3 10000 grant 00030001020000000002 00000001 2001:0db8:0000:0000:0000:0000:0000:0000/56 3600
+pub const AT_THE_PARTNER: &str = input!(opened 9000, closed 3700000, A
+"3 10000 grant 00030001020000000002 00000001 2001:0db8:0000:0000:0000:0000:0000:0000/56 3600
 4 10000 send 0 1 update active 2001:0db8:0000:0000:0000:0000:0000:0000/56 1 0 7210000 00000001 00030001020000000002
 5 10100 take 0 1 update released 2001:0db8:0000:0000:0000:0000:0000:0000/56 2 1 0 00000001 00030001020000000002
 6 10200 grant 00030001020000000001 00000001 2001:0db8:0000:0000:0000:0000:0000:0000/56 3600
-7 3700000 close
-end 7
-pd-journal 1 B
-1 9000 open 2000 3600 3600
-2 9000 pool 2001:0db8:0000:0000:0000:0000:0000:0000/48 56
-3 9500 take 0 1 update active 2001:0db8:0000:0000:0000:0000:0000:0000/56 1 0 7210000 00000001 00030001020000000002
+" 7, B
+"3 9500 take 0 1 update active 2001:0db8:0000:0000:0000:0000:0000:0000/56 1 0 7210000 00000001 00030001020000000002
 4 9600 release 00030001020000000002 00000001 2001:0db8:0000:0000:0000:0000:0000:0000/56
 5 9600 send 0 1 update released 2001:0db8:0000:0000:0000:0000:0000:0000/56 2 1 0 00000001 00030001020000000002
-6 3700000 close
-end 6
-pd-certificate 1
-holder 00030001020000000001
-prefix 2001:0db8:0000:0000:0000:0000:0000:0000/56
-interval 12200 3608200
-piece A6 12200 3608200 latest A6 earliest A6
+" 6, claimed 12200 3608200,
+"piece A6 12200 3608200 latest A6 earliest A6
 foreign A3 released B4 chain A3>A4>B3>B4 latest B4
-end
-";
+");
 
 /// Another client's lease, given back on the same side, and one of the partner behind it.
-pub const GIVEN_BACK_BY_ANOTHER: &str = "pd-journal 1 A
-1 9000 open 2000 3600 3600
-2 9000 pool 2001:0db8:0000:0000:0000:0000:0000:0000/48 56
-3 10000 grant 00030001020000000002 00000001 2001:0db8:0000:0000:0000:0000:0000:0000/56 3600
+pub const GIVEN_BACK_BY_ANOTHER: &str = input!(opened 9000, closed 3700000, A
+"3 10000 grant 00030001020000000002 00000001 2001:0db8:0000:0000:0000:0000:0000:0000/56 3600
 4 20000 release 00030001020000000002 00000001 2001:0db8:0000:0000:0000:0000:0000:0000/56
-5 3700000 close
-end 5
-pd-journal 1 B
-1 9000 open 2000 3600 3600
-2 9000 pool 2001:0db8:0000:0000:0000:0000:0000:0000/48 56
-3 12000 grant 00030001020000000001 00000001 2001:0db8:0000:0000:0000:0000:0000:0000/56 3600
-4 3700000 close
-end 4
-pd-certificate 1
-holder 00030001020000000001
-prefix 2001:0db8:0000:0000:0000:0000:0000:0000/56
-interval 22000 40000
-piece B3 22000 40000 latest B3 earliest B3
+" 5, B
+"3 12000 grant 00030001020000000001 00000001 2001:0db8:0000:0000:0000:0000:0000:0000/56 3600
+" 4, claimed 22000 40000,
+"piece B3 22000 40000 latest B3 earliest B3
 foreign A3 released A4 chain A3>A4 latest A4
-end
-";
+");
 
 /// The primary takes what the secondary sent otherwise.
-pub const TAKEN_OTHERWISE: &str = "pd-journal 1 A
-1 9000 open 2000 3600 3600
-2 9000 pool 2001:0db8:0000:0000:0000:0000:0000:0000/48 56
-3 9000 take 0 1 contact 0 1
-4 3700000 close
-end 4
-pd-journal 1 B
-1 9000 open 2000 3600 3600
-2 9000 pool 2001:0db8:0000:0000:0000:0000:0000:0000/48 56
-3 9000 send 0 1 contact 0 0
-4 3700000 close
-end 4
-pd-certificate 1
-holder 00030001020000000001
-prefix 2001:0db8:0000:0000:0000:0000:0000:0000/56
-interval 12000 3608000
-piece A3 12000 3608000 latest A3 earliest A3
-end
-";
+pub const TAKEN_OTHERWISE: &str = input!(opened 9000, closed 3700000, A
+"3 9000 take 0 1 contact 0 1
+" 4, B
+"3 9000 send 0 1 contact 0 0
+" 4, claimed 12000 3608000,
+"piece A3 12000 3608000 latest A3 earliest A3
+");
+
+/// Leases of five other clients that ended before the interval, on both sides.
+pub const FIVE_OTHERS: &str = input!(opened 500, closed 3700000, A
+"3 10000 grant 00030001020000000002 00000001 2001:0db8:0000:0000:0000:0000:0000:0000/56 90
+4 10000 grant 00030001020000000003 00000001 2001:0db8:0000:0000:0000:0000:0000:0000/56 90
+5 10000 grant 00030001020000000004 00000001 2001:0db8:0000:0000:0000:0000:0000:0000/56 90
+6 100000 grant 00030001020000000001 00000001 2001:0db8:0000:0000:0000:0000:0000:0000/56 3600
+" 7, B
+"3 10000 grant 00030001020000000005 00000001 2001:0db8:0000:0000:0000:0000:0000:0000/56 90
+4 10000 grant 00030001020000000006 00000001 2001:0db8:0000:0000:0000:0000:0000:0000/56 90
+" 5, claimed 112000 200000,
+"piece A6 112000 200000 latest A6 earliest A6
+foreign A3 early A3
+foreign A4 early A4
+foreign A5 early A5
+foreign B3 early B3
+foreign B4 early B4
+");
 
 /// One event of each kind on either side, and each kind of evidence.
 pub const EACH_KIND: &str = "pd-journal 1 A

@@ -5,12 +5,12 @@ use crate::changes::{
     ACCEPTED, BEFORE_OPEN, Change, REASON, SKEW, Several, check_changes, check_several,
 };
 use crate::foreign::{
-    BEGAN_LATE_CHANGES, BOUNDS_OF_A_RELEASE, CHAINS, ENDED_EARLY_CHANGES, FIVE_OTHERS,
-    GRANTED_EARLIER, OF_A_WIDER_PREFIX, OTHER_ORDERS,
+    BEGAN_LATE_CHANGES, BOUNDS_OF_A_RELEASE, CHAINS, ENDED_EARLY_CHANGES, GRANTED_EARLIER,
+    OF_A_WIDER_PREFIX, OTHER_ORDERS,
 };
 use crate::inputs::{
-    AT_THE_PARTNER, BEGAN_LATE, END_TO_END, ENDED_EARLY, GIVEN_BACK, GIVEN_BACK_BY_ANOTHER,
-    WHOLE_HOUR,
+    AT_THE_PARTNER, BEGAN_LATE, END_TO_END, ENDED_EARLY, FIVE_OTHERS, GIVEN_BACK,
+    GIVEN_BACK_BY_ANOTHER, WHOLE_HOUR,
 };
 use crate::pieces::{
     CLEAR_ORDERS, CLEARINGS, END_TO_END_CHANGES, LINES_OF_A_PIECE, LINES_OF_TWO_PIECES,
@@ -38,7 +38,7 @@ const CHANGED: [(&str, &[Change]); 13] = [
 
 #[test]
 fn judges_each_change(rt: HostRuntime) -> Result<(), Fail> {
-    for (input, changes) in CHANGED {
+    for (input, changes) in &CHANGED {
         check_changes(&rt, rt.alloc(), input, changes)?;
     }
     Ok(())

@@ -25,6 +25,29 @@ fn returned<S: LineSource>(
     Ok(refs)
 }
 
+/// Returns whether two sources give the same lines for a delegation, so many.
+fn are_same<P: LineSource, I: LineSource>(
+    alloc: Global,
+    plain: &P,
+    index: &I,
+    delegation: &Delegation,
+    count: usize,
+) -> Result<bool, AllocError> {
+    let walked = returned(alloc, plain, delegation)?;
+    let found = returned(alloc, index, delegation)?;
+    Ok(walked.len() == count && found.len() == count && walked.iter().all(|at| found.contains(at)))
+}
+
+/// A delegation to a client, by the text of each part.
+fn delegation_of(client: &str, iaid: u32, prefix: &str) -> Result<Delegation, Fail> {
+    Ok(Delegation {
+        client: Duid::from_hex(client.as_bytes())?,
+        iaid: Iaid(iaid),
+        prefix: read_canonical(prefix.as_bytes())?,
+        lasting: Lasting::For(3600),
+    })
+}
+
 /// Grants and releases of two prefixes by clients that an index can't tell apart by their last octets and identity
 /// associations alone.
 const PRIMARY: &str = "pd-journal 1 A
@@ -66,20 +89,10 @@ fn finds_the_releases(rt: HostRuntime) -> Result<(), Fail> {
     let merged = merge(rt.alloc(), &a, &b)?;
     let index = LineIndex::build(&rt, rt.alloc(), &a, &b, &merged)?;
     let plain = PlainSource::new(&a, &b);
-    for (client, iaid, prefix, count) in ASKED {
-        let delegation = Delegation {
-            client: Duid::from_hex(client.as_bytes())?,
-            iaid: Iaid(iaid),
-            prefix: read_canonical(prefix.as_bytes())?,
-            lasting: Lasting::For(3600),
-        };
-        let walked = returned(rt.alloc(), &plain, &delegation)?;
-        let found = returned(rt.alloc(), &index, &delegation)?;
-        assert_eq!(rt; walked.len(), count);
-        assert_eq!(rt; found.len(), count);
-        for at in &walked {
-            assert!(rt; found.contains(at));
-        }
+    for (client, iaid, prefix, count) in &ASKED {
+        let delegation = delegation_of(client, *iaid, prefix)?;
+        let _lasting = delegation.lasting;
+        assert!(rt; are_same(rt.alloc(), &plain, &index, &delegation, *count)?);
     }
     Ok(())
 }

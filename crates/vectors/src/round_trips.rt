@@ -39,7 +39,7 @@ fn writes_what_it_read(rt: HostRuntime) -> Result<(), Fail> {
         TAKEN_OTHERWISE,
         EACH_KIND,
     ];
-    for input in inputs {
+    for input in &inputs {
         check_input(&rt, rt.alloc(), input)?;
     }
     Ok(())

@@ -95,6 +95,12 @@ fn spelled(alloc: Global, refs: &[Ref]) -> Result<Vec<u8>, AllocError> {
     Ok(text)
 }
 
+/// The lines that a source gives for a prefix, as text.
+fn given_text<S: LineSource>(alloc: Global, source: &S, prefix: &str) -> Result<Vec<u8>, Fail> {
+    let refs = given(alloc, source, &read_canonical(prefix.as_bytes())?)?;
+    Ok(spelled(alloc, &refs)?)
+}
+
 #[test]
 fn finds_what_overlaps(rt: HostRuntime) -> Result<(), Fail> {
     written_is_closed();
@@ -102,10 +108,9 @@ fn finds_what_overlaps(rt: HostRuntime) -> Result<(), Fail> {
     let b = read(rt.alloc(), SECONDARY.as_bytes())?;
     let merged = merge(rt.alloc(), &a, &b)?;
     let index = LineIndex::build(&rt, rt.alloc(), &a, &b, &merged)?;
-    for (prefix, lines) in ASKED {
-        let prefix = read_canonical(prefix.as_bytes())?;
-        let refs = given(rt.alloc(), &index, &prefix)?;
-        assert_eq!(rt; spelled(rt.alloc(), &refs)?.as_slice(), lines.as_bytes());
+    for (prefix, lines) in &ASKED {
+        let text = given_text(rt.alloc(), &index, prefix)?;
+        assert_eq!(rt; text.as_slice(), lines.as_bytes());
     }
     Ok(())
 }
@@ -168,6 +173,18 @@ fn journal(alloc: Global, numbers: &mut Numbers, head: &str, count: u64) -> Resu
     Ok(text)
 }
 
+/// Returns whether two sources give the same lines for a prefix.
+fn are_same<P: LineSource, I: LineSource>(
+    alloc: Global,
+    plain: &P,
+    index: &I,
+    prefix: &Prefix,
+) -> Result<bool, AllocError> {
+    let walked = given(alloc, plain, prefix)?;
+    let found = given(alloc, index, prefix)?;
+    Ok(walked.len() == found.len() && walked.iter().all(|at| found.contains(at)))
+}
+
 /// That both give the same lines for prefixes of every length.
 fn check_same(
     rt: &(impl Abort + Threads + Sync),
@@ -184,12 +201,7 @@ fn check_same(
     let index = LineIndex::build(rt, alloc, &a, &b, &merged)?;
     for _ in 0..200 {
         let prefix = numbers.prefix()?;
-        let walked = given(alloc, &plain, &prefix)?;
-        let found = given(alloc, &index, &prefix)?;
-        assert_eq!(rt; walked.len(), found.len());
-        for at in &walked {
-            assert!(rt; found.contains(at));
-        }
+        assert!(rt; are_same(alloc, &plain, &index, &prefix)?);
     }
     Ok(())
 }
@@ -197,9 +209,9 @@ fn check_same(
 #[test]
 fn gives_what_a_walk_gives(rt: HostRuntime) -> Result<(), Fail> {
     let mut numbers = Numbers { state: 19 };
-    for (first, second) in [(0, 0), (1, 0), (0, 3), (40, 60), (150, 120)] {
-        let primary = journal(rt.alloc(), &mut numbers, "pd-journal 1 A\n", first)?;
-        let secondary = journal(rt.alloc(), &mut numbers, "pd-journal 2 B 2\n", second)?;
+    for (first, second) in &[(0, 0), (1, 0), (0, 3), (40, 60), (150, 120)] {
+        let primary = journal(rt.alloc(), &mut numbers, "pd-journal 1 A\n", *first)?;
+        let secondary = journal(rt.alloc(), &mut numbers, "pd-journal 2 B 2\n", *second)?;
         check_same(&rt, rt.alloc(), &mut numbers, &primary, &secondary)?;
     }
     Ok(())

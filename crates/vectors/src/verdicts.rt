@@ -65,8 +65,8 @@ fn says_verdicts(rt: HostRuntime) -> Result<(), Fail> {
         (Verdict::Uncovered(at), b"refused C9 Uncovered A3\n"),
         (Verdict::Reason(at), b"refused C10 Reason A3\n"),
     ];
-    for (verdict, line) in cases {
-        assert_eq!(rt; verdict_line(rt.alloc(), &verdict)?.as_slice(), line);
+    for (verdict, line) in &cases {
+        assert_eq!(rt; verdict_line(rt.alloc(), verdict)?.as_slice(), *line);
     }
     Ok(())
 }
