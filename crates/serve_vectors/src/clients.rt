@@ -18,7 +18,7 @@ fn number_of(octets: &[u8]) -> u128 {
 }
 
 /// A delegation that a client was told of.
-#[derive(Clone, Copy, Debug)]
+#[derive(Clone, Copy)]
 pub(crate) struct Told {
     pub client: u8,
     pub address: u128,

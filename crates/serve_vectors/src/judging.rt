@@ -31,26 +31,6 @@ fn check_follows(before: &Book, book: &Book) -> Result<(), Fail> {
     }
 }
 
-/// The books of a server's volumes: each one is legal, has ended where another one follows, and that begins as it says.
-fn books_of(alloc: Global, role: Role, contents: &[Vec<u8>]) -> Result<Vec<Book>, Fail> {
-    let mut books: Vec<Book> = Vec::new(alloc);
-    for (place, content) in contents.iter().enumerate() {
-        let head = head_at(place).ok_or("too many volumes")?;
-        let is_last = place.saturating_add(1) == contents.len();
-        let book = match recover(alloc, role, head, content)? {
-            FoundBook::Ended(book) => book,
-            FoundBook::Open(book) if is_last => book,
-            FoundBook::NeverTold if is_last => return Ok(books),
-            _ => return Err(Fail::from("a volume behind one that hasn't ended")),
-        };
-        if let Some(before) = books.last() {
-            check_follows(before, &book)?;
-        }
-        books.push(book)?;
-    }
-    Ok(books)
-}
-
 /// Returns whether a line of the volumes grants what a client was told.
 fn is_granted(books: &[Book], told: &Told) -> bool {
     let Some(book) = books.get((told.volume as usize).wrapping_sub(1)) else {
@@ -67,6 +47,19 @@ fn is_granted(books: &[Book], told: &Told) -> bool {
         }
         _ => false,
     }
+}
+
+/// Returns whether one of these messages has a serial.
+fn is_among(messages: &[PartnerMessage], serial: u64) -> bool {
+    messages
+        .iter()
+        .any(|message| message.serial.number() == serial)
+}
+
+/// Returns whether no client was told of a prefix while another one might use it.
+fn are_apart(one: &[Told], other: &[Told]) -> bool {
+    !one.iter()
+        .any(|told| other.iter().any(|later| told.collides(later)))
 }
 
 /// The messages between the partners that a server's books show, in their order.
@@ -90,48 +83,84 @@ fn messages_of(alloc: Global, books: &[Book]) -> Result<Messages, Fail> {
     Ok(Messages { sent, taken })
 }
 
-/// Sees that a server's volumes have all that it told its clients and said to its partner.
-fn check_told(server: &Server, books: &[Book], messages: &[PartnerMessage]) -> Result<(), Fail> {
-    if !server.told.iter().all(|told| is_granted(books, told)) {
-        return Err(Fail::from("a client was told what no line grants"));
+/// Returns whether one server has taken exactly what the other one sent.
+fn is_taken(sender: &Messages, taker: &Messages) -> bool {
+    sender.sent.as_slice() == taker.taken.as_slice()
+}
+
+/// Adds the book of a volume, which begins as the one before it says.
+fn add(books: &mut Vec<Book>, book: Book) -> Result<(), Fail> {
+    if let Some(before) = books.last() {
+        check_follows(before, &book)?;
     }
-    for serial in &server.said {
-        if !messages
-            .iter()
-            .any(|message| message.serial.number() == *serial)
-        {
-            return Err(Fail::from("a message was said that no line sends"));
-        }
-    }
+    books.push(book)?;
     Ok(())
 }
 
-/// Sees that no client was told of a prefix while another one might use it.
-fn check_apart(one: &[Told], other: &[Told]) -> Result<(), Fail> {
-    for told in one {
-        if other.iter().any(|later| told.collides(later)) {
-            return Err(Fail::from("a prefix is two clients'"));
-        }
+/// Adds what was found of a volume, which is legal: one that hasn't ended is the last one, as is one that was told to
+/// nobody.
+fn add_found(books: &mut Vec<Book>, found: FoundBook, is_last: bool) -> Result<(), Fail> {
+    match found {
+        FoundBook::Ended(book) => add(books, book),
+        FoundBook::Open(book) if is_last => add(books, book),
+        FoundBook::NeverTold if is_last => Ok(()),
+        _ => Err(Fail::from("a volume behind one that hasn't ended")),
     }
-    Ok(())
+}
+
+/// The books of a server's volumes.
+fn books_of(alloc: Global, role: Role, contents: &[Vec<u8>]) -> Result<Vec<Book>, Fail> {
+    let mut books = Vec::new(alloc);
+    for (place, content) in contents.iter().enumerate() {
+        let head = head_at(place).ok_or("too many volumes")?;
+        let is_last = place.saturating_add(1) == contents.len();
+        add_found(&mut books, recover(alloc, role, head, content)?, is_last)?;
+    }
+    Ok(books)
+}
+
+/// What a server's volumes show: their books, and the messages between the partners.
+#[derive(Drop)]
+struct Shown {
+    books: Vec<Book>,
+    messages: Messages,
+}
+
+impl Shown {
+    /// Returns whether it has all that a server told its clients and said to its partner.
+    fn has_all(&self, server: &Server) -> bool {
+        let sent = &self.messages.sent;
+        server.told.iter().all(|told| is_granted(&self.books, told))
+            && server.said.iter().all(|serial| is_among(sent, *serial))
+    }
+}
+
+/// What the disk of a server shows, which is all that it told.
+fn shown_by(alloc: Global, role: Role, server: &Server) -> Result<Shown, Fail> {
+    let contents = server.contents()?;
+    let books = books_of(alloc, role, &contents)?;
+    let messages = messages_of(alloc, &books)?;
+    let shown = Shown { books, messages };
+    if shown.has_all(server) {
+        Ok(shown)
+    } else {
+        Err(Fail::from("something was told that no line shows"))
+    }
 }
 
 /// Judges the disks of two servers that have nothing left to say: the volumes of each are legal and have all that it
 /// told, each has taken exactly what the other one sent, and no prefix was two clients' at once. Returns how many
 /// volumes there are.
 pub(crate) fn judge(alloc: Global, primary: &Server, secondary: &Server) -> Result<usize, Fail> {
-    let a = books_of(alloc, Role::Primary, &primary.contents()?)?;
-    let b = books_of(alloc, Role::Secondary, &secondary.contents()?)?;
-    let (first, second) = (messages_of(alloc, &a)?, messages_of(alloc, &b)?);
-    check_told(primary, &a, &first.sent)?;
-    check_told(secondary, &b, &second.sent)?;
-    if first.sent.as_slice() != second.taken.as_slice()
-        || second.sent.as_slice() != first.taken.as_slice()
-    {
+    let a = shown_by(alloc, Role::Primary, primary)?;
+    let b = shown_by(alloc, Role::Secondary, secondary)?;
+    if !is_taken(&a.messages, &b.messages) || !is_taken(&b.messages, &a.messages) {
         return Err(Fail::from("one hasn't taken what the other sent"));
     }
-    check_apart(&primary.told, &primary.told)?;
-    check_apart(&secondary.told, &secondary.told)?;
-    check_apart(&primary.told, &secondary.told)?;
-    Ok(a.len().saturating_add(b.len()))
+    let (told, other) = (&primary.told, &secondary.told);
+    if are_apart(told, told) && are_apart(other, other) && are_apart(told, other) {
+        Ok(a.books.len().saturating_add(b.books.len()))
+    } else {
+        Err(Fail::from("a prefix is two clients'"))
+    }
 }

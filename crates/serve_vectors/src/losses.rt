@@ -42,11 +42,9 @@ const LEAST_CALLS: usize = 6 + 2 * ASKED + 8 + 5;
 const CALLS_OF_A_ROLL: usize = 8;
 
 /// Lets what is left of the story happen, and judges the disks after a last loss: no answer is missing and no volume,
-/// but for one by a failure.
-fn live_on(alloc: Global, pair: &mut Pair, rest: &[Event], volumes: usize) -> Result<(), Fail> {
-    for event in rest {
-        pair.happen(*event)?;
-    }
+/// but for one by a failure. Says whether any disk failed.
+fn live_on(alloc: Global, pair: &mut Pair, rest: &[Event], volumes: usize) -> Result<bool, Fail> {
+    pair.live(rest)?;
     pair.end()?;
     let judged = judge(alloc, &pair.primary, &pair.secondary)?;
     let told = pair
@@ -61,7 +59,7 @@ fn live_on(alloc: Global, pair: &mut Pair, rest: &[Event], volumes: usize) -> Re
     if judged > volumes || judged.saturating_add(losses) < volumes {
         return Err(Fail::from("other volumes than were begun"));
     }
-    Ok(())
+    Ok(losses > 0)
 }
 
 /// Lets the story happen over disks of which so many calls are answered, and says whether any failed.
@@ -73,8 +71,7 @@ fn fail_at(alloc: Global, failing: Failing, calls: usize, loss: Loss) -> Result<
         loss: loss.other(calls as u64),
     };
     let mut pair = Pair::new(alloc, plan)?;
-    live_on(alloc, &mut pair, &STORY, VOLUMES)?;
-    Ok(pair.losses > 0)
+    live_on(alloc, &mut pair, &STORY, VOLUMES)
 }
 
 /// Lets the story happen with a failure at each call in turn, until none fails any more. Returns how many calls there
@@ -91,6 +88,14 @@ fn fail_at_each(alloc: Global, failing: Failing) -> Result<usize, Fail> {
 
 /// Lets the story happen up to a place, rolls both servers' volumes over a disk of which so many calls are answered,
 /// and lets it go on. Says whether the disk failed.
+fn roll_within(alloc: Global, pair: &mut Pair, place: usize, calls: usize) -> Result<bool, Fail> {
+    let (before, behind) = STORY.split_at(place.min(STORY.len()));
+    pair.live(before)?;
+    pair.roll(calls)?;
+    live_on(alloc, pair, behind, VOLUMES.saturating_add(2))
+}
+
+/// The same with a pair of its own.
 fn roll_at(alloc: Global, place: usize, calls: usize) -> Result<bool, Fail> {
     let plan = Plan {
         failing: if place % 2 == 0 {
@@ -103,16 +108,7 @@ fn roll_at(alloc: Global, place: usize, calls: usize) -> Result<bool, Fail> {
         loss: Loss::Power(place as u64),
     };
     let mut pair = Pair::new(alloc, plan)?;
-    let (before, behind) = STORY.split_at(place.min(STORY.len()));
-    for event in before {
-        pair.happen(*event)?;
-    }
-    pair.answer_only(calls)?;
-    pair.happen(Event::Roll(Role::Primary))?;
-    pair.happen(Event::Roll(Role::Secondary))?;
-    pair.answer_only(usize::MAX)?;
-    live_on(alloc, &mut pair, behind, VOLUMES.saturating_add(2))?;
-    Ok(pair.losses > 0)
+    roll_within(alloc, &mut pair, place, calls)
 }
 
 #[test]

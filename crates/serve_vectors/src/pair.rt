@@ -6,26 +6,12 @@ use binding_rules::Role;
 use lead_time::Reading;
 use std::alloc::Global;
 use std::test::Fail;
+use test_settings::pair_settings;
 
-const PRIMARY: &[u8] = b"role = \"primary\"
-duid = \"00030001020000000009\"
-skew_ms = 2000
-mclt = 3600
-life = 3600
-[[pool]]
-prefix = \"2001:db8::/52\"
-unit = 56
-";
+/// The settings of both, whose pool has sixteen units.
+const PRIMARY: &str = pair_settings!("primary", "2001:db8::/52");
 
-const SECONDARY: &[u8] = b"role = \"secondary\"
-duid = \"00030001020000000009\"
-skew_ms = 2000
-mclt = 3600
-life = 3600
-[[pool]]
-prefix = \"2001:db8::/52\"
-unit = 56
-";
+const SECONDARY: &str = pair_settings!("secondary", "2001:db8::/52");
 
 /// True time at the beginning, in milliseconds.
 const BEGIN: u64 = 10_000_000;
@@ -43,7 +29,7 @@ const TURNS: u32 = 100;
 const STARTS: u32 = 10;
 
 /// Which disks fail.
-#[derive(Clone, Copy, Debug, PartialEq, Eq)]
+#[derive(Clone, Copy)]
 pub(crate) enum Failing {
     Primary,
     Secondary,
@@ -52,7 +38,7 @@ pub(crate) enum Failing {
 }
 
 /// When disks fail, and what is left of them.
-#[derive(Clone, Copy, Debug)]
+#[derive(Clone, Copy)]
 pub(crate) struct Plan {
     pub failing: Failing,
     /// So many calls are answered when the pair begins.
@@ -63,7 +49,7 @@ pub(crate) struct Plan {
 }
 
 /// What happens to the pair.
-#[derive(Clone, Copy, Debug)]
+#[derive(Clone, Copy)]
 pub(crate) enum Event {
     /// A client asks a server for a prefix, or for it to go on.
     Ask(Role, u8),
@@ -103,11 +89,17 @@ impl Pair {
             turns: 0,
             losses: 0,
         };
-        pair.primary.start(Reading::new(BEGIN)?)?;
-        pair.secondary.start(Reading::new(BEGIN)?)?;
-        pair.connect()?;
-        pair.go_on()?;
+        pair.begin()?;
         Ok(pair)
+    }
+
+    /// Both start, and go on until nothing is left to say.
+    fn begin(&mut self) -> Result<(), Fail> {
+        let now = Reading::new(BEGIN)?;
+        self.primary.start(now)?;
+        self.secondary.start(now)?;
+        self.connect()?;
+        self.go_on()
     }
 
     /// The server of a role.
@@ -119,7 +111,7 @@ impl Pair {
     }
 
     /// Has the disk that is to fail answer so many calls from now on.
-    pub fn answer_only(&mut self, calls: usize) -> Result<usize, Fail> {
+    fn answer_only(&mut self, calls: usize) -> Result<usize, Fail> {
         match self.plan.failing {
             Failing::Primary | Failing::Both => self.primary.answer_only(calls),
             Failing::Secondary => self.secondary.answer_only(calls),
@@ -143,19 +135,16 @@ impl Pair {
         self.primary.coming.is_empty() && self.secondary.coming.is_empty()
     }
 
-    /// A turn of a server: it hears its partner, ends leases, and puts its lines to the disk before anything leaves.
+    /// A turn of a server.
     fn turn(&mut self, role: Role) -> Result<(), Fail> {
         self.turns = self.turns.wrapping_add(1);
         self.moment = self.moment.saturating_add(1);
-        let (now, moment) = (self.clock(role)?, self.moment);
-        let server = self.server(role);
-        server.heed(now)?;
-        server.end_leases(now)?;
-        let octets = server.settle(moment)?;
-        self.server(role.partner())
-            .coming
-            .extend_from_slice(&octets)?;
-        Ok(())
+        let now = self.clock(role)?;
+        let (primary, secondary) = (&mut self.primary, &mut self.secondary);
+        match role {
+            Role::Primary => primary.turn(now, self.moment, &mut secondary.coming),
+            Role::Secondary => secondary.turn(now, self.moment, &mut primary.coming),
+        }
     }
 
     /// Turns of both, until neither has anything to say where nothing came, or one doesn't run any more.
@@ -205,7 +194,7 @@ impl Pair {
             if self.are_up() {
                 return Ok(());
             }
-            if self.plan.failing == Failing::Both && self.losses == 0 {
+            if matches!(self.plan.failing, Failing::Both) && self.losses == 0 {
                 self.secondary.lose(self.plan.loss, usize::MAX)?;
             }
             self.start_again(Role::Primary)?;
@@ -229,7 +218,7 @@ impl Pair {
     }
 
     /// Lets something happen, and both go on.
-    pub fn happen(&mut self, event: Event) -> Result<(), Fail> {
+    fn happen(&mut self, event: Event) -> Result<(), Fail> {
         match event {
             Event::Ask(role, client) => {
                 let now = self.clock(role)?;
@@ -246,6 +235,23 @@ impl Pair {
             }
         }
         self.go_on()
+    }
+
+    /// Lets one thing after another happen.
+    pub fn live(&mut self, events: &[Event]) -> Result<(), Fail> {
+        for event in events {
+            self.happen(*event)?;
+        }
+        Ok(())
+    }
+
+    /// Both begin their next volumes, over a disk of which so many calls are answered.
+    pub fn roll(&mut self, calls: usize) -> Result<(), Fail> {
+        self.answer_only(calls)?;
+        self.happen(Event::Roll(Role::Primary))?;
+        self.happen(Event::Roll(Role::Secondary))?;
+        self.answer_only(usize::MAX)?;
+        Ok(())
     }
 
     /// Both end.

@@ -10,7 +10,7 @@ use lead_time::Reading;
 use link_talk::{Came, Handed, Stage};
 use order_book::Order;
 use server_book::Manner;
-use server_run::{Heard, HeldAnswer, RollFault, Running, Settled};
+use server_run::{Heard, HeldAnswer, Leaving, RollFault, Running, Settled};
 use server_settings::Settings;
 use server_start::StartError;
 use settings_text::read_settings;
@@ -66,91 +66,112 @@ where
     }
 }
 
-/// A running server that has heard a client's request, which has an answer.
-fn heard<F: Folder + Drop, P: Drop>(
+/// Has a running server hear a client's request, which has an answer.
+fn hear<F: Folder + Drop>(
     alloc: Global,
-    mut running: Running<F, P>,
+    running: &mut Running<F, u8>,
     now: Reading,
     client: u8,
-    peer: P,
-) -> Result<Running<F, P>, Fail>
+) -> Result<(), Fail>
 where
     F::File: Drop,
 {
-    match running.hear(
+    let heard = running.hear(
         &mut Everything { alloc },
         &Manner::plain(alloc),
         now,
         &request(client),
-        peer,
-    ) {
-        Heard::Answered(_) => Ok(running),
+        client,
+    );
+    match heard {
+        Heard::Answered(_) => Ok(()),
         other => Err(Fail::from(other)),
     }
 }
 
-/// A running server over another connection.
-fn met<F: Folder + Drop, P: Drop>(
-    mut running: Running<F, P>,
+/// Has a running server begin another connection.
+fn connect<F: Folder + Drop, P: Drop>(
+    running: &mut Running<F, P>,
     settings: &Settings,
-) -> Result<Running<F, P>, Fail>
+) -> Result<(), Fail>
 where
     F::File: Drop,
 {
     running.part();
     match running.meet(settings) {
-        Ok(()) => Ok(running),
+        Ok(()) => Ok(()),
         Err(error) => Err(Fail::from(error)),
     }
 }
 
-/// A running server that has taken what came.
-fn heeded<F: Folder + Drop, P: Drop>(
-    mut running: Running<F, P>,
+/// Has a running server take octets that came, or that nothing came.
+fn heed<F: Folder + Drop, P: Drop>(
+    running: &mut Running<F, P>,
     settings: &Settings,
     now: Reading,
-    came: &Came<'_>,
-) -> Result<Running<F, P>, Fail>
+    octets: &[u8],
+) -> Result<(), Fail>
 where
     F::File: Drop,
 {
-    if let Err(error) = running.heed(settings, now, came) {
+    let outcome = if octets.is_empty() {
+        running.heed(settings, now, &Came::Nothing)
+    } else {
+        running.heed(settings, now, &Came::Octets(octets))
+    };
+    if let Err(error) = outcome {
         return Err(Fail::from(error));
     }
-    let stage = running.stage();
-    if let Some(stage) = &stage {
-        if !goes_on(&running, stage) {
-            return Err(Fail::from("the talk doesn't go on"));
-        }
+    match running.stage() {
+        Some(stage) if !goes_on(running, &stage) => Err(Fail::from("the talk doesn't go on")),
+        _ => Ok(()),
     }
-    Ok(running)
 }
 
-/// A running server that has ended the leases that have ended.
-fn without_ended<F: Folder + Drop, P: Drop>(
-    mut running: Running<F, P>,
+/// Has a running server end the leases that have ended.
+fn end_leases<F: Folder + Drop, P: Drop>(
+    running: &mut Running<F, P>,
     now: Reading,
-) -> Result<Running<F, P>, Fail>
+) -> Result<(), Fail>
 where
     F::File: Drop,
 {
     for _ in 0..UNITS {
         let Some(prefix) = running.book().first_to_expire(now) else {
-            return Ok(running);
+            return Ok(());
         };
         if let Err(refusal) = running.serve(now, &Order::Expire(prefix)) {
             return Err(Fail::from(refusal));
         }
     }
-    Ok(running)
+    Ok(())
+}
+
+/// What became of a start.
+#[derive(Drop)]
+enum Beginning {
+    Runs(Running<DiskFolder, u8>),
+    DiskFails,
+    ClockBehind,
+}
+
+/// What became of a start that failed, where its disk or its clock is the reason.
+fn beginning_of(failure: StartFailure) -> Result<Beginning, Fail> {
+    if is_of_disk(&failure) {
+        return Ok(Beginning::DiskFails);
+    }
+    match failure {
+        StartFailure::Start(StartError::ClockBehind { .. }) => Ok(Beginning::ClockBehind),
+        other => Err(Fail::from(other)),
+    }
 }
 
 impl Server {
     /// A server of these settings that doesn't run, over an empty disk of which so many calls are answered.
-    pub fn new(alloc: Global, settings: &[u8], calls: usize) -> Result<Server, Fail> {
+    pub fn new(alloc: Global, settings: &str, calls: usize) -> Result<Server, Fail> {
         Ok(Server {
             alloc,
-            settings: read_settings(alloc, settings)?,
+            settings: read_settings(alloc, settings.as_bytes())?,
             disk: Rc::new(alloc, RefCell::new(Disk::new(alloc, calls)))?,
             running: None,
             coming: Vec::new(alloc),
@@ -170,9 +191,9 @@ impl Server {
         Some(line.reading.milliseconds())
     }
 
-    /// Starts it with what its disk has. Where the disk fails it doesn't run.
+    /// What becomes of a start with what its disk has.
     #[tactic(auto, using(crate::proofs::Opened::held_is_settled, crate::proofs::Opened::held_count))]
-    pub fn start(&mut self, now: Reading) -> Result<(), Fail> {
+    fn begin(&self, now: Reading) -> Result<Beginning, Fail> {
         let folder = DiskFolder::open(self.alloc, &self.disk)?;
         let count = folder.count;
         match start(
@@ -184,33 +205,26 @@ impl Server {
             Pairing::Paired,
             now,
         ) {
-            Ok(Started { running, .. }) => {
-                self.running = Some(running);
-                Ok(())
-            }
-            Err(failure) if is_of_disk(&failure) => Ok(()),
-            Err(failure) => Err(Fail::from(failure)),
+            Ok(Started { running, .. }) => Ok(Beginning::Runs(running)),
+            Err(failure) => beginning_of(failure),
         }
     }
 
+    /// Starts it with what its disk has. Where the disk fails it doesn't run.
+    pub fn start(&mut self, now: Reading) -> Result<(), Fail> {
+        match self.begin(now)? {
+            Beginning::Runs(running) => self.running = Some(running),
+            Beginning::DiskFails => {}
+            Beginning::ClockBehind => return Err(Fail::from("its clock is behind")),
+        }
+        Ok(())
+    }
+
     /// Sees that it doesn't start by a clock that reads so.
-    #[tactic(auto, using(crate::proofs::Opened::held_is_settled, crate::proofs::Opened::held_count))]
     pub fn refuse_clock(&self, now: Reading) -> Result<(), Fail> {
-        let folder = DiskFolder::open(self.alloc, &self.disk)?;
-        let count = folder.count;
-        let started: Result<Started<DiskFolder, u8>, StartFailure> = start(
-            self.alloc,
-            folder,
-            count,
-            &self.settings,
-            RENEW_FLOOR,
-            Pairing::Paired,
-            now,
-        );
-        match started {
-            Err(StartFailure::Start(StartError::ClockBehind { .. })) => Ok(()),
-            Err(failure) => Err(Fail::from(failure)),
-            Ok(_) => Err(Fail::from("it starts by a clock that is behind")),
+        match self.begin(now)? {
+            Beginning::ClockBehind => Ok(()),
+            _ => Err(Fail::from("it isn't its clock that refuses it")),
         }
     }
 
@@ -241,29 +255,17 @@ impl Server {
 
     /// Hears a client's request, which has an answer.
     pub fn hear(&mut self, now: Reading, client: u8) -> Result<(), Fail> {
-        let Some(running) = self.running.take() else {
-            return Ok(());
-        };
-        match heard(self.alloc, running, now, client, client) {
-            Ok(running) => {
-                self.running = Some(running);
-                Ok(())
-            }
-            Err(fail) => Err(fail),
+        match &mut self.running {
+            Some(running) => hear(self.alloc, running, now, client),
+            None => Ok(()),
         }
     }
 
     /// Ends the leases that have ended.
-    pub fn end_leases(&mut self, now: Reading) -> Result<(), Fail> {
-        let Some(running) = self.running.take() else {
-            return Ok(());
-        };
-        match without_ended(running, now) {
-            Ok(running) => {
-                self.running = Some(running);
-                Ok(())
-            }
-            Err(fail) => Err(fail),
+    fn end_leases(&mut self, now: Reading) -> Result<(), Fail> {
+        match &mut self.running {
+            Some(running) => end_leases(running, now),
+            None => Ok(()),
         }
     }
 
@@ -284,37 +286,34 @@ impl Server {
 
     /// A connection with the partner begins. What was under way over the last one is lost.
     pub fn meet(&mut self) -> Result<(), Fail> {
-        self.coming = Vec::new(self.alloc);
-        let Some(running) = self.running.take() else {
-            return Ok(());
-        };
-        match met(running, &self.settings) {
-            Ok(running) => {
-                self.running = Some(running);
-                Ok(())
-            }
-            Err(fail) => Err(fail),
+        self.coming.clear();
+        if let Some(running) = &mut self.running {
+            connect(running, &self.settings)?;
         }
+        Ok(())
     }
 
     /// Takes all that is under way to it, or that nothing came for a while.
-    pub fn heed(&mut self, now: Reading) -> Result<(), Fail> {
-        let coming = mem::replace(&mut self.coming, Vec::new(self.alloc));
-        let came = if coming.is_empty() {
-            Came::Nothing
-        } else {
-            Came::Octets(&coming)
-        };
-        let Some(running) = self.running.take() else {
-            return Ok(());
-        };
-        match heeded(running, &self.settings, now, &came) {
-            Ok(running) => {
-                self.running = Some(running);
-                Ok(())
-            }
-            Err(fail) => Err(fail),
+    fn heed(&mut self, now: Reading) -> Result<(), Fail> {
+        if let Some(running) = &mut self.running {
+            heed(running, &self.settings, now, self.coming.as_slice())?;
         }
+        self.coming.clear();
+        Ok(())
+    }
+
+    /// Puts its lines to the disk, and gives what leaves. Where the disk fails nothing does, and it runs no more.
+    fn leaving(&mut self) -> Option<Leaving<u8>> {
+        let Ok(Settled { running, leaving }) = self.running.take()?.settle() else {
+            return None;
+        };
+        self.running = Some(running);
+        Some(leaving)
+    }
+
+    /// The number of the volume that it writes.
+    fn volume(&self) -> Option<u32> {
+        Some(self.running.as_ref()?.book().head().volume())
     }
 
     /// Notes an answer that leaves at a moment.
@@ -326,33 +325,36 @@ impl Server {
         Ok(())
     }
 
-    /// Notes frames that leave, and gives their octets.
-    fn say(&mut self, frames: &[Handed]) -> Result<Vec<u8>, Fail> {
-        let mut octets = Vec::new(self.alloc);
-        for handed in frames {
-            octets.extend_from_slice(encode(self.alloc, &handed.frame)?.as_slice())?;
-            if handed.number.is_some() {
-                self.said.push(handed.frame.serial.number())?;
-            }
+    /// Notes a frame that leaves, and puts its octets on the way.
+    fn say(&mut self, handed: &Handed, way: &mut Vec<u8>) -> Result<(), Fail> {
+        way.extend_from_slice(encode(self.alloc, &handed.frame)?.as_slice())?;
+        if handed.number.is_some() {
+            self.said.push(handed.frame.serial.number())?;
         }
-        Ok(octets)
+        Ok(())
     }
 
-    /// Puts its lines to the disk, and gives the octets that leave for the partner at a moment. Where the disk fails
-    /// nothing leaves, and it doesn't run any more.
-    pub fn settle(&mut self, moment: u64) -> Result<Vec<u8>, Fail> {
-        let Some(running) = self.running.take() else {
-            return Ok(Vec::new(self.alloc));
-        };
-        let Ok(Settled { running, leaving }) = running.settle() else {
-            return Ok(Vec::new(self.alloc));
-        };
+    /// Tells what leaves at a moment: the answers to clients, and the octets on the way to the partner.
+    fn tell(&mut self, leaving: Leaving<u8>, moment: u64, way: &mut Vec<u8>) -> Result<(), Fail> {
+        let volume = self.volume().ok_or("it doesn't run")?;
         let (answers, frames) = leaving.into_parts();
-        let volume = running.book().head().volume();
-        self.running = Some(running);
         for held in &answers {
             self.note(held, moment, volume)?;
         }
-        self.say(&frames)
+        for handed in &frames {
+            self.say(handed, way)?;
+        }
+        Ok(())
+    }
+
+    /// Its turn: it hears its partner, ends leases, and puts its lines to the disk before anything leaves at a moment.
+    /// Where the disk fails nothing leaves, and it doesn't run any more.
+    pub fn turn(&mut self, now: Reading, moment: u64, way: &mut Vec<u8>) -> Result<(), Fail> {
+        self.heed(now)?;
+        self.end_leases(now)?;
+        match self.leaving() {
+            Some(leaving) => self.tell(leaving, moment, way),
+            None => Ok(()),
+        }
     }
 }
