@@ -1,5 +1,9 @@
 //! Why there is no verdict.
 
+ghost use Rattle.std.specs.Prelude.{◌≡◌};
+ghost use Rattle.auditor.specs.declared.error.AuditError.TheVariants.{Memory};
+
+use std::alloc::AllocError;
 use thiserror::Error;
 
 /// Why there is no verdict.
@@ -8,4 +12,12 @@ pub enum AuditError {
     /// A growth was refused.
     #[error("out of memory")]
     Memory,
+}
+
+impl From<AllocError> for AuditError {
+    ghost from_gives = { λ _ e. e ≡ Memory };
+
+    fn from(_e: AllocError) -> AuditError {
+        AuditError::Memory
+    }
 }

@@ -9,7 +9,7 @@ use attribution::Verdict;
 use binding_rules::Role;
 use book_rules::{ReplayError, Table};
 use journal_lines::Journal;
-use journal_merge::{MergeError, Merged, merge};
+use journal_merge::{MergeError, Merged, Noted, merge_noted};
 use std::alloc::Global;
 
 /// The finding on two journals, whatever is claimed over them.
@@ -39,12 +39,16 @@ pub fn broken_rule(
 
 /// Both journals' lines in one order, or what refuses their messages; no rule is asked. `Memory` where a growth was
 /// refused.
-pub fn ordered(alloc: Global, primary: &Journal, secondary: &Journal) -> Result<Checked, AuditError>
+pub fn ordered(
+    alloc: Global,
+    primary: &Noted<'_>,
+    secondary: &Noted<'_>,
+) -> Result<Checked, AuditError>
     requires few_primary { length primary.now.lines < 2 ^ 32 }
     requires few_secondary { length secondary.now.lines < 2 ^ 32 }
     ensures { IfOk result (IsOrdered (journals_of primary.now secondary.now)) }
 {
-    match merge(alloc, primary, secondary) {
+    match merge_noted(alloc, primary, secondary) {
         Ok(merged) => Ok(Checked::Legal(merged)),
         Err(MergeError::Unsent { take }) => Ok(Checked::Refused(Verdict::Unsent(take))),
         Err(MergeError::Differs { take }) => Ok(Checked::Refused(Verdict::Differs(take))),
@@ -70,5 +74,7 @@ pub fn check_pair(
     if let Some(refusal) = broken_rule(alloc, Role::Secondary, secondary)? {
         return Ok(Checked::Refused(refusal));
     }
-    ordered(alloc, primary, secondary)
+    let primary = Noted::of(alloc, primary)?;
+    let secondary = Noted::of(alloc, secondary)?;
+    ordered(alloc, &primary, &secondary)
 }

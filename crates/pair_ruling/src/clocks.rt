@@ -32,10 +32,7 @@ pub fn clock_pair(
     if let Checked::Refused(verdict) = check_pair(alloc, primary, secondary)? {
         return Ok(Clocked::Refused(verdict));
     }
-    match least_skew(alloc, primary, secondary) {
-        Ok(least) => Ok(Clocked::Fit(least)),
-        Err(_) => Err(AuditError::Memory),
-    }
+    Ok(Clocked::Fit(least_skew(alloc, primary, secondary)?))
 }
 
 /// `B3 behind A4` and a line feed, where a take needs the skew.

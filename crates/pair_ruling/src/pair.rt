@@ -36,9 +36,8 @@ pub fn rule_pair(
         Checked::Legal(merged) => merged,
         Checked::Refused(verdict) => return Ok(Ruled::Refused(Ruling::Verdict(verdict))),
     };
-    match first_early(alloc, primary, secondary, skew) {
-        Ok(None) => Ok(Ruled::Fit(merged)),
-        Ok(Some(take)) => Ok(Ruled::Refused(Ruling::Clocks(take))),
-        Err(_) => Err(AuditError::Memory),
+    match first_early(alloc, primary, secondary, skew)? {
+        None => Ok(Ruled::Fit(merged)),
+        Some(take) => Ok(Ruled::Refused(Ruling::Clocks(take))),
     }
 }

@@ -62,7 +62,7 @@ pub fn rule_pair_by<T: Threads + Sync>(
     if !is_short(primary) || !is_short(secondary) {
         return rule_pair(alloc, primary, secondary, skew);
     }
-    let found = find(rt, alloc, primary, secondary, skew);
+    let found = find(rt, alloc, primary, secondary, skew)?;
     let merged = match checked(
         primary,
         secondary,
@@ -73,11 +73,7 @@ pub fn rule_pair_by<T: Threads + Sync>(
         Checked::Legal(merged) => merged,
         Checked::Refused(verdict) => return Ok(Ruled::Refused(Ruling::Verdict(verdict))),
     };
-    let early = match found.early {
-        Ok(early) => early,
-        Err(_) => return Err(AuditError::Memory),
-    };
-    match early {
+    match found.early? {
         None => Ok(Ruled::Fit(merged)),
         Some(take) => Ok(Ruled::Refused(Ruling::Clocks(take))),
     }

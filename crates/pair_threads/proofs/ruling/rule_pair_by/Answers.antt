@@ -12,7 +12,7 @@ returns-in-None g c =
     let b = c.args.secondary.now in
     let legal = subst (IsChecked a b) c.in-Legal.is c.in_ok-merged.ensures in
     let early = subst (λ r. IfOk r (λ take. MatchOption take (NoneIsFarBelow (journals_of a b) c.args.skew)
-    (IsLeast (IsFarBelowSend (journals_of a b) c.args.skew)))) c.in-Ok.is c.find-found.ensures.early in (
+    (IsLeast (IsFarBelowSend (journals_of a b) c.args.skew)))) c.in_ok-found-2.was c.in_ok-found.ensures.early in (
       (legal.0, none_early a b legal.0 c.early_by_first_send.ensures c.args.skew _ c.in-None.is early),
       legal.1,
     )
@@ -23,5 +23,5 @@ returns-in-Some g c =
     let b = c.args.secondary.now in
     let legal = subst (IsChecked a b) c.in-Legal.is c.in_ok-merged.ensures in
     let early = subst (λ r. IfOk r (λ take. MatchOption take (NoneIsFarBelow (journals_of a b) c.args.skew)
-    (IsLeast (IsFarBelowSend (journals_of a b) c.args.skew)))) c.in-Ok.is c.find-found.ensures.early in
+    (IsLeast (IsFarBelowSend (journals_of a b) c.args.skew)))) c.in_ok-found-2.was c.in_ok-found.ensures.early in
     (legal.0, least_early a b legal.0 c.early_by_first_send.ensures c.args.skew _ _ c.in-Some.is early)
