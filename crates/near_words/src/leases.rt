@@ -13,19 +13,8 @@ use journal_lines::Lease;
 use lead_time::{End, Reading};
 use near_leases::{AtMoment, NearLease, begun_by, lasts_from, may_begin};
 use plain_search::HolderQuery;
-use report_words::{Block, Kind, Part, Word, push_block, push_sum};
+use report_words::{Block, Kind, Word, push_block, push_sum, with_both};
 use std::alloc::AllocError;
-
-/// The skew and the transit, added, and the moment that they come to.
-fn with_both(query: &HolderQuery, moment: u64) -> [Part; 3]
-    ensures { values_in result ≡ word.Number query.now.skew ∷ word.Number query.now.transit ∷ word.Moment moment ∷ [] }
-{
-    [
-        (" + ", Word::Number(query.skew.milliseconds())),
-        (" (skew) + ", Word::Number(query.transit.milliseconds())),
-        (" (transit) = ", Word::Moment(moment)),
-    ]
-}
 
 /// What the line tells of.
 fn push_told(out: &mut Vec<Block>, lease: &NearLease) -> Result<(), AllocError>
@@ -54,7 +43,12 @@ fn push_begun(out: &mut Vec<Block>, reading: Reading, query: &HolderQuery) -> Re
         ("The clock showed ", Word::Reading(reading)),
         (". So the lease had begun by ", Word::Number(reading)),
     ];
-    push_sum(out, &shown, &with_both(query, begun), ".")
+    push_sum(
+        out,
+        &shown,
+        &with_both(query.skew, query.transit, begun),
+        ".",
+    )
 }
 
 /// Up to when it surely lasts.

@@ -39,8 +39,8 @@ pub(crate) fn by_mark(mark: &Mark, so: &'static str, at: Ref, what: &'static str
     ]
 }
 
-/// The skew and the transit, added, and the moment that they come to.
-pub(crate) fn with_both(skew: Skew, transit: Transit, moment: u64) -> [Part; 3]
+/// The skew and the transit, added, and the moment that they come to: what ends a sum that [`crate::push_sum`] appends.
+pub fn with_both(skew: Skew, transit: Transit, moment: u64) -> [Part; 3]
     ensures { values_in result ≡ word.Number skew ∷ word.Number transit ∷ word.Moment moment ∷ [] }
 {
     [
