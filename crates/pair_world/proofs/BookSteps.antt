@@ -55,10 +55,11 @@ abbrev pub IsDownFor : Bool → Event → Type 0
 IsDownFor stopped (State Down) = stopped ≡ true
 IsDownFor stopped _ = ⊤
 
--- a restart ends the stop; no other line is written by a stopped server
+-- a stopped server grants nothing, and takes nobody for down
 abbrev pub MayWrite : Bool → Event → Type 0
-MayWrite stopped (Restart n) = ⊤
-MayWrite stopped _ = stopped ≡ false
+MayWrite stopped (Grant g) = stopped ≡ false
+MayWrite stopped (State Down) = stopped ≡ false
+MayWrite stopped _ = ⊤
 
 abbrev pub stopped_after : Bool → Event → Bool
 stopped_after stopped (Restart n) = false
