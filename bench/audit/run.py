@@ -15,8 +15,8 @@ import tempfile
 
 HERE = pathlib.Path(__file__).resolve().parent
 ROOT = HERE.parent.parent
-CRATES = """text_fields lists prefix_range client_id lead_time line_words binding_rules journal_lines book_state book_rules
-volume_heads claims causal_order journal_merge event_words journal_text certificate attribution auditor line_index""".split()
+CRATES = """text_fields prefix_range client_id lead_time line_words binding_rules journal_lines book_state book_rules
+causal_order journal_merge journal_text certificate attribution auditor line_index""".split()
 
 
 def program(folder):

@@ -16,8 +16,8 @@ import time
 
 HERE = pathlib.Path(__file__).resolve().parent
 ROOT = HERE.parent.parent
-CRATES = ["text_fields", "lists", "prefix_range", "client_id", "lead_time", "binding_rules", "journal_lines", "book_state",
-          "book_rules", "volume_heads", "dhcp6_pd", "unit_finder", "server_settings", "settings_text", "order_book", "server_book"]
+CRATES = ["text_fields", "prefix_range", "client_id", "lead_time", "binding_rules", "journal_lines", "book_state",
+          "book_rules", "dhcp6_pd", "unit_finder", "server_settings", "order_book", "server_book"]
 COUNTS = {"orders": 60_000, "replay": 12}
 ORDERS_A_ROUND = 7
 

@@ -15,7 +15,7 @@ import time
 
 HERE = pathlib.Path(__file__).resolve().parent
 ROOT = HERE.parent.parent
-CRATES = ["text_fields", "lists", "prefix_range", "client_id", "router_options", "dhcp6_pd"]
+CRATES = ["text_fields", "prefix_range", "client_id", "router_options", "dhcp6_pd"]
 COUNT = 2_000_000
 SOLICIT = bytes.fromhex("010a0b0c0001000a000300010200000000010019000c000000010000000000000000")
 

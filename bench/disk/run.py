@@ -19,8 +19,8 @@ import time
 HERE = pathlib.Path(__file__).resolve().parent
 ROOT = HERE.parent.parent
 PROGRAMS = {
-    "driver": "commit_queue journal_file real_files torn_disk anyhow",
-    "start": "folder_recovery real_files volume_folder order_book binding_rules anyhow",
+    "driver": "commit_queue disk_model disk_files anyhow",
+    "start": "volume_store disk_files disk_model order_book binding_rules anyhow",
 }
 BATCHES = {1: 10_000, 8: 8_000, 64: 4_000}
 LINES = 2**20

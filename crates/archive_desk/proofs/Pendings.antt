@@ -8,14 +8,14 @@ use Rattle.std.proofs.lemmas.Option.{slice_get-get_or}
 use Rattle.journal_lines.specs.declared.line.Journal.{Journal}
 use Rattle.journal_lines.specs.declared.fault.JournalFault.{JournalFault}
 use Rattle.causal_order.specs.Journals.{journals_of}
-use Rattle.claims.specs.declared.certificate.Certificate.{Certificate as Claimed}
-use Rattle.claims.specs.declared.fault.CertificateFault.{CertificateFault}
+use Rattle.causal_order.specs.declared.certificate.Certificate.{Certificate as Claimed}
+use Rattle.causal_order.specs.declared.fault.CertificateFault.{CertificateFault}
 use Rattle.certificate.specs.Faults.{certificate_of}
 use Rattle.attribution.specs.declared.verdict.Verdict.TheVariants.{Certificate as CertificateVerdict}
 use Rattle.pair_ruling.specs.declared.ruling.Ruling.{Ruling}
 use Rattle.pair_ruling.specs.declared.ruling.Ruling.TheVariants.{Verdict}
-use Rattle.journal_copy.specs.declared.pair.ShownPair.{ShownPair}
-use Rattle.journal_copy.specs.Shown.{read_of, ShownAreSnapshots}
+use Rattle.journal_archive.specs.declared.pair.ShownPair.{ShownPair}
+use Rattle.journal_archive.specs.Shown.{read_of, ShownAreSnapshots}
 use Rattle.attribution_desk.specs.declared.certificates.Claim.{Claim}
 use Rattle.attribution_desk.specs.Claims.{texts_of}
 use Rattle.attribution_desk.specs.Batch.{AreRuled}

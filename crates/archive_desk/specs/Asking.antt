@@ -2,7 +2,7 @@
 use Rattle.std.specs.Prelude.{◌≡◌, ℕ, List, Ok}
 use Rattle.journal_archive.specs.declared.answer.Pair.{Pair}
 use Rattle.journal_archive.specs.declared.archive.Archive.{Archive}
-use Rattle.journal_copy.specs.declared.pair.ShownPair.{ShownPair}
+use Rattle.journal_archive.specs.declared.pair.ShownPair.{ShownPair}
 use Rattle.archive_files.specs.Reaching.{shown_until}
 use Rattle.archive_files.specs.Showing.{IsShownAt}
 use Rattle.archive_files.specs.declared.showing.Shown.TheVariants.{Journals as ShownJournals, Lacking as ShownLacking}

@@ -1,17 +1,17 @@
 -- What files answer to a certificate.
 use Rattle.std.specs.Prelude.{◌≡◌, ⊤, ℕ, List, Result, Ok, Err}
-use Rattle.claims.specs.declared.certificate.Certificate.{Certificate as Claim}
-use Rattle.claims.specs.declared.fault.CertificateFault.{CertificateFault}
+use Rattle.causal_order.specs.declared.certificate.Certificate.{Certificate as Claim}
+use Rattle.causal_order.specs.declared.fault.CertificateFault.{CertificateFault}
 use Rattle.open_volume.specs.declared.volume.VolumeSoFar.{VolumeSoFar}
-use Rattle.volume_heads.specs.NextHead.{AreLegal}
+use Rattle.book_rules.specs.NextHead.{AreLegal}
 use Rattle.attribution.specs.declared.verdict.Verdict.TheVariants.{Accepted, Certificate}
 use Rattle.attribution.specs.Snapshot.{IsTrueInRunsThatBeginSo}
 use Rattle.pair_ruling.specs.declared.ruling.Ruling.{Ruling}
 use Rattle.pair_ruling.specs.declared.ruling.Ruling.TheVariants.{Verdict}
 use Rattle.journal_archive.specs.declared.answer.Pair.{Pair}
 use Rattle.journal_archive.specs.declared.archive.Archive.{Archive}
-use Rattle.journal_copy.specs.declared.pair.ShownPair.{ShownPair}
-use Rattle.journal_copy.specs.Shown.{read_of}
+use Rattle.journal_archive.specs.declared.pair.ShownPair.{ShownPair}
+use Rattle.journal_archive.specs.Shown.{read_of}
 use Rattle.archive_files.specs.Showing.{IsCopyOf, IsShown, IsShownAt, AreClosed}
 use Rattle.archive_files.specs.declared.showing.Shown.TheVariants.{Journals as ShownJournals, Lacking as ShownLacking}
 use Rattle.attribution_desk.specs.Rulings.{IsRulingOfJournals}

@@ -9,7 +9,7 @@ use Rattle.journal_archive.specs.Answers.{IsAnswer, AreSpans}
 use Rattle.attribution_desk.specs.declared.searching.Search.TheVariants.{Find}
 use Rattle.archive_desk.specs.declared.asking.Reply.{Reply}
 use Rattle.archive_desk.specs.declared.telling.Told.{Told}
-use Rattle.journal_copy.specs.declared.pair.ShownPair.{ShownPair}
+use Rattle.journal_archive.specs.declared.pair.ShownPair.{ShownPair}
 use Rattle.archive_files.specs.Reaching.{shown_until}
 use Rattle.archive_files.specs.Showing.{IsShownAt}
 use Rattle.archive_files.specs.declared.showing.Shown.TheVariants.{Journals as ShownJournals, Lacking as ShownLacking}

@@ -1,7 +1,7 @@
 -- Certificates on their way to their verdicts.
 use Rattle.std.specs.Prelude.{◌≡◌, ℕ, List, map, Result, Ok, Err, Some, slice_get}
-use Rattle.claims.specs.declared.certificate.Certificate.{Certificate as Claim}
-use Rattle.claims.specs.declared.fault.CertificateFault.{CertificateFault}
+use Rattle.causal_order.specs.declared.certificate.Certificate.{Certificate as Claim}
+use Rattle.causal_order.specs.declared.fault.CertificateFault.{CertificateFault}
 use Rattle.certificate.specs.Faults.{certificate_of}
 use Rattle.attribution.specs.declared.verdict.Verdict.TheVariants.{Certificate}
 use Rattle.pair_ruling.specs.declared.ruling.Ruling.TheVariants.{Verdict}

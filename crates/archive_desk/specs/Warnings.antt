@@ -3,7 +3,7 @@ use Rattle.std.specs.Prelude.{◌≡◌, ℕ, List, [], ◌∷◌, ◌++◌, Som
 use Rattle.std.specs.declared.path.buf.PathBuf.{PathBuf}
 use Rattle.pair_ruling.specs.Ties.{IsWarning}
 use Rattle.journal_archive.specs.declared.answer.Pair.{Pair}
-use Rattle.journal_copy.specs.declared.pair.ShownPair.{ShownPair}
+use Rattle.journal_archive.specs.declared.pair.ShownPair.{ShownPair}
 use Rattle.archive_files.specs.Showing.{IsShown}
 use Rattle.archive_desk.specs.Names.{journals_line}
 

@@ -7,8 +7,8 @@ use Rattle.journal_archive.specs.declared.archive.Archive.{Archive}
 use Rattle.attribution_desk.specs.declared.searching.Search.TheVariants.{Who}
 use Rattle.journal_archive.specs.declared.outline.Filed.{Filed}
 use Rattle.access_records.specs.Spelling.{TextValue}
-use Rattle.access_lines.specs.declared.beside.VolumeFile.{VolumeFile}
-use Rattle.access_lines.specs.Beside.{IsSaidBeside}
+use Rattle.access_records.specs.declared.beside.VolumeFile.{VolumeFile}
+use Rattle.access_records.specs.Beside.{IsSaidBeside}
 use Rattle.archive_desk.specs.declared.asking.Reply.{Reply}
 use Rattle.archive_desk.specs.declared.asking.Reply.TheVariants.{Answered, Lacking}
 use Rattle.archive_desk.specs.declared.telling.Told.{Told}

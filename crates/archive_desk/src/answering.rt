@@ -11,7 +11,7 @@ use crate::passing::passed_over;
 use crate::stretches::find;
 use crate::telling::Told;
 use crate::unread::expect_read;
-use access_lines::AccessBeside;
+use access_records::AccessBeside;
 use archive_files::{Agreement, FilesError, JournalFiles, catalogue_of};
 use desk_words::{Settings, Workers};
 use evidence_search::{HolderQuery, Query};

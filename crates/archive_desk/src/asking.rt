@@ -6,11 +6,9 @@ ghost use Rattle.attribution_desk.specs.Searching.{skew_of, transit_of};
 ghost use Rattle.archive_desk.specs.Asking.{IsReplyOver, IsReplyAt};
 
 use archive_files::{FilesError, JournalFiles, Shown, shown_at, shown_until};
-use attribution_desk::{Search, Searched, search_pair};
+use attribution_desk::{ReadPair, Search, Searched, search_pair};
 use binding_rules::Role;
-use desk_intake::ReadPair;
-use journal_archive::{Archive, Lack, Pair};
-use journal_copy::ShownPair;
+use journal_archive::{Archive, Lack, Pair, ShownPair};
 use journal_lines::Journal;
 use std::alloc::Global;
 use std::thread::Threads;

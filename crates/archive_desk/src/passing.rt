@@ -2,7 +2,7 @@
 
 use crate::names::name_of;
 use archive_files::{Found, PassedOver};
-use journal_copy::JournalFault;
+use journal_archive::JournalFault;
 use std::alloc::{AllocError, Global};
 use std::path::PathBuf;
 

@@ -2,7 +2,7 @@
 use Rattle.std.specs.Prelude.{ℕ, ◌-◌, ◌≤◌, ⊤, List, [], ◌++◌, length, replicate}
 use Rattle.std.proofs.Common.{refl, sym, arith, append-nil}
 use Rattle.std.proofs.lemmas.List.{length-append, length-replicate}
-use Rattle.volume_edges.specs.declared.end.FileEnd.{FileEnd}
+use Rattle.journal_archive.specs.declared.end.FileEnd.{FileEnd}
 use Rattle.archive_files.specs.Parts.{IsBeginning, IsEnd}
 
 pub any_beginning : (beginning : List ℕ) → IsBeginning (λ octets. ⊤) beginning

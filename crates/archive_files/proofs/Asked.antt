@@ -10,7 +10,7 @@ use Rattle.journal_lines.specs.declared.line.Line.{Line}
 use Rattle.journal_lines.specs.Close.{is_close}
 use Rattle.journal_text.specs.Closed.{IsClosed}
 use Rattle.causal_order.specs.Journals.{Journals, journal_of, volume_of}
-use Rattle.claims.specs.declared.certificate.Certificate.{Certificate}
+use Rattle.causal_order.specs.declared.certificate.Certificate.{Certificate}
 use Rattle.journal_archive.specs.declared.outline.Outline.{Outline}
 use Rattle.archive_files.specs.Laws.{IsOutlineOf, IsAskedOf, ShowsAll, ShowsWhatIsAsked}
 

@@ -6,7 +6,7 @@ use Rattle.binding_rules.specs.declared.role.Role.TheVariants.{Primary, Secondar
 use Rattle.journal_archive.specs.declared.outline.Filed.{Filed}
 use Rattle.journal_archive.specs.Shelves.{IsShelfOf}
 use Rattle.journal_archive.proofs.Among.{within}
-use Rattle.volume_edges.specs.declared.settings.Setting.{Setting}
+use Rattle.journal_archive.specs.declared.settings.Setting.{Setting}
 use Rattle.archive_files.specs.declared.error.FilesError.TheVariants.{OtherPair}
 use Rattle.archive_files.specs.declared.ties.Agreement.{Agreement}
 use Rattle.archive_files.specs.declared.ties.Agreement.TheVariants.{OfBoth, OfEach}

@@ -3,10 +3,10 @@ use Rattle.std.specs.Prelude.{◌≡◌, ℕ, ◌⊎◌, ⊤, List, Option, Some
 use Rattle.open_volume.specs.declared.volume.VolumeSoFar.{VolumeSoFar}
 use Rattle.open_volume.specs.Faults.{volume_of}
 use Rattle.journal_archive.specs.declared.outline.Outline.{Outline}
-use Rattle.journal_copy.specs.Copies.{before_zero, whole_lines}
-use Rattle.volume_edges.specs.declared.end.FileEnd.{FileEnd}
-use Rattle.volume_edges.specs.Beginning.{IsHeaded}
-use Rattle.volume_edges.specs.Outlining.{outline_of, outline_by}
+use Rattle.journal_archive.specs.Copies.{before_zero, whole_lines}
+use Rattle.journal_archive.specs.declared.end.FileEnd.{FileEnd}
+use Rattle.journal_archive.specs.Beginning.{IsHeaded}
+use Rattle.journal_archive.specs.Outlining.{outline_of, outline_by}
 use Rattle.archive_files.specs.Parts.{IsBeginning, IsEnd}
 use Rattle.archive_files.specs.declared.found.Glimpse.{Glimpse}
 use Rattle.archive_files.specs.declared.found.Glimpse.TheVariants.{Volume as IsVolume, NoJournal as IsNoJournal}

@@ -4,7 +4,7 @@ use Rattle.binding_rules.specs.declared.role.Role.{Role}
 use Rattle.journal_lines.specs.declared.line.Line.{Line}
 use Rattle.journal_text.specs.Closed.{IsClosed}
 use Rattle.causal_order.specs.Journals.{Journals, journal_of, volume_of}
-use Rattle.claims.specs.declared.certificate.Certificate.{Certificate}
+use Rattle.causal_order.specs.declared.certificate.Certificate.{Certificate}
 use Rattle.attribution.specs.Acceptance.{HasEarlier, IsAfterOpen, Reaches}
 use Rattle.journal_archive.specs.declared.outline.Outline.{Outline}
 use Rattle.journal_archive.specs.Showing.{shown_from, shown_until}

@@ -1,7 +1,7 @@
 -- Parts of what a file had.
 use Rattle.std.specs.Prelude.{ℕ, List}
-use Rattle.volume_edges.specs.declared.end.FileEnd.{FileEnd}
-use Rattle.volume_edges.specs.Laws.{BeginsWith, EndsWith}
+use Rattle.journal_archive.specs.declared.end.FileEnd.{FileEnd}
+use Rattle.journal_archive.specs.EdgeLaws.{BeginsWith, EndsWith}
 
 -- the file, which had some octets when it was read, began with these
 abbrev pub IsBeginning : (List ℕ → Type 0) → List ℕ → Type 0

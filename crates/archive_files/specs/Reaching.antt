@@ -1,7 +1,7 @@
 -- How far two journals reach: a certificate for an interval asks that each closes at its end and the skew, or later.
 use Rattle.std.specs.Prelude.{ℕ, ◌-◌, min, List, Option, Some, None, length, slice_get}
 use Rattle.journal_lines.specs.declared.line.Line.{Line}
-use Rattle.journal_copy.specs.declared.pair.ShownPair.{ShownPair}
+use Rattle.journal_archive.specs.declared.pair.ShownPair.{ShownPair}
 
 abbrev pub reading_of : Option Line → Option ℕ
 reading_of (Some l) = Some l.reading

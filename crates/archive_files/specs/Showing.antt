@@ -8,9 +8,9 @@ use Rattle.journal_archive.specs.declared.answer.Pair.{Pair}
 use Rattle.journal_archive.specs.declared.answer.Answer.TheVariants.{Shown as IsPair, Lacking as IsLacking}
 use Rattle.journal_archive.specs.Answers.{IsAnswer}
 use Rattle.journal_archive.specs.declared.archive.Archive.{Archive}
-use Rattle.journal_copy.specs.declared.pair.ShownPair.{ShownPair}
-use Rattle.journal_copy.specs.Shown.{shown_pair}
-use Rattle.volume_edges.specs.Outlining.{outline_of}
+use Rattle.journal_archive.specs.declared.pair.ShownPair.{ShownPair}
+use Rattle.journal_archive.specs.Shown.{shown_pair}
+use Rattle.journal_archive.specs.Outlining.{outline_of}
 use Rattle.archive_files.specs.declared.showing.Shown.{Shown}
 use Rattle.archive_files.specs.declared.showing.Shown.TheVariants.{Journals, Lacking}
 use Rattle.archive_files.specs.Found.{Has}

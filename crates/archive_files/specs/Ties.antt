@@ -3,8 +3,8 @@ use Rattle.std.specs.Prelude.{◌≡◌, ◌≢◌, ℕ, ◌⊎◌, ⊤, List, O
 use Rattle.binding_rules.specs.declared.role.Role.{Role}
 use Rattle.binding_rules.specs.declared.role.Role.TheVariants.{Primary, Secondary}
 use Rattle.journal_archive.specs.declared.outline.Filed.{Filed}
-use Rattle.volume_edges.specs.declared.settings.Setting.{Setting}
-use Rattle.volume_edges.specs.Settings.{settings_in}
+use Rattle.journal_archive.specs.declared.settings.Setting.{Setting}
+use Rattle.journal_archive.specs.Settings.{settings_in}
 use Rattle.archive_files.specs.Parts.{IsBeginning}
 use Rattle.archive_files.specs.Catalogues.{IsIn}
 use Rattle.archive_files.specs.declared.ties.Agreement.{Agreement}

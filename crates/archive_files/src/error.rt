@@ -3,8 +3,7 @@
 ghost use Rattle.std.specs.Prelude.{◌≡◌};
 ghost use Rattle.archive_files.specs.declared.error.FilesError.TheVariants.{Memory, Archive};
 
-use journal_archive::ArchiveError;
-use journal_copy::JournalFault;
+use journal_archive::{ArchiveError, JournalFault};
 use std::alloc::{AllocError, AllocFailed};
 use thiserror::Error;
 

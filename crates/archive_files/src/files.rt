@@ -3,8 +3,8 @@
 ghost use Rattle.std.specs.Prelude.{◌≡◌, ℕ, List, IfOk};
 ghost use Rattle.archive_files.specs.Parts.{IsBeginning, IsEnd};
 
+use journal_archive::FileEnd;
 use std::alloc::Global;
-use volume_edges::FileEnd;
 
 /// Why a file wasn't read.
 #[derive(Clone, Copy, Debug, PartialEq, Eq)]

@@ -3,7 +3,7 @@
 ghost use Rattle.std.specs.Prelude.{◌≡◌};
 ghost use Rattle.archive_files.specs.Reaching.{last_reading, shown_until};
 
-use journal_copy::ShownPair;
+use journal_archive::ShownPair;
 use journal_lines::Line;
 use lead_time::Skew;
 

@@ -7,11 +7,12 @@ ghost use Rattle.archive_files.specs.Showing.{AreOfOne, IsOf, IsCopyOf, IsShown,
 use crate::error::FilesError;
 use crate::files::{JournalFiles, Unreadable};
 use binding_rules::Role;
-use journal_archive::{Answer, Archive, Filed, Lack, Outline, Pair};
-use journal_copy::{JournalError, ShownPair, VolumeSoFar, read_copy, show_pair};
+use journal_archive::{
+    Answer, Archive, Filed, JournalError, Lack, Outline, Pair, ShownPair, VolumeSoFar, outline_of,
+    read_copy, show_pair,
+};
 use lead_time::{Skew, Transit};
 use std::alloc::Global;
-use volume_edges::outline_of;
 
 /// What files show of a moment.
 #[derive(Debug, Drop)]

@@ -1,7 +1,7 @@
 //! Whether volumes are of one pair of servers, by the settings that their first lines say.
 
 ghost use Rattle.std.specs.Prelude.{◌≡◌, ◌↔◌, ℕ, List, Some, IsTrue, IfOk, OnOk, IfErr, option_map};
-ghost use Rattle.volume_edges.specs.declared.settings.Setting.{Setting as SettingValue};
+ghost use Rattle.journal_archive.specs.declared.settings.Setting.{Setting as SettingValue};
 ghost use Rattle.archive_files.specs.declared.error.FilesError.TheVariants.{OtherPair};
 ghost use Rattle.archive_files.specs.Alike.{IsNoArchives};
 ghost use Rattle.archive_files.specs.Ties.{IsSetUp, SaysNoOther, IsOfSide, AreSetUp, AreTiedBy, AreOfTwoPairs};
@@ -9,9 +9,8 @@ ghost use Rattle.archive_files.specs.Ties.{IsSetUp, SaysNoOther, IsOfSide, AreSe
 use crate::error::FilesError;
 use crate::files::{JournalFiles, Unreadable};
 use binding_rules::Role;
-use journal_archive::Filed;
+use journal_archive::{Filed, Setting, are_same_settings, settings_in};
 use std::alloc::Global;
-use volume_edges::{Setting, are_same_settings, settings_in};
 
 /// How many octets of a file's beginning are read for its settings: enough for those of sixteen pools, and the line
 /// behind them.

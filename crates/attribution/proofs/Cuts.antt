@@ -14,8 +14,8 @@ use Rattle.journal_lines.specs.declared.line.Line.{Line}
 use Rattle.book_state.specs.Book.{BookState, blank}
 use Rattle.book_state.specs.Effects.{after}
 use Rattle.book_rules.specs.Volumes.{AreSteps, IsVolume, book_after}
-use Rattle.volume_heads.specs.NextHead.{Follows, AreNextHead, AreVolumes, AreLegal, head_events, head_lines, is_head}
-use Rattle.volume_heads.specs.NextHead.{lines_from}
+use Rattle.book_rules.specs.NextHead.{Follows, AreNextHead, AreVolumes, AreLegal, head_events, head_lines, is_head}
+use Rattle.book_rules.specs.NextHead.{lines_from}
 use Rattle.causal_order.specs.Journals.{Volume, volume_of}
 use Rattle.attribution.specs.Volumes.{past_close, volume_at, volumes_in}
 use Rattle.attribution.specs.Run.{Step, lines_of, IsWithin}

@@ -17,16 +17,16 @@ use Rattle.journal_lines.specs.declared.line.Line.{Line}
 use Rattle.binding_rules.specs.declared.role.Role.{Role}
 use Rattle.binding_rules.specs.declared.role.Role.TheVariants.{Primary, Secondary}
 use Rattle.binding_rules.specs.Role.{partner_of}
-use Rattle.claims.specs.declared.reference.Ref.{Ref}
+use Rattle.causal_order.specs.declared.reference.Ref.{Ref}
 use Rattle.causal_order.specs.Journals.{Journals, volume_of, open_of, line_of}
 use Rattle.causal_order.specs.Order.{WrittenFrom}
 use Rattle.causal_order.proofs.Sameness.{decides_prefix}
 use Rattle.causal_order.proofs.Deciding.{decides_le, decides_lt, decides_side, decides_ref, line_names, names_line}
 use Rattle.causal_order.proofs.Deciding.{decides_line, decides_written_from, decides_precedes}
-use Rattle.claims.specs.declared.certificate.Certificate.{Certificate}
-use Rattle.claims.specs.declared.certificate.Piece.{Piece}
-use Rattle.claims.specs.declared.certificate.Why.{Why}
-use Rattle.claims.specs.declared.certificate.Why.TheVariants.{Before, After}
+use Rattle.causal_order.specs.declared.certificate.Certificate.{Certificate}
+use Rattle.causal_order.specs.declared.certificate.Piece.{Piece}
+use Rattle.causal_order.specs.declared.certificate.Why.{Why}
+use Rattle.causal_order.specs.declared.certificate.Why.TheVariants.{Before, After}
 use Rattle.journal_lines.specs.Close.{is_close}
 use Rattle.attribution.specs.declared.delegation.Delegation.{Delegation}
 use Rattle.attribution.specs.declared.delegation.Lasting.{Lasting}

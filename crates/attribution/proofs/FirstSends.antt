@@ -7,7 +7,7 @@ use Rattle.binding_rules.specs.Role.{partner_of}
 use Rattle.binding_rules.specs.declared.message.PartnerMessage.{PartnerMessage}
 use Rattle.journal_lines.specs.declared.event.Event.TheVariants.{Send, Take}
 use Rattle.journal_lines.specs.declared.line.Line.{Line}
-use Rattle.claims.specs.declared.reference.Ref.{Ref}
+use Rattle.causal_order.specs.declared.reference.Ref.{Ref}
 use Rattle.causal_order.specs.Journals.{Journals, journal_of, volume_of, Names}
 use Rattle.journal_merge.specs.Messages.{first_send, was_sent_earlier, partner_lines, send_of, Awaits}
 use Rattle.journal_merge.proofs.Matched.{matched_are_sent}

@@ -2,11 +2,11 @@
 use Rattle.std.specs.Prelude.{List}
 use Rattle.std.proofs.Common.{subst, inl, inr}
 use Rattle.binding_rules.specs.declared.role.Role.{Role}
-use Rattle.claims.specs.declared.reference.Ref.{Ref}
+use Rattle.causal_order.specs.declared.reference.Ref.{Ref}
 use Rattle.causal_order.specs.Journals.{Journals, journal_of, volume_of}
 use Rattle.book_state.specs.Book.{blank}
 use Rattle.book_rules.specs.Volumes.{IsVolume}
-use Rattle.volume_heads.specs.NextHead.{AreLegal}
+use Rattle.book_rules.specs.NextHead.{AreLegal}
 use Rattle.journal_merge.specs.Interleaving.{HasInterleaving}
 use Rattle.journal_merge.specs.Placing.{Placed}
 use Rattle.journal_merge.proofs.Stuck.{placed_or_stuck, stuck_where_none}

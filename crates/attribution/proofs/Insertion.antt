@@ -6,7 +6,7 @@ use Rattle.binding_rules.specs.declared.role.Role.{Role}
 use Rattle.binding_rules.specs.Role.{is_side}
 use Rattle.journal_lines.specs.declared.event.Event.TheVariants.{Grant, Release, Close}
 use Rattle.journal_lines.specs.declared.event.Lease.{Lease}
-use Rattle.claims.specs.declared.certificate.Certificate.{Certificate}
+use Rattle.causal_order.specs.declared.certificate.Certificate.{Certificate}
 use Rattle.attribution.specs.Run.{Step, lines_of, At, StartInTime, IsReleasedBy, IsValidAt, infinity}
 use Rattle.attribution.specs.Laws.{count}
 use Rattle.attribution.specs.Acceptance.{IsTrueIn}

@@ -15,9 +15,9 @@ use Rattle.journal_lines.specs.declared.line.Line.{Line}
 use Rattle.book_state.specs.Book.{BookState, blank}
 use Rattle.book_rules.specs.VolumeRules.{margin}
 use Rattle.book_rules.specs.Volumes.{IsVolume, book_after}
-use Rattle.volume_heads.specs.NextHead.{IsSameLease, GivesUpTo, IsOwed, numbers, transit_events, pool_event}
-use Rattle.volume_heads.specs.NextHead.{head_events, lines_from, AreNextHead, is_head, head_lines}
-use Rattle.volume_heads.specs.NextHead.{Follows, AreVolumes}
+use Rattle.book_rules.specs.NextHead.{IsSameLease, GivesUpTo, IsOwed, numbers, transit_events, pool_event}
+use Rattle.book_rules.specs.NextHead.{head_events, lines_from, AreNextHead, is_head, head_lines}
+use Rattle.book_rules.specs.NextHead.{Follows, AreVolumes}
 use Rattle.attribution.specs.declared.delegation.Delegation.{Delegation}
 use Rattle.attribution.specs.declared.delegation.Lasting.{Lasting}
 use Rattle.attribution.specs.declared.delegation.Lasting.TheVariants.{For, Until}

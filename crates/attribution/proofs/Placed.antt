@@ -12,7 +12,7 @@ use Rattle.binding_rules.specs.Role.{partner_of, is_side}
 use Rattle.binding_rules.specs.declared.message.PartnerMessage.{PartnerMessage}
 use Rattle.journal_lines.specs.declared.event.Event.TheVariants.{Send, Take, Close}
 use Rattle.journal_lines.specs.declared.line.Line.{Line}
-use Rattle.claims.specs.declared.reference.Ref.{Ref}
+use Rattle.causal_order.specs.declared.reference.Ref.{Ref}
 use Rattle.causal_order.specs.Journals.{Journals, journal_of, Names, line_of}
 use Rattle.causal_order.proofs.Deciding.{names_line, decides_side}
 use Rattle.journal_merge.specs.Messages.{first_send, was_sent_earlier, partner_lines, send_of}

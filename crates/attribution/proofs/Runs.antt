@@ -15,19 +15,19 @@ use Rattle.journal_lines.specs.declared.kept.Carried.{Carried}
 use Rattle.journal_lines.specs.declared.event.Event.TheVariants.{Grant, Release, Send, Take}
 use Rattle.journal_lines.specs.declared.event.Lease.{Lease}
 use Rattle.journal_lines.specs.declared.line.Line.{Line}
-use Rattle.claims.specs.declared.reference.Ref.{Ref}
-use Rattle.claims.specs.declared.order.Precedes.{Precedes}
-use Rattle.claims.specs.declared.order.Precedes.TheVariants.{Chain, Clock}
+use Rattle.causal_order.specs.declared.reference.Ref.{Ref}
+use Rattle.causal_order.specs.declared.order.Precedes.{Precedes}
+use Rattle.causal_order.specs.declared.order.Precedes.TheVariants.{Chain, Clock}
 use Rattle.causal_order.specs.Journals.{Journals, journal_of, volume_of, open_of, Names}
 use Rattle.causal_order.specs.Order.{IsLater, IsTakeOf, IsSurelyBefore, IsChain, EndsWith, Leads, WrittenBy}
 use Rattle.causal_order.specs.Order.{WrittenFrom}
-use Rattle.claims.specs.declared.certificate.Certificate.{Certificate}
-use Rattle.claims.specs.declared.certificate.Piece.{Piece}
-use Rattle.claims.specs.declared.certificate.Why.{Why}
-use Rattle.claims.specs.declared.certificate.Why.TheVariants.{Before, After}
-use Rattle.claims.specs.declared.certificate.Foreign.{Foreign}
-use Rattle.claims.specs.declared.certificate.Reason.{Reason}
-use Rattle.claims.specs.declared.certificate.Reason.TheVariants.{Early, Late, Released}
+use Rattle.causal_order.specs.declared.certificate.Certificate.{Certificate}
+use Rattle.causal_order.specs.declared.certificate.Piece.{Piece}
+use Rattle.causal_order.specs.declared.certificate.Why.{Why}
+use Rattle.causal_order.specs.declared.certificate.Why.TheVariants.{Before, After}
+use Rattle.causal_order.specs.declared.certificate.Foreign.{Foreign}
+use Rattle.causal_order.specs.declared.certificate.Reason.{Reason}
+use Rattle.causal_order.specs.declared.certificate.Reason.TheVariants.{Early, Late, Released}
 use Rattle.attribution.specs.declared.delegation.Delegation.{Delegation}
 use Rattle.attribution.specs.Delegation.{of_lease, of_carried, told_by}
 use Rattle.attribution.specs.Volumes.{volume_at, volumes_in}

@@ -14,7 +14,7 @@ use Rattle.binding_rules.specs.declared.message.PartnerMessage.{PartnerMessage}
 use Rattle.journal_lines.specs.declared.event.Event.TheVariants.{Send, Take, Close}
 use Rattle.journal_lines.specs.declared.line.Line.{Line}
 use Rattle.causal_order.specs.Journals.{Volume, Journals, volume_of}
-use Rattle.claims.specs.declared.certificate.Certificate.{Certificate}
+use Rattle.causal_order.specs.declared.certificate.Certificate.{Certificate}
 use Rattle.attribution.specs.Volumes.{volume_at, volumes_in}
 use Rattle.attribution.specs.Run.{Step, lines_of, At, IsWithin, IsRun, KeepsSkew, Leaves, StartInTime}
 use Rattle.attribution.specs.Laws.{count}

@@ -3,7 +3,7 @@ use Rattle.std.specs.Prelude.{◌≡◌, ℕ, ◌<◌, ◌≤◌, ◌⊎◌, Lis
 use Rattle.std.proofs.Common.{suc, arith, inl, inr, refl}
 use Rattle.std.proofs.lemmas.Bool.{cases_lt}
 use Rattle.prefix_range.proofs.Ends.{contains_by_ends, ends_contained, overlaps_by_ends, ends_overlap}
-use Rattle.claims.specs.declared.certificate.Piece.{Piece}
+use Rattle.causal_order.specs.declared.certificate.Piece.{Piece}
 use Rattle.attribution.specs.Acceptance.{Tile}
 use Rattle.attribution.specs.Laws.{PiecesMeetEveryMoment, EndPointsDecide}
 

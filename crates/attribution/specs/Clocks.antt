@@ -4,12 +4,12 @@ use Rattle.prefix_range.specs.Prefix.{Overlaps}
 use Rattle.binding_rules.specs.declared.role.Role.{Role}
 use Rattle.journal_lines.specs.declared.event.Event.TheVariants.{Close}
 use Rattle.journal_lines.specs.declared.line.Line.{Line}
-use Rattle.claims.specs.declared.certificate.Certificate.{Certificate}
-use Rattle.claims.specs.declared.reference.Ref.{Ref}
+use Rattle.causal_order.specs.declared.certificate.Certificate.{Certificate}
+use Rattle.causal_order.specs.declared.reference.Ref.{Ref}
 use Rattle.causal_order.specs.Journals.{Journals, journal_of, volume_of, Names}
 use Rattle.causal_order.specs.Order.{IsTakeOf}
 use Rattle.book_rules.specs.Volumes.{IsVolume}
-use Rattle.volume_heads.specs.NextHead.{AreLegal}
+use Rattle.book_rules.specs.NextHead.{AreLegal}
 use Rattle.journal_merge.specs.Early.{IsFarBelowSend}
 use Rattle.journal_merge.specs.Refusals.{AreMatched}
 use Rattle.journal_merge.specs.Interleaving.{HasInterleaving}

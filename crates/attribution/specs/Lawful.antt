@@ -6,7 +6,7 @@ use Rattle.journal_lines.specs.declared.kept.Carried.{Carried}
 use Rattle.journal_lines.specs.declared.event.Lease.{Lease}
 use Rattle.journal_lines.specs.declared.event.Event.TheVariants.{Carry, Grant, Release, Send}
 use Rattle.journal_lines.specs.declared.line.Line.{Line}
-use Rattle.volume_heads.specs.NextHead.{IsSameLease, AreLegal}
+use Rattle.book_rules.specs.NextHead.{IsSameLease, AreLegal}
 use Rattle.attribution.specs.declared.delegation.Delegation.{Delegation}
 use Rattle.attribution.specs.Delegation.{of_lease, of_carried}
 

@@ -7,10 +7,10 @@ use Rattle.binding_rules.specs.declared.role.Role.TheVariants.{Primary, Secondar
 use Rattle.binding_rules.specs.Role.{is_side}
 use Rattle.journal_lines.specs.Close.{until_close}
 use Rattle.journal_lines.specs.declared.line.Line.{Line}
-use Rattle.claims.specs.declared.reference.Ref.{Ref}
+use Rattle.causal_order.specs.declared.reference.Ref.{Ref}
 use Rattle.causal_order.specs.Journals.{Journals, journal_of, volume_of, Names}
 use Rattle.causal_order.specs.Order.{Leads, WrittenBy, WrittenFrom}
-use Rattle.claims.specs.declared.certificate.Piece.{Piece}
+use Rattle.causal_order.specs.declared.certificate.Piece.{Piece}
 use Rattle.attribution.specs.Volumes.{past_close}
 use Rattle.attribution.specs.Run.{Step, lines_of, At, closes, IsRun, KeepsSkew, Leaves}
 use Rattle.attribution.specs.Acceptance.{Tile, ClosesFrom}

@@ -1,10 +1,10 @@
 -- The tests decide: each is true exactly where what it is for holds.
 use Rattle.std.specs.Prelude.{ℕ}
 use Rattle.std.specs.Bool.{Decides}
-use Rattle.claims.specs.declared.reference.Ref.{Ref}
+use Rattle.causal_order.specs.declared.reference.Ref.{Ref}
 use Rattle.causal_order.specs.Journals.{Journals}
-use Rattle.claims.specs.declared.certificate.Certificate.{Certificate}
-use Rattle.claims.specs.declared.certificate.Piece.{Piece}
+use Rattle.causal_order.specs.declared.certificate.Certificate.{Certificate}
+use Rattle.causal_order.specs.declared.certificate.Piece.{Piece}
 use Rattle.attribution.specs.declared.delegation.Lasting.{Lasting}
 use Rattle.attribution.specs.Acceptance.{IsPastOpen, EndsBy, Discharges, IsNamed}
 use Rattle.attribution.specs.Tests.{is_past_open, ends_by, discharges, is_named}

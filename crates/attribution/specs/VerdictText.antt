@@ -5,8 +5,8 @@ use Rattle.binding_rules.specs.declared.role.Role.{Role}
 use Rattle.binding_rules.specs.declared.role.Role.TheVariants.{Primary, Secondary}
 use Rattle.journal_lines.specs.declared.fault.JournalFault.{JournalFault}
 use Rattle.journal_lines.specs.declared.fault.JournalFault.TheVariants.{Head, Form, Number, Reading, End}
-use Rattle.claims.specs.declared.fault.CertificateFault.{CertificateFault}
-use Rattle.claims.specs.declared.fault.CertificateFault.TheVariants.{Head as NoHead, Form as NoForm, End as NoEnd}
+use Rattle.causal_order.specs.declared.fault.CertificateFault.{CertificateFault}
+use Rattle.causal_order.specs.declared.fault.CertificateFault.TheVariants.{Head as NoHead, Form as NoForm, End as NoEnd}
 use Rattle.book_rules.specs.Rules.{rule_number}
 use Rattle.attribution.specs.declared.verdict.Verdict.{Verdict}
 use Rattle.attribution.specs.declared.verdict.Verdict.TheVariants.{Accepted, Journal, Certificate, Rule, Unsent}

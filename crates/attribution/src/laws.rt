@@ -10,7 +10,7 @@ ghost use Rattle.attribution.specs.Lawful.{Lawful, LegalIsLawful};
 ghost use Rattle.attribution.specs.Snapshot.{SnapshotsAreTrue, SnapshotsAreTrueInRuns, ClosesBehindTheLast};
 ghost use Rattle.attribution.specs.Clocks.{EarlyByFirstSend, EarlyFitsNoClocks, FirstVolumesFit, VolumesFit};
 ghost use Rattle.attribution.specs.Clocks.{FittingNameOne, TimelyNameOne};
-ghost use Rattle.volume_heads.specs.NextHead.{AreLegal};
+ghost use Rattle.book_rules.specs.NextHead.{AreLegal};
 
 /// What is accepted is true in every run of the pair that leaves the journals, whatever volumes came before, with
 /// clocks within the skew and answers within the transit.

@@ -1,7 +1,7 @@
 //! What an auditor's `accepted` means, and the proof that it is true.
 //!
 //! The definitions stand in specs/ and cite no code: a server's lines, volume by volume (`Volumes`; what a server may
-//! write is `volume_heads`' `NextHead`), runs of the pair and who holds what in one (`Run`), what it takes to accept a
+//! write is `book_rules`' `NextHead`), runs of the pair and who holds what in one (`Run`), what it takes to accept a
 //! certificate and what is then true (`Acceptance`), and which refusal comes first (`FirstRefusal`). What a certificate
 //! is asked is a list, `CONDITIONS`; its verdict is the refusal of the first that isn't met.
 //! What the headline needs of a server is less than its rules (`Lawful`), and which journals clocks fit is one

@@ -2,8 +2,7 @@
 
 use binding_rules::Role;
 use book_rules::Rule;
-use causal_order::Ref;
-use claims::CertificateFault;
+use causal_order::{CertificateFault, Ref};
 use journal_lines::JournalFault;
 
 /// The answer of an auditor about a certificate over two journals. Where it refuses, the first condition that isn't

@@ -7,7 +7,7 @@ ghost use Rattle.attribution.specs.VerdictText.{verdict_text, verdict_line as li
 
 use crate::verdict::Verdict;
 use binding_rules::Role;
-use claims::CertificateFault;
+use causal_order::CertificateFault;
 use journal_lines::JournalFault;
 use std::alloc::{AllocError, Global};
 use text_fields::push_number;

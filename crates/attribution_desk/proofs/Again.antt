@@ -1,8 +1,8 @@
 -- What is found, as its text is read again.
 use Rattle.std.specs.Prelude.{◌≡◌, ◌↔◌, ℕ, ◌+◌, ◌<◌, ◌≤◌, List, [], Bool, true, false, IsTrue, Ok, Result}
 use Rattle.std.proofs.Common.{sym, ap, subst, ◌∙◌, inl}
-use Rattle.claims.specs.declared.certificate.Certificate.{Certificate}
-use Rattle.claims.specs.declared.fault.CertificateFault.{CertificateFault}
+use Rattle.causal_order.specs.declared.certificate.Certificate.{Certificate}
+use Rattle.causal_order.specs.declared.fault.CertificateFault.{CertificateFault}
 use Rattle.causal_order.specs.Journals.{Journals}
 use Rattle.certificate.specs.Spelling.{certificate_text}
 use Rattle.certificate.specs.Faults.{certificate_of}

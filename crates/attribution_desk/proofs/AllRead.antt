@@ -5,8 +5,8 @@ use Rattle.binding_rules.specs.declared.role.Role.TheVariants.{Primary, Secondar
 use Rattle.journal_lines.specs.declared.fault.JournalFault.{JournalFault}
 use Rattle.journal_lines.specs.declared.line.Journal.{Journal}
 use Rattle.journal_text.specs.Faults.{journal_of_side}
-use Rattle.desk_intake.specs.declared.error.DeskError.{DeskError}
-use Rattle.desk_intake.specs.Input.{first_text, text_behind}
+use Rattle.attribution_desk.specs.declared.error.DeskError.{DeskError}
+use Rattle.attribution_desk.specs.Input.{first_text, text_behind}
 use Rattle.attribution_desk.specs.Timeline.{IsTimelineOf, IsTimeline}
 use Rattle.std.specs.Io.KnownBytes.{Appends}
 use Rattle.attribution_desk.specs.Running.{IsWritten}

@@ -8,8 +8,8 @@ use Rattle.std.proofs.Math.ListN.{drop_of_length-le}
 use Rattle.journal_lines.specs.declared.line.Journal.{Journal}
 use Rattle.journal_lines.specs.declared.fault.JournalFault.{JournalFault}
 use Rattle.binding_rules.specs.declared.role.Role.TheVariants.{Primary, Secondary}
-use Rattle.claims.specs.declared.certificate.Certificate.{Certificate}
-use Rattle.claims.specs.declared.fault.CertificateFault.{CertificateFault}
+use Rattle.causal_order.specs.declared.certificate.Certificate.{Certificate}
+use Rattle.causal_order.specs.declared.fault.CertificateFault.{CertificateFault}
 use Rattle.causal_order.specs.Journals.{journals_of}
 use Rattle.attribution.specs.declared.verdict.Verdict.{Verdict as VerdictValue}
 use Rattle.pair_ruling.specs.declared.ruling.Ruling.{Ruling}
@@ -19,17 +19,17 @@ use Rattle.attribution.specs.FirstRefusal.{IsVerdict}
 use Rattle.pair_ruling.specs.Ruling.{ruling_line}
 use Rattle.pair_ruling.specs.Ruled.{IsRuledOut, IsFit}
 use Rattle.parallel_check.specs.Verdicts.{AreVerdicts as AllJudged}
-use Rattle.desk_intake.specs.Input.{text_length}
-use Rattle.desk_intake.specs.Intake.{IsWholeText, TextGoesOn}
+use Rattle.attribution_desk.specs.Input.{text_length}
+use Rattle.attribution_desk.specs.Intake.{IsWholeText, TextGoesOn}
 use Rattle.attribution_desk.specs.Batch.{AreTexts, AreRuled}
 use Rattle.attribution_desk.specs.Claims.{AreGathered, AreRuledOn, woven}
 use Rattle.attribution_desk.specs.declared.certificates.Claim.{Claim}
 use Rattle.attribution_desk.specs.Claims.{texts_of}
-use Rattle.desk_intake.specs.Input.{begins_with_end, first_length}
+use Rattle.attribution_desk.specs.Input.{begins_with_end, first_length}
 use Rattle.text_fields.specs.Cuts.{split, joined}
 use Rattle.text_fields.proofs.CutLaws.{joined-split}
 use Rattle.std.proofs.lemmas.List.{map-append}
-use Rattle.desk_intake.proofs.EndLines.{all_of}
+use Rattle.attribution_desk.proofs.EndLines.{all_of}
 
 -- ---- the length of the first text
 

@@ -7,8 +7,8 @@ use Rattle.binding_rules.specs.declared.role.Role.TheVariants.{Primary, Secondar
 use Rattle.journal_lines.specs.declared.line.Journal.{Journal as Lines}
 use Rattle.journal_lines.specs.declared.fault.JournalFault.{JournalFault}
 use Rattle.journal_text.specs.Faults.{journal_of_side}
-use Rattle.claims.specs.declared.certificate.Certificate.{Certificate as Claim}
-use Rattle.claims.specs.declared.fault.CertificateFault.{CertificateFault}
+use Rattle.causal_order.specs.declared.certificate.Certificate.{Certificate as Claim}
+use Rattle.causal_order.specs.declared.fault.CertificateFault.{CertificateFault}
 use Rattle.certificate.specs.Faults.{certificate_of}
 use Rattle.attribution.specs.declared.verdict.Verdict.{Verdict as VerdictValue}
 use Rattle.attribution.specs.declared.verdict.Verdict.TheVariants.{Accepted, Journal, Certificate, Rule, Unsent}
@@ -22,12 +22,12 @@ use Rattle.certificate.specs.Laws.{CertificatesAreSpelled}
 use Rattle.pair_ruling.specs.declared.ruling.Ruling.{Ruling}
 use Rattle.pair_ruling.specs.declared.ruling.Ruling.TheVariants.{Verdict, Clocks, Pair, Skew}
 use Rattle.pair_ruling.specs.Ruling.{verdict_status, status_of}
-use Rattle.desk_intake.specs.declared.error.DeskError.{DeskError}
+use Rattle.attribution_desk.specs.declared.error.DeskError.{DeskError}
 use Rattle.attribution_desk.specs.declared.outcome.Outcome.{Outcome}
 use Rattle.attribution_desk.specs.Rulings.{IsRulingOfParsed}
 use Rattle.attribution_desk.specs.declared.answer.Answer.{Answer}
 use Rattle.attribution_desk.specs.Answer.{IsAnswerOf, IsDeskAnswer}
-use Rattle.desk_intake.specs.Input.{first_text, text_behind}
+use Rattle.attribution_desk.specs.Input.{first_text, text_behind}
 use Rattle.attribution_desk.specs.Batch.{AreRuled, status_of_all, IsBatch}
 use Rattle.attribution_desk.specs.Running.{IsWritten}
 use Rattle.attribution_desk.specs.Headline.{IsTrueOfTexts, AreTrueInEveryRun}

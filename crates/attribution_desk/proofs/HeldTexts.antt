@@ -2,7 +2,7 @@
 use Rattle.std.specs.Prelude.{◌≡◌, ℕ, List, [], ◌++◌}
 use Rattle.std.proofs.Common.{◌∙◌, ap}
 use Rattle.text_fields.specs.Cuts.{with_stops}
-use Rattle.claims.specs.declared.certificate.Certificate.{Certificate}
+use Rattle.causal_order.specs.declared.certificate.Certificate.{Certificate}
 use Rattle.certificate.specs.Spelling.{certificate_text}
 use Rattle.attribution_desk.specs.Who.{held_lines}
 

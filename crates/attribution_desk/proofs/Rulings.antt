@@ -2,7 +2,7 @@
 use Rattle.std.specs.Prelude.{ℕ}
 use Rattle.std.proofs.Common.{inl}
 use Rattle.journal_lines.specs.declared.line.Journal.{Journal}
-use Rattle.claims.specs.declared.certificate.Certificate.{Certificate}
+use Rattle.causal_order.specs.declared.certificate.Certificate.{Certificate}
 use Rattle.pair_ruling.specs.declared.ruling.Ruling.{Ruling}
 use Rattle.pair_ruling.specs.Ruled.{IsRuledOut}
 use Rattle.attribution_desk.specs.Rulings.{IsRulingOfJournals}

@@ -5,7 +5,7 @@ use Rattle.journal_lines.specs.declared.line.Journal.{Journal}
 use Rattle.journal_lines.specs.declared.fault.JournalFault.{JournalFault}
 use Rattle.journal_text.specs.Faults.{journal_of_side}
 use Rattle.certificate.specs.Faults.{certificate_of}
-use Rattle.desk_intake.specs.Input.{first_text, text_behind}
+use Rattle.attribution_desk.specs.Input.{first_text, text_behind}
 use Rattle.pair_ruling.specs.declared.ruling.Ruling.{Ruling}
 use Rattle.pair_ruling.specs.Ruling.{ruling_line, status_of}
 use Rattle.attribution_desk.specs.Rulings.{IsRulingOfParsed}

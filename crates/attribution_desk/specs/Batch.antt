@@ -8,7 +8,7 @@ use Rattle.certificate.specs.Faults.{certificate_of}
 use Rattle.pair_ruling.specs.declared.ruling.Ruling.{Ruling}
 use Rattle.pair_ruling.specs.Ruling.{ruling_line, status_of}
 use Rattle.attribution_desk.specs.Rulings.{IsRulingOfParsed}
-use Rattle.desk_intake.specs.Input.{first_text, text_behind}
+use Rattle.attribution_desk.specs.Input.{first_text, text_behind}
 
 -- The texts of certificates, one after another: each up to and with its first line that begins with `end`. A rest
 -- without such a line is the last, and an empty rest is none.

@@ -1,8 +1,8 @@
 -- For bodies only: certificates' texts on their way to rulings.
 use Rattle.std.specs.Prelude.{◌≡◌, ⊤, ℕ, List, [], ◌∷◌, All, map, Option, Some, None, Result, Ok, Err}
 use Rattle.journal_lines.specs.declared.line.Journal.{Journal}
-use Rattle.claims.specs.declared.certificate.Certificate.{Certificate}
-use Rattle.claims.specs.declared.fault.CertificateFault.{CertificateFault}
+use Rattle.causal_order.specs.declared.certificate.Certificate.{Certificate}
+use Rattle.causal_order.specs.declared.fault.CertificateFault.{CertificateFault}
 use Rattle.certificate.specs.declared.error.CertificateError.{CertificateError}
 use Rattle.certificate.specs.declared.error.CertificateError.TheVariants.{Fault, Memory}
 use Rattle.certificate.specs.Faults.{certificate_of}

@@ -9,7 +9,7 @@ use Rattle.attribution.specs.declared.verdict.Verdict.{Verdict}
 use Rattle.attribution.specs.declared.verdict.Verdict.TheVariants.{Journal as JournalVerdict}
 use Rattle.auditor.specs.Pair.{IsPairRefused, IsPairLegal}
 use Rattle.pair_ruling.specs.Clocked.{IsLeastText}
-use Rattle.desk_intake.specs.Input.{first_text, text_behind}
+use Rattle.attribution_desk.specs.Input.{first_text, text_behind}
 use Rattle.attribution_desk.specs.Timeline.{IsRefusal}
 
 -- what refuses the two journals, or else the least skew with which they could have been written

@@ -3,7 +3,7 @@ use Rattle.std.specs.Prelude.{⊤, ℕ, List, All}
 use Rattle.auditor.specs.Texts.{TextsAreTrueInEveryRun}
 use Rattle.desk_words.specs.declared.command.Command.{Command}
 use Rattle.desk_words.specs.declared.command.Command.TheVariants.{Audit, Batch, Timeline, Clocks, Find, Who}
-use Rattle.desk_intake.specs.Input.{first_text, text_behind}
+use Rattle.attribution_desk.specs.Input.{first_text, text_behind}
 use Rattle.attribution_desk.specs.Batch.{AreTexts}
 
 -- the certificate is true in every run of the pair that leaves the two journals in front of it

@@ -1,9 +1,9 @@
 -- What a ruling says of the world.
 use Rattle.std.specs.Prelude.{◌≡◌, ℕ}
 use Rattle.journal_lines.specs.declared.line.Journal.{Journal as Lines}
-use Rattle.volume_heads.specs.NextHead.{AreLegal}
+use Rattle.book_rules.specs.NextHead.{AreLegal}
 use Rattle.causal_order.specs.Journals.{Journals, journals_of}
-use Rattle.claims.specs.declared.certificate.Certificate.{Certificate as Claim}
+use Rattle.causal_order.specs.declared.certificate.Certificate.{Certificate as Claim}
 use Rattle.attribution.specs.Snapshot.{snapshots, IsTrueInRunsThatBeginSo}
 use Rattle.attribution.specs.declared.verdict.Verdict.TheVariants.{Accepted}
 use Rattle.pair_ruling.specs.declared.ruling.Ruling.TheVariants.{Verdict}

@@ -1,3 +1,5 @@
+pub mod Input
+pub mod Intake
 pub mod Rulings
 pub mod Answer
 pub mod Case

@@ -5,8 +5,8 @@ use Rattle.binding_rules.specs.declared.role.Role.TheVariants.{Primary, Secondar
 use Rattle.journal_lines.specs.declared.line.Journal.{Journal as Lines}
 use Rattle.journal_lines.specs.declared.fault.JournalFault.{JournalFault}
 use Rattle.causal_order.specs.Journals.{Journals, journals_of}
-use Rattle.claims.specs.declared.certificate.Certificate.{Certificate as Claim}
-use Rattle.claims.specs.declared.fault.CertificateFault.{CertificateFault}
+use Rattle.causal_order.specs.declared.certificate.Certificate.{Certificate as Claim}
+use Rattle.causal_order.specs.declared.fault.CertificateFault.{CertificateFault}
 use Rattle.attribution.specs.declared.verdict.Verdict.TheVariants.{Journal, Certificate}
 use Rattle.attribution.specs.FirstRefusal.{IsVerdict}
 use Rattle.pair_ruling.specs.declared.ruling.Ruling.{Ruling}

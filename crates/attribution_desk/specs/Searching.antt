@@ -13,7 +13,7 @@ use Rattle.pair_ruling.specs.Ties.{AreTied, IsDoubted}
 use Rattle.desk_words.specs.declared.settings.Settings.TheVariants.{MustAgree, MayDiffer}
 use Rattle.attribution_desk.specs.declared.searching.Search.{Search}
 use Rattle.attribution_desk.specs.declared.searching.Search.TheVariants.{Find, Who}
-use Rattle.desk_intake.specs.Input.{first_text, text_behind}
+use Rattle.attribution_desk.specs.Input.{first_text, text_behind}
 use Rattle.attribution_desk.specs.Find.{IsRulingText, IsFinding}
 use Rattle.attribution_desk.specs.Who.{IsHolding}
 use Rattle.attribution_desk.specs.Warnings.{WarnsOf}

@@ -6,7 +6,7 @@ use Rattle.journal_lines.specs.declared.line.Journal.{Journal}
 use Rattle.journal_lines.specs.declared.fault.JournalFault.{JournalFault}
 use Rattle.journal_text.specs.Spelling.{entry_text}
 use Rattle.journal_text.specs.Faults.{journal_of_side}
-use Rattle.claims.specs.declared.reference.Ref.{Ref}
+use Rattle.causal_order.specs.declared.reference.Ref.{Ref}
 use Rattle.causal_order.specs.Journals.{Journals, journals_of, line_of}
 use Rattle.journal_merge.specs.declared.merged.Merged.{Merged}
 use Rattle.journal_merge.specs.declared.merged.MergeError.{MergeError}
@@ -16,7 +16,7 @@ use Rattle.journal_merge.specs.Answer.{IsMergeAnswer as IsMerge}
 use Rattle.attribution.specs.declared.verdict.Verdict.{Verdict}
 use Rattle.attribution.specs.declared.verdict.Verdict.TheVariants.{Journal as JournalVerdict, Unsent, Differs, Circular}
 use Rattle.attribution.specs.VerdictText.{place_text, verdict_line}
-use Rattle.desk_intake.specs.Input.{first_text, text_behind}
+use Rattle.attribution_desk.specs.Input.{first_text, text_behind}
 
 -- a line as its journal has it, its number replaced by its reference
 abbrev pub entry_line : Ref → Option Line → List ℕ

@@ -9,7 +9,7 @@ use Rattle.desk_words.specs.declared.command.Command.{Command}
 use Rattle.desk_words.specs.declared.command.Command.TheVariants.{Audit, Batch, Timeline, Clocks, Find, Who}
 use Rattle.attribution_desk.specs.declared.searching.Search.{Search}
 use Rattle.attribution_desk.specs.declared.searching.Search.TheVariants.{Find as FindEvidence, Who as FindHolder}
-use Rattle.desk_intake.specs.Input.{first_text, text_behind}
+use Rattle.attribution_desk.specs.Input.{first_text, text_behind}
 
 -- of what two texts are as journals; none where one is no journal
 abbrev pub IsWarningOf : Result Journal JournalFault → Result Journal JournalFault → (skew transit : ℕ)

@@ -3,7 +3,7 @@ use Rattle.std.specs.Prelude.{◌≡◌, ◌⊎◌, ℕ, List, [], ◌∷◌, �
 use Rattle.text_fields.specs.Cuts.{with_stops}
 use Rattle.time_text.specs.Time.{IsTimeText}
 use Rattle.causal_order.specs.Journals.{Journals}
-use Rattle.claims.specs.declared.certificate.Certificate.{Certificate}
+use Rattle.causal_order.specs.declared.certificate.Certificate.{Certificate}
 use Rattle.certificate.specs.Spelling.{line_text, holder_words, interval_words, certificate_text}
 use Rattle.certificate.specs.Faults.{certificate_of}
 use Rattle.plain_search.specs.declared.query.HolderQuery.{HolderQuery}

@@ -4,8 +4,8 @@ ghost use Rattle.std.specs.Prelude.{◌≡◌, IfOk, IfErr};
 ghost use Rattle.pair_ruling.specs.Ruling.{ruling_line as line_of, status_of};
 ghost use Rattle.attribution_desk.specs.Timeline.{IsRefusal};
 
+use crate::error::DeskError;
 use attribution::{Verdict, verdict_line};
-use desk_intake::DeskError;
 use pair_ruling::{Ruling, ruling_line, status_of};
 use std::alloc::Global;
 

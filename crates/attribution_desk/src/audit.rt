@@ -10,11 +10,14 @@ ghost use Rattle.attribution_desk.specs.Headline.{IsTrueOfTexts};
 ghost use Rattle.attribution_desk.specs.Warnings.{IsJudgingWarning};
 
 use crate::answer::Answer;
+use crate::error::DeskError;
+use crate::intake::{Intake, ReadInput};
 use crate::judging::ruling_on_parsed;
 use crate::outcome::{Outcome, warnings_on};
+use crate::taking::{Taking, halvings_for, take_all};
+use crate::watched::Watched;
 use auditor::accepted_texts_are_true;
 use certificate::certificates_are_spelled;
-use desk_intake::{DeskError, Intake, ReadInput, Taking, Watched, halvings_for, take_all};
 use lead_time::{Skew, Transit};
 use std::alloc::Global;
 use std::io::{Read, Write};

@@ -4,13 +4,12 @@ ghost use Rattle.std.specs.Prelude.{IfOk, IfErr, ◌≡◌};
 ghost use Rattle.journal_text.specs.Closed.{IsClosed};
 ghost use Rattle.attribution_desk.specs.Case.{IsCaseOf};
 
-use desk_intake::DeskError;
+use crate::error::DeskError;
 use journal_lines::Journal;
 use journal_merge::placing_holds;
 use lead_time::Skew;
 use line_index::LineIndex;
-use pair_ruling::{Ruled, Ruling};
-use pair_threads::rule_pair_by;
+use pair_ruling::{Ruled, Ruling, rule_pair_by};
 use std::alloc::Global;
 use std::thread::Threads;
 

@@ -3,11 +3,11 @@
 ghost use Rattle.std.specs.Prelude.{◌≡◌, ◌<◌, [], IfOk};
 ghost use Rattle.attribution_desk.specs.Batch.{AreTexts};
 ghost use Rattle.attribution_desk.specs.Claims.{texts_of, IsReadTo, AreRead, AreGathered};
-ghost use Rattle.desk_intake.specs.Input.{text_length};
+ghost use Rattle.attribution_desk.specs.Input.{text_length};
 
+use crate::end_line::end_in;
+use causal_order::{Certificate, CertificateFault};
 use certificate::CertificateError;
-use claims::{Certificate, CertificateFault};
-use desk_intake::end_in;
 use std::alloc::{AllocError, Global};
 use std::thread;
 use std::thread::Threads;

@@ -6,9 +6,9 @@ ghost use Rattle.certificate.specs.Spelling.{line_text, holder_words, interval_w
 ghost use Rattle.time_text.specs.Time.{IsTimeText};
 ghost use Rattle.attribution_desk.specs.Who.{times_words, held_lines, IsHeldText};
 
-use claims::Certificate;
+use crate::error::DeskError;
+use causal_order::Certificate;
 use client_id::Duid;
-use desk_intake::DeskError;
 use lead_time::Reading;
 use line_words::{add_duid, add_number, add_word};
 use std::alloc::{AllocError, Global};

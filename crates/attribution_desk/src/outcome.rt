@@ -3,7 +3,7 @@
 ghost use Rattle.std.specs.Prelude.{◌≡◌, [], IfOk, IfErr};
 ghost use Rattle.attribution_desk.specs.Warnings.{IsWarningOf};
 
-use desk_intake::DeskError;
+use crate::error::DeskError;
 use journal_lines::{Journal, JournalFault};
 use lead_time::{Skew, Transit};
 use pair_ruling::warnings;

@@ -5,10 +5,10 @@ ghost use Rattle.attribution.specs.FirstRefusal.{IsVerdict};
 ghost use Rattle.certificate.specs.Spelling.{certificate_text};
 ghost use Rattle.attribution_desk.specs.Find.{ClaimSame, IsReadAgain, IsOverLimits};
 
+use crate::error::DeskError;
 use attribution::Verdict;
 use auditor::{LineSource, audit};
 use certificate::{Certificate, CertificateError};
-use desk_intake::DeskError;
 use lead_time::{Skew, Transit};
 use std::alloc::Global;
 

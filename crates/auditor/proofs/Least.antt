@@ -5,7 +5,7 @@ use Rattle.std.proofs.Common.{zero, suc, arith, sym, ◌∙◌, ap, subst, refl,
 use Rattle.std.proofs.lemmas.Bool.{cases_lt}
 use Rattle.binding_rules.specs.declared.role.Role.{Role}
 use Rattle.binding_rules.specs.declared.role.Role.TheVariants.{Primary, Secondary}
-use Rattle.claims.specs.declared.reference.Ref.{Ref}
+use Rattle.causal_order.specs.declared.reference.Ref.{Ref}
 use Rattle.causal_order.specs.LineOrder.{ComesBefore, IsLeast}
 use Rattle.auditor.specs.Refusals.{ComesFirst}
 use Rattle.auditor.proofs.Given.{Contains-get, get-Contains}

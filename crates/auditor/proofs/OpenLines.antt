@@ -6,9 +6,9 @@ use Rattle.binding_rules.specs.declared.role.Role.{Role}
 use Rattle.binding_rules.specs.declared.role.Role.TheVariants.{Primary, Secondary}
 use Rattle.binding_rules.specs.Role.{partner_of}
 use Rattle.journal_lines.specs.declared.line.Line.{Line}
-use Rattle.claims.specs.declared.certificate.Certificate.{Certificate}
-use Rattle.claims.specs.declared.certificate.Piece.{Piece}
-use Rattle.claims.specs.declared.reference.Ref.{Ref}
+use Rattle.causal_order.specs.declared.certificate.Certificate.{Certificate}
+use Rattle.causal_order.specs.declared.certificate.Piece.{Piece}
+use Rattle.causal_order.specs.declared.reference.Ref.{Ref}
 use Rattle.causal_order.specs.Journals.{Journals, Names, open_of, line_of}
 use Rattle.causal_order.proofs.Deciding.{line_names, names_line}
 use Rattle.causal_order.proofs.Walking.{one_earliest}

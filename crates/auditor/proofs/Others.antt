@@ -6,10 +6,10 @@ use Rattle.std.proofs.lemmas.List.Elements.{Contains-get_or}
 use Rattle.std.proofs.lemmas.Bool.{cases_Bool}
 use Rattle.prefix_range.specs.Prefix.{Overlaps}
 use Rattle.attribution.specs.declared.delegation.Delegation.{Delegation}
-use Rattle.claims.specs.declared.reference.Ref.{Ref}
+use Rattle.causal_order.specs.declared.reference.Ref.{Ref}
 use Rattle.causal_order.specs.Journals.{Journals}
-use Rattle.claims.specs.declared.certificate.Certificate.{Certificate}
-use Rattle.claims.specs.Naming.{NamesAt}
+use Rattle.causal_order.specs.declared.certificate.Certificate.{Certificate}
+use Rattle.causal_order.specs.Naming.{NamesAt}
 use Rattle.attribution.specs.Acceptance.{IsNamed, IsCovered}
 use Rattle.causal_order.specs.LineOrder.{IsLeast}
 use Rattle.attribution.specs.FirstRefusal.{IsUncovered}

@@ -5,14 +5,14 @@ use Rattle.std.proofs.Common.{sym, ◌∙◌, ap, subst, inl, inr, refl}
 use Rattle.std.proofs.lemmas.Bool.{cases_Bool}
 use Rattle.std.proofs.lemmas.Option.{same_Some}
 use Rattle.journal_lines.specs.declared.event.Lease.{Lease}
-use Rattle.claims.specs.declared.reference.Ref.{Ref}
+use Rattle.causal_order.specs.declared.reference.Ref.{Ref}
 use Rattle.causal_order.specs.Journals.{Journals}
-use Rattle.claims.specs.declared.certificate.Certificate.{Certificate}
-use Rattle.claims.specs.declared.certificate.Piece.{Piece}
+use Rattle.causal_order.specs.declared.certificate.Certificate.{Certificate}
+use Rattle.causal_order.specs.declared.certificate.Piece.{Piece}
 use Rattle.attribution.specs.declared.delegation.Delegation.{Delegation}
 use Rattle.attribution.specs.Delegation.{of_lease}
-use Rattle.claims.specs.Naming.{NamesAt}
-use Rattle.claims.specs.declared.certificate.Clear.{Clear}
+use Rattle.causal_order.specs.Naming.{NamesAt}
+use Rattle.causal_order.specs.declared.certificate.Clear.{Clear}
 use Rattle.attribution.specs.Acceptance.{GivesBack, IsCleared, Discharges, IsDischarged}
 use Rattle.causal_order.specs.LineOrder.{IsLeast}
 use Rattle.attribution.specs.FirstRefusal.{CutsShort}

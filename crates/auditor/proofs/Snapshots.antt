@@ -2,8 +2,8 @@
 use Rattle.std.specs.Prelude.{◌≡◌, ℕ}
 use Rattle.std.proofs.Common.{subst}
 use Rattle.causal_order.specs.Journals.{Journals}
-use Rattle.claims.specs.declared.certificate.Certificate.{Certificate}
-use Rattle.volume_heads.specs.NextHead.{AreLegal}
+use Rattle.causal_order.specs.declared.certificate.Certificate.{Certificate}
+use Rattle.book_rules.specs.NextHead.{AreLegal}
 use Rattle.attribution.specs.declared.verdict.Verdict.TheVariants.{Accepted}
 use Rattle.attribution.specs.Acceptance.{IsAccepted}
 use Rattle.attribution.specs.FirstRefusal.{IsVerdict}

@@ -7,8 +7,8 @@ use Rattle.journal_lines.specs.declared.fault.JournalFault.{JournalFault}
 use Rattle.journal_text.specs.Faults.{journal_of_side}
 use Rattle.journal_text.specs.Laws.{SideGivesWhatItSpells}
 use Rattle.causal_order.specs.Journals.{journals_of}
-use Rattle.claims.specs.declared.certificate.Certificate.{Certificate as Claim}
-use Rattle.claims.specs.declared.fault.CertificateFault.{CertificateFault}
+use Rattle.causal_order.specs.declared.certificate.Certificate.{Certificate as Claim}
+use Rattle.causal_order.specs.declared.fault.CertificateFault.{CertificateFault}
 use Rattle.certificate.specs.Faults.{certificate_of}
 use Rattle.certificate.specs.Laws.{CertificatesAreSpelled}
 use Rattle.book_rules.specs.Laws.{LegalIsUnbroken, OneFirstBroken}

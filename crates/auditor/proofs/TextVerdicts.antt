@@ -7,14 +7,14 @@ use Rattle.journal_lines.specs.declared.fault.JournalFault.{JournalFault}
 use Rattle.journal_lines.specs.declared.line.Journal.{Journal as Lines}
 use Rattle.journal_text.specs.Faults.{journal_of_side}
 use Rattle.journal_text.specs.Laws.{SideGivesWhatItSpells}
-use Rattle.claims.specs.declared.certificate.Certificate.{Certificate as Claim}
+use Rattle.causal_order.specs.declared.certificate.Certificate.{Certificate as Claim}
 use Rattle.causal_order.specs.Journals.{Journals}
 use Rattle.certificate.specs.Faults.{certificate_of}
 use Rattle.certificate.specs.Laws.{CertificatesAreSpelled}
 use Rattle.attribution.specs.declared.verdict.Verdict.{Verdict}
 use Rattle.attribution.specs.declared.verdict.Verdict.TheVariants.{Accepted}
 use Rattle.attribution.specs.FirstRefusal.{IsVerdict}
-use Rattle.volume_heads.specs.NextHead.{AreLegal}
+use Rattle.book_rules.specs.NextHead.{AreLegal}
 use Rattle.attribution.proofs.Refusals.{accepted_from}
 use Rattle.attribution.proofs.Headline.{headline}
 use Rattle.attribution.proofs.Lawful.{lawful}

@@ -4,8 +4,8 @@ use Rattle.std.specs.Prelude.{All}
 use Rattle.std.proofs.Common.{zero, suc, arith, sym, ◌∙◌, ap, subst, refl, inl, inr, get_or}
 use Rattle.std.proofs.lemmas.Bool.{cases_lt}
 use Rattle.std.proofs.lemmas.Option.{slice_get_within, get_or_from_slice_get, slice_get-get_or}
-use Rattle.claims.specs.declared.certificate.Certificate.{Certificate}
-use Rattle.claims.specs.declared.certificate.Piece.{Piece}
+use Rattle.causal_order.specs.declared.certificate.Certificate.{Certificate}
+use Rattle.causal_order.specs.declared.certificate.Piece.{Piece}
 use Rattle.attribution.specs.FirstRefusal.{HoldsBefore, IsFirstNot, begin_at, IsInPlace, IsTiled, IsGap}
 
 -- ---- the first item of a list of which P does not hold

@@ -4,7 +4,7 @@ use Rattle.binding_rules.specs.declared.role.Role.{Role}
 use Rattle.binding_rules.specs.declared.role.Role.TheVariants.{Primary, Secondary}
 use Rattle.journal_lines.specs.declared.line.Journal.{Journal}
 use Rattle.journal_lines.specs.Head.{volume_number}
-use Rattle.claims.specs.declared.reference.Ref.{Ref}
+use Rattle.causal_order.specs.declared.reference.Ref.{Ref}
 use Rattle.causal_order.specs.Journals.{Journals, journals_of}
 use Rattle.causal_order.specs.LineOrder.{IsLeast}
 use Rattle.book_rules.specs.declared.rule.Rule.{Rule as RuleValue}

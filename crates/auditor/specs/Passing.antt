@@ -6,7 +6,7 @@ use Rattle.prefix_range.specs.Prefix.{Prefix}
 use Rattle.journal_lines.specs.declared.event.Event.{Event}
 use Rattle.journal_lines.specs.declared.event.Event.TheVariants.{Grant, Carry, Release}
 use Rattle.journal_lines.specs.declared.line.Line.{Line}
-use Rattle.claims.specs.declared.reference.Ref.{Ref}
+use Rattle.causal_order.specs.declared.reference.Ref.{Ref}
 use Rattle.causal_order.specs.Journals.{Journals}
 use Rattle.attribution.specs.Tests.{overlaps, is_release_of}
 use Rattle.attribution.specs.declared.delegation.Delegation.{Delegation}

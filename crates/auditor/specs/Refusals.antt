@@ -1,12 +1,12 @@
 -- What each condition of a certificate answers.
 use Rattle.std.specs.Prelude.{◌≡◌, ◌≢◌, ℕ, ◌+◌, ◌≤◌, List, Option, Some, None, All, slice_get, Contains as Has}
 use Rattle.prefix_range.specs.Prefix.{Overlaps}
-use Rattle.claims.specs.declared.reference.Ref.{Ref}
+use Rattle.causal_order.specs.declared.reference.Ref.{Ref}
 use Rattle.causal_order.specs.Journals.{Journals}
-use Rattle.claims.specs.declared.certificate.Certificate.{Certificate}
-use Rattle.claims.specs.declared.certificate.Piece.{Piece}
-use Rattle.claims.specs.declared.certificate.Clear.{Clear}
-use Rattle.claims.specs.declared.certificate.Foreign.{Foreign}
+use Rattle.causal_order.specs.declared.certificate.Certificate.{Certificate}
+use Rattle.causal_order.specs.declared.certificate.Piece.{Piece}
+use Rattle.causal_order.specs.declared.certificate.Clear.{Clear}
+use Rattle.causal_order.specs.declared.certificate.Foreign.{Foreign}
 use Rattle.attribution.specs.declared.delegation.Delegation.{Delegation}
 use Rattle.attribution.specs.Acceptance.{GivesBack, IsCleared, IsGranted, Discharges, IsDischarged, ReasonHolds}
 use Rattle.causal_order.specs.LineOrder.{ComesBefore, IsLeast}

@@ -7,13 +7,13 @@ use Rattle.journal_lines.specs.declared.fault.JournalFault.{JournalFault}
 use Rattle.journal_text.specs.Spelling.{journal_text, IsWritten as IsWrittenJournal}
 use Rattle.journal_text.specs.Faults.{journal_of_side}
 use Rattle.causal_order.specs.Journals.{journals_of}
-use Rattle.claims.specs.declared.certificate.Certificate.{Certificate as Claim}
-use Rattle.claims.specs.declared.fault.CertificateFault.{CertificateFault}
+use Rattle.causal_order.specs.declared.certificate.Certificate.{Certificate as Claim}
+use Rattle.causal_order.specs.declared.fault.CertificateFault.{CertificateFault}
 use Rattle.certificate.specs.Spelling.{certificate_text, IsWritten as IsWrittenCertificate}
 use Rattle.certificate.specs.Faults.{certificate_of}
 use Rattle.attribution.specs.declared.verdict.Verdict.{Verdict}
 use Rattle.attribution.specs.declared.verdict.Verdict.TheVariants.{Accepted, Journal, Certificate}
-use Rattle.volume_heads.specs.NextHead.{AreLegal}
+use Rattle.book_rules.specs.NextHead.{AreLegal}
 use Rattle.attribution.specs.Acceptance.{IsAccepted, IsTrueInEveryRun}
 use Rattle.attribution.specs.FirstRefusal.{IsVerdict}
 use Rattle.auditor.specs.Pair.{IsPairRefused, IsPairLegal}

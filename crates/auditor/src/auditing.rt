@@ -5,7 +5,7 @@ ghost use Rattle.attribution.specs.Acceptance.{IsTrueInEveryRun, Reaches};
 ghost use Rattle.attribution.specs.FirstRefusal.{IsMet, Refuses, IsVerdict};
 ghost use Rattle.attribution.specs.Snapshot.{snapshots, IsTrueInRunsThatBeginSo};
 ghost use Rattle.causal_order.specs.Journals.{Journals};
-ghost use Rattle.volume_heads.specs.NextHead.{AreLegal};
+ghost use Rattle.book_rules.specs.NextHead.{AreLegal};
 
 use crate::foreign::{first_unreasoned, least_uncovered};
 use crate::opened::is_past_open;
@@ -14,7 +14,7 @@ use crate::releases::first_cut_short;
 use crate::source::LineSource;
 use attribution::{CONDITIONS, Condition, Verdict};
 use binding_rules::Role;
-use claims::Certificate;
+use causal_order::Certificate;
 use lead_time::{Skew, Transit};
 
 /// Returns whether the side's journal was closed late enough to show all of the interval.

@@ -10,8 +10,7 @@ use crate::grants::{delegation_at, reason_holds};
 use crate::order::comes_first;
 use crate::source::LineSource;
 use attribution::Delegation;
-use causal_order::{Lines, Ref};
-use claims::Certificate;
+use causal_order::{Certificate, Lines, Ref};
 use lead_time::{Skew, Transit};
 
 /// Returns whether some foreign entry names the line.

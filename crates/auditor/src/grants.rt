@@ -11,9 +11,9 @@ ghost use Rattle.auditor.specs.Bounds.{IsWrittenFrom, IsOver, IsLasting, IsHolde
 use crate::source::LineSource;
 use attribution::{Delegation, Lasting};
 use causal_order::{
-    Chain, Lines, Ref, earliest_of, first_of_chain, last_of_chain, latest_of, precedes,
+    Certificate, Chain, Foreign, Lines, Piece, Reason, Ref, earliest_of, first_of_chain,
+    last_of_chain, latest_of, precedes,
 };
-use claims::{Certificate, Foreign, Piece, Reason};
 use client_id::{Duid, Iaid};
 use journal_lines::{Event, Lease};
 use lead_time::{Reading, Skew, Transit};

@@ -7,7 +7,7 @@ ghost use Rattle.std.specs.Prelude.{◌≡◌, IfOk, MatchOption, Option, option
 ghost use Rattle.attribution.specs.Acceptance.{IsCovered, IsTrueInEveryRun};
 ghost use Rattle.attribution.specs.FirstRefusal.{IsMet, IsUncovered, IsVerdict, Refuses};
 ghost use Rattle.causal_order.specs.LineOrder.{IsLeast};
-ghost use Rattle.volume_heads.specs.NextHead.{AreLegal};
+ghost use Rattle.book_rules.specs.NextHead.{AreLegal};
 ghost use Rattle.auditor.specs.Known.{is_others, tells_others, AreOthers, IsFewOthers};
 
 use crate::auditing::refusal_by;
@@ -16,8 +16,7 @@ use crate::grants::delegation_at;
 use crate::order::comes_first;
 use crate::source::LineSource;
 use attribution::{CONDITIONS, Condition, Delegation, Verdict};
-use causal_order::{Lines, Ref};
-use claims::Certificate;
+use causal_order::{Certificate, Lines, Ref};
 use client_id::Duid;
 use lead_time::{Skew, Transit};
 use prefix_range::Prefix;

@@ -8,8 +8,7 @@ ghost use Rattle.auditor.specs.Opened.{HasLineOf, IsClearOfOpen, IsPastOwn};
 use crate::grants::earliest_at;
 use crate::source::LineSource;
 use binding_rules::Role;
-use causal_order::{Chain, Lines, Ref};
-use claims::{Certificate, Piece};
+use causal_order::{Certificate, Chain, Lines, Piece, Ref};
 use lead_time::{Reading, Skew, Transit, latest};
 
 /// The side's open line.

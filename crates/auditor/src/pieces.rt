@@ -6,8 +6,7 @@ ghost use Rattle.attribution.specs.FirstRefusal.{IsTiled, IsGap};
 ghost use Rattle.auditor.specs.Refusals.{IsUngranted, AreGranted};
 
 use crate::grants::is_granted;
-use causal_order::Lines;
-use claims::Certificate;
+use causal_order::{Certificate, Lines};
 use lead_time::{Skew, Transit};
 
 /// The number, from 1, of the first piece that doesn't begin where it must or has no moment. Where the pieces end

@@ -1,7 +1,7 @@
 //! Whether a release cuts a piece short.
 
 ghost use Rattle.std.specs.Prelude.{◌↔◌, IsTrue, MatchOption};
-ghost use Rattle.claims.specs.declared.reference.Ref.{Ref as RefValue};
+ghost use Rattle.causal_order.specs.declared.reference.Ref.{Ref as RefValue};
 ghost use Rattle.attribution.specs.Acceptance.{IsCleared, Discharges, IsDischarged};
 ghost use Rattle.causal_order.specs.LineOrder.{IsLeast};
 ghost use Rattle.attribution.specs.FirstRefusal.{CutsShort};
@@ -11,8 +11,7 @@ use crate::grants::{is_written_from, lease_at};
 use crate::order::comes_first;
 use crate::source::LineSource;
 use attribution::Delegation;
-use causal_order::{Lines, Ref, precedes};
-use claims::{Certificate, Piece, Why};
+use causal_order::{Certificate, Lines, Piece, Ref, Why, precedes};
 use lead_time::Skew;
 
 /// Returns whether the release is shown to have come before the piece's grant, or not before its end.

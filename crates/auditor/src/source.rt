@@ -2,7 +2,7 @@
 
 ghost use Rattle.std.specs.Prelude.{◌≡◌, List};
 ghost use Rattle.prefix_range.specs.Prefix.{Prefix as PrefixValue};
-ghost use Rattle.claims.specs.declared.reference.Ref.{Ref as RefValue};
+ghost use Rattle.causal_order.specs.declared.reference.Ref.{Ref as RefValue};
 ghost use Rattle.causal_order.specs.Journals.{journal_of, volume_of};
 ghost use Rattle.attribution.specs.declared.delegation.Delegation.{Delegation as DelegationValue};
 ghost use Rattle.attribution.specs.Listing.{IsListing};

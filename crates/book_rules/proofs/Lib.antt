@@ -5,3 +5,8 @@ pub mod StepLaws
 pub mod Replays
 pub mod OneVerdict
 pub mod OwnReplies
+pub mod HeadSteps
+pub mod Settings
+pub mod NextHead
+pub mod Sorting
+pub mod OneNext

@@ -9,3 +9,5 @@ pub mod Laws
 pub mod Fits
 pub mod State
 pub mod Pending
+pub mod NextHead
+pub mod NextVolume

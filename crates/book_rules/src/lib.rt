@@ -8,16 +8,28 @@
 //! The definitions stand in specs/ and cite no code: the rules (`VolumeRules`, `UnitRules`, `MessageRules`, in their
 //! order in `Rules`) and which lists of lines are volumes (`Volumes`). `state` of specs/State is the book that a table
 //! is. What a book is and what each line makes of it stands in `book_state`, which lines the next volume begins with in
-//! `volume_heads`.
+//! `book_rules`.
 //!
 //! ```text
 //! let table = Table::replay(alloc, Role::Primary, Head::One, lines)?;
 //! let broken = table.check(&next); // Some(Rule::Sequence) behind a close line
 //! ```
+//!
+//! Which lines a server's next volume begins with, and what the volumes of a server are.
+//!
+//! A closed book names them: its settings and numbers, what it owes its clients, and the units that aren't as at an
+//! opening (`NextHead` of specs/). `AreLegal`, there too, is a server's volumes from the first on: each breaks no rule,
+//! and each next one begins with the lines that the one before names. The law: such lines break no rule themselves,
+//! lead to the closed book's table, and are one list (`NextVolume`). Who writes them is `server_book`.
+//!
+//! ```text
+//! next_volume_is_legal(); // what a closed book names is legal
+//! ```
 #![tactic(auto)]
 
 mod effects;
 mod error;
+mod head_laws;
 mod laws;
 mod rule;
 mod rules;
@@ -25,6 +37,7 @@ mod table;
 
 pub use book_state::{Place, Pool};
 pub use error::ReplayError;
+pub use head_laws::next_volume_is_legal;
 pub use laws::{first_broken_is_one, replies_are_own};
 pub use rule::Rule;
 pub use rules::message::{due_update, seized_update};

@@ -1,6 +1,6 @@
 -- For bodies only: a call as it is noted.
 use Rattle.std.specs.Prelude.{ℕ, zero, suc, List, slice_index}
-use Rattle.torn_disk.specs.Disk.{Call, opened, appended, cut, flushed, failed}
+use Rattle.disk_model.specs.Disk.{Call, opened, appended, cut, flushed, failed}
 
 -- by the number of its kind, a length, and octets
 abbrev pub call_of_kind : ℕ → ℕ → List ℕ → Call

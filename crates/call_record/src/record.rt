@@ -2,13 +2,13 @@
 
 ghost use Rattle.std.specs.Prelude.{◌≡◌, List, [], ◌∷◌, MatchResult};
 ghost use Rattle.std.specs.Borrow.{ftrue};
-ghost use Rattle.torn_disk.specs.Disk.{Call, opened, appended, cut, flushed, failed};
-ghost use Rattle.torn_disk.specs.Devices.{Notes, NotesSync};
+ghost use Rattle.disk_model.specs.Disk.{Call, opened, appended, cut, flushed, failed};
+ghost use Rattle.disk_model.specs.Devices.{Notes, NotesSync};
 ghost use Rattle.call_record.specs.Notes.{call_of};
 
 use crate::kind::Kind;
+use disk_model::DeviceError;
 use std::marker::{Model, PhantomData};
-use torn_disk::DeviceError;
 
 /// The calls that were noted, the last one first. It takes no memory.
 #[derive(Drop)]

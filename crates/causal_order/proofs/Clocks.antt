@@ -3,8 +3,8 @@ use Rattle.std.specs.Prelude.{◌≡◌, ℕ, ◌+◌, ◌<◌, ◌≤◌, Bool,
 use Rattle.std.specs.Prelude.{ℤ, pos, ◌+ℤ◌, ◌<ℤ◌}
 use Rattle.std.proofs.Common.{sym, ◌∙◌, subst, arith}
 use Rattle.std.proofs.lemmas.Int.{ints}
-use Rattle.claims.specs.declared.reference.Ref.{Ref}
-use Rattle.claims.specs.declared.order.Precedes.TheVariants.{Clock}
+use Rattle.causal_order.specs.declared.reference.Ref.{Ref}
+use Rattle.causal_order.specs.declared.order.Precedes.TheVariants.{Clock}
 use Rattle.causal_order.specs.Journals.{Journals}
 use Rattle.causal_order.specs.Order.{Leads, WrittenBy, WrittenFrom, IsSurelyBefore}
 use Rattle.causal_order.specs.Tests.{first_of_chain, last_of_chain, is_at, leads}

@@ -1,3 +1,4 @@
+pub mod Orders
 pub mod Sameness
 pub mod Deciding
 pub mod Walking

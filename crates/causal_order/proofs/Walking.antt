@@ -6,7 +6,7 @@ use Rattle.std.proofs.lemmas.List.{drop_all}
 use Rattle.std.proofs.Math.Seq.{drop-cons}
 use Rattle.std.proofs.lemmas.Bool.{and_left, and_right}
 use Rattle.journal_lines.specs.declared.line.Line.{Line}
-use Rattle.claims.specs.declared.reference.Ref.{Ref}
+use Rattle.causal_order.specs.declared.reference.Ref.{Ref}
 use Rattle.causal_order.specs.Journals.{Journals, Names, line_of}
 use Rattle.causal_order.specs.Order.{IsChain, WrittenBy, WrittenFrom}
 use Rattle.causal_order.specs.Tests.{is_line, follows, is_chain, first_of_chain, last_of_chain}

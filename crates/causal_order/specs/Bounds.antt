@@ -1,7 +1,7 @@
 -- The bounds that a chain gives to the moments of its lines, in milliseconds of true time: a clock shows a reading
 -- within the skew of the moment.
 use Rattle.std.specs.Prelude.{◌≡◌, ℕ, ◌+◌, List, Option, Some, None, option_map, ℤ, pos, ◌+ℤ◌, ◌<ℤ◌}
-use Rattle.claims.specs.declared.reference.Ref.{Ref}
+use Rattle.causal_order.specs.declared.reference.Ref.{Ref}
 use Rattle.causal_order.specs.Journals.{Journals, line_of}
 use Rattle.causal_order.specs.Order.{IsChain, WrittenBy, WrittenFrom}
 

@@ -1,3 +1,5 @@
+pub mod Naming
+pub mod WrittenOrder
 pub mod Journals
 pub mod Order
 pub mod LineOrder

@@ -6,9 +6,9 @@ use Rattle.binding_rules.specs.Role.{partner_of}
 use Rattle.journal_lines.specs.declared.event.Event.TheVariants.{Send, Take}
 use Rattle.binding_rules.specs.declared.message.PartnerMessage.{PartnerMessage}
 use Rattle.journal_lines.specs.declared.line.Line.{Line}
-use Rattle.claims.specs.declared.reference.Ref.{Ref}
-use Rattle.claims.specs.declared.order.Precedes.{Precedes}
-use Rattle.claims.specs.declared.order.Precedes.TheVariants.{Chain, Clock}
+use Rattle.causal_order.specs.declared.reference.Ref.{Ref}
+use Rattle.causal_order.specs.declared.order.Precedes.{Precedes}
+use Rattle.causal_order.specs.declared.order.Precedes.TheVariants.{Chain, Clock}
 use Rattle.causal_order.specs.Journals.{Journals, Names}
 
 -- the same journal, and later in it

@@ -7,7 +7,7 @@ ghost use Rattle.causal_order.specs.Bounds.{reading_of, IsLatest, IsEarliest};
 
 use crate::lines::Lines;
 use crate::messages::is_take_of;
-use claims::Ref;
+use crate::reference::Ref;
 use lead_time::{Reading, Skew, earliest, latest};
 
 /// Returns whether the reference names a line.

@@ -3,7 +3,7 @@
 ghost use Rattle.std.specs.Prelude.{◌≡◌};
 ghost use Rattle.causal_order.specs.Journals.{Journals, line_of};
 
-use claims::Ref;
+use crate::reference::Ref;
 use journal_lines::Line;
 
 /// Two journals whose lines can be asked for.

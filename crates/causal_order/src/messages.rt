@@ -6,8 +6,8 @@ ghost use Rattle.causal_order.specs.Order.{IsTakeOf};
 ghost use Rattle.causal_order.specs.Tests.{same_messages, sent_in, taken_in, is_take_of};
 
 use crate::lines::Lines;
+use crate::reference::Ref;
 use binding_rules::PartnerMessage;
-use claims::Ref;
 use journal_lines::Event;
 
 /// The message that a line sends.

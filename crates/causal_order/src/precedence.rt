@@ -1,14 +1,15 @@
 //! Lines that were surely written before others.
 
 ghost use Rattle.std.specs.Prelude.{◌≡◌, ◌↔◌, ◌≤◌, IsTrue, length};
-ghost use Rattle.claims.specs.declared.order.Precedes.TheVariants.{Clock};
+ghost use Rattle.causal_order.specs.declared.order.Precedes.TheVariants.{Clock};
 ghost use Rattle.causal_order.specs.Order.{Leads, IsSurelyBefore};
 ghost use Rattle.causal_order.specs.Tests.{is_at, leads};
 ghost use Rattle.causal_order.specs.Bounds.{IsEarlier};
 
 use crate::bounds::{earliest_of, first_of_chain, is_chain, last_of_chain, latest_of};
 use crate::lines::Lines;
-use claims::{Precedes, Ref};
+use crate::order::Precedes;
+use crate::reference::Ref;
 use lead_time::Skew;
 
 /// Returns whether a chain begins or ends with this reference.

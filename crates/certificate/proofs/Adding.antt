@@ -11,10 +11,10 @@ use Rattle.std.proofs.lemmas.Grind.{flat_map-append}
 use Rattle.std.proofs.lemmas.List.Concat.{flat_map-cons}
 use Rattle.text_fields.specs.Parsing.{◌>>=◌}
 use Rattle.text_fields.proofs.Steps.{bind_some, map_some, chosen}
-use Rattle.claims.specs.declared.certificate.Certificate.{Certificate}
-use Rattle.claims.specs.declared.certificate.Clear.{Clear}
-use Rattle.claims.specs.declared.certificate.Piece.{Piece}
-use Rattle.claims.specs.declared.certificate.Foreign.{Foreign}
+use Rattle.causal_order.specs.declared.certificate.Certificate.{Certificate}
+use Rattle.causal_order.specs.declared.certificate.Clear.{Clear}
+use Rattle.causal_order.specs.declared.certificate.Piece.{Piece}
+use Rattle.causal_order.specs.declared.certificate.Foreign.{Foreign}
 use Rattle.certificate.specs.Spelling.{clear_words, piece_words, foreign_words, line_text, opening_lines, piece_lines}
 use Rattle.certificate.specs.Spelling.{lines_of, IsClear, IsPiece, IsForeign, IsClaim}
 use Rattle.certificate.specs.Lines.{piece_in, clear_in, foreign_in, with_piece, with_cleared, with_clear, with_foreign}

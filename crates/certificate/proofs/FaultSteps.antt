@@ -1,6 +1,6 @@
 -- Steps that may meet a fault.
 use Rattle.std.proofs.Common.{◌≡◌, ℕ, Option, Some, None, Result, Ok, Err, refl}
-use Rattle.claims.specs.declared.fault.CertificateFault.{CertificateFault}
+use Rattle.causal_order.specs.declared.fault.CertificateFault.{CertificateFault}
 use Rattle.text_fields.specs.Parsing.{◌>>!◌}
 use Rattle.certificate.specs.Faults.{or_form}
 

@@ -3,9 +3,9 @@ use Rattle.std.proofs.Common.{◌≡◌, ◌≢◌, ℕ, suc, ◌<◌, true, fal
 use Rattle.std.proofs.Common.{Err, refl, ap, ◌∙◌, arith}
 use Rattle.std.specs.Str.{bytes_eq}
 use Rattle.text_fields.specs.Cuts.{split}
-use Rattle.claims.specs.declared.certificate.Certificate.{Certificate}
-use Rattle.claims.specs.declared.fault.CertificateFault.{CertificateFault}
-use Rattle.claims.specs.declared.fault.CertificateFault.TheVariants.{Form, End}
+use Rattle.causal_order.specs.declared.certificate.Certificate.{Certificate}
+use Rattle.causal_order.specs.declared.fault.CertificateFault.{CertificateFault}
+use Rattle.causal_order.specs.declared.fault.CertificateFault.TheVariants.{Form, End}
 use Rattle.certificate.specs.Spelling.{end_text}
 use Rattle.certificate.specs.Lines.{with_line}
 use Rattle.text_fields.specs.Parsing.{◌>>!◌}

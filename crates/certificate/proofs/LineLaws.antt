@@ -11,9 +11,9 @@ use Rattle.prefix_range.specs.Text.{prefix_text}
 use Rattle.line_words.specs.Words.{reading_at, duid_at, prefix_at}
 use Rattle.line_words.proofs.WordLaws.{number_at_takes, number_at_again, duid_at_takes, duid_at_again, prefix_at_takes}
 use Rattle.line_words.proofs.WordLaws.{prefix_at_again}
-use Rattle.claims.specs.declared.certificate.Clear.{Clear}
-use Rattle.claims.specs.declared.certificate.Piece.{Piece}
-use Rattle.claims.specs.declared.certificate.Foreign.{Foreign}
+use Rattle.causal_order.specs.declared.certificate.Clear.{Clear}
+use Rattle.causal_order.specs.declared.certificate.Piece.{Piece}
+use Rattle.causal_order.specs.declared.certificate.Foreign.{Foreign}
 use Rattle.certificate.specs.Spelling.{ref_text, chain_text, why_words, clear_words, reason_words, holder_words}
 use Rattle.certificate.specs.Spelling.{prefix_words, interval_words, piece_words, foreign_words, IsClear, IsPiece}
 use Rattle.certificate.specs.Spelling.{IsForeign}

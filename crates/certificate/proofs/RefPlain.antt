@@ -13,7 +13,7 @@ use Rattle.text_fields.proofs.CutLaws.{Lacks-joined}
 use Rattle.text_fields.proofs.Steps.{both}
 use Rattle.binding_rules.specs.declared.role.Role.{Role}
 use Rattle.binding_rules.specs.declared.role.Role.TheVariants.{Primary, Secondary}
-use Rattle.claims.specs.declared.reference.Ref.{Ref}
+use Rattle.causal_order.specs.declared.reference.Ref.{Ref}
 use Rattle.certificate.specs.Spelling.{letter_of, ref_text, chain_text, IsReference}
 
 -- no digit is a mark of a chain

@@ -11,11 +11,11 @@ use Rattle.std.proofs.lemmas.List.{length-append, length-map}
 use Rattle.std.proofs.lemmas.List.Concat.{flat_map-cons}
 use Rattle.text_fields.specs.Cuts.{joined, split, Lacks, AllLack}
 use Rattle.text_fields.proofs.CutLaws.{joined-split, joined-ended, split-ended}
-use Rattle.claims.specs.declared.certificate.Certificate.{Certificate}
-use Rattle.claims.specs.declared.certificate.Piece.{Piece}
-use Rattle.claims.specs.declared.certificate.Foreign.{Foreign}
-use Rattle.claims.specs.declared.fault.CertificateFault.{CertificateFault}
-use Rattle.claims.specs.declared.fault.CertificateFault.TheVariants.{Head, Form}
+use Rattle.causal_order.specs.declared.certificate.Certificate.{Certificate}
+use Rattle.causal_order.specs.declared.certificate.Piece.{Piece}
+use Rattle.causal_order.specs.declared.certificate.Foreign.{Foreign}
+use Rattle.causal_order.specs.declared.fault.CertificateFault.{CertificateFault}
+use Rattle.causal_order.specs.declared.fault.CertificateFault.TheVariants.{Head, Form}
 use Rattle.certificate.specs.declared.error.CertificateError.{CertificateError}
 use Rattle.certificate.specs.Spelling.{head_text, end_text, holder_words, prefix_words, interval_words, piece_words}
 use Rattle.certificate.specs.Spelling.{clear_words, foreign_words, line_text, opening_lines, piece_lines, lines_of}
@@ -33,7 +33,7 @@ use Rattle.certificate.proofs.Plain.{prefix_plain_line, interval_plain, piece_pl
 use Rattle.certificate.proofs.Adding.{clear_line, foreign_line, bare, adds_line, piece_added, clear_added}
 use Rattle.certificate.proofs.Adding.{foreign_added}
 use Rattle.certificate.proofs.Clearing.{clearing}
-use Rattle.claims.specs.declared.certificate.Clear.{Clear}
+use Rattle.causal_order.specs.declared.certificate.Clear.{Clear}
 
 -- ---- lines
 

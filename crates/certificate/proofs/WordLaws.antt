@@ -17,7 +17,7 @@ use Rattle.line_words.specs.Words.{number_within}
 use Rattle.line_words.proofs.WordLaws.{first_takes, within_takes, within_again}
 use Rattle.binding_rules.specs.declared.role.Role.{Role}
 use Rattle.binding_rules.specs.declared.role.Role.TheVariants.{Primary, Secondary}
-use Rattle.claims.specs.declared.reference.Ref.{Ref}
+use Rattle.causal_order.specs.declared.reference.Ref.{Ref}
 use Rattle.certificate.specs.Spelling.{letter_of, ref_text, chain_text, IsReference, IsChain}
 use Rattle.certificate.specs.Lines.{keyword, keyword_at, side_of, ref_of, refs_of, chain_in, chain_of, ref_at, chain_at}
 use Rattle.certificate.proofs.RefPlain.{links_lack}

@@ -5,9 +5,9 @@ use Rattle.std.specs.Str.{bytes_eq}
 use Rattle.text_fields.specs.Parsing.{◌>>!◌}
 use Rattle.text_fields.specs.Cuts.{split}
 use Rattle.prefix_range.specs.Prefix.{Prefix}
-use Rattle.claims.specs.declared.certificate.Certificate.{Certificate}
-use Rattle.claims.specs.declared.fault.CertificateFault.{CertificateFault}
-use Rattle.claims.specs.declared.fault.CertificateFault.TheVariants.{Head, Form, End}
+use Rattle.causal_order.specs.declared.certificate.Certificate.{Certificate}
+use Rattle.causal_order.specs.declared.fault.CertificateFault.{CertificateFault}
+use Rattle.causal_order.specs.declared.fault.CertificateFault.TheVariants.{Head, Form, End}
 use Rattle.certificate.specs.declared.error.CertificateError.{CertificateError}
 use Rattle.certificate.specs.declared.error.CertificateError.TheVariants.{Fault, Memory}
 use Rattle.certificate.specs.declared.text_lines.TheConstants.{MAX_LINES, MAX_LINE_LEN}

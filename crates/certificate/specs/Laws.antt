@@ -1,6 +1,6 @@
 -- What holds of all texts and certificates.
 use Rattle.std.specs.Prelude.{◌≡◌, ◌↔◌, ℕ, List, Ok}
-use Rattle.claims.specs.declared.certificate.Certificate.{Certificate}
+use Rattle.causal_order.specs.declared.certificate.Certificate.{Certificate}
 use Rattle.certificate.specs.Spelling.{certificate_text, IsWritten}
 use Rattle.certificate.specs.Faults.{certificate_of}
 

@@ -1,6 +1,6 @@
 -- For bodies only: what private functions find where a growth may be refused.
 use Rattle.std.specs.Prelude.{◌≡◌, ℕ, Option, Some, None, Result, Ok, Err}
-use Rattle.claims.specs.declared.fault.CertificateFault.TheVariants as faults
+use Rattle.causal_order.specs.declared.fault.CertificateFault.TheVariants as faults
 use Rattle.certificate.specs.declared.error.CertificateError.{CertificateError}
 use Rattle.certificate.specs.declared.error.CertificateError.TheVariants as errors
 use Rattle.certificate.specs.declared.fields.LineError.{LineError}

@@ -9,19 +9,19 @@ use Rattle.prefix_range.specs.Prefix.{Prefix, IsPrefix}
 use Rattle.prefix_range.specs.Text.{prefix_text}
 use Rattle.binding_rules.specs.declared.role.Role.{Role}
 use Rattle.binding_rules.specs.declared.role.Role.TheVariants.{Primary, Secondary}
-use Rattle.claims.specs.declared.reference.Ref.{Ref}
+use Rattle.causal_order.specs.declared.reference.Ref.{Ref}
 use Rattle.certificate.specs.declared.fields.TheConstants.{MAX_LINE_NUMBER, MAX_CHAIN_LEN}
 use Rattle.certificate.specs.declared.text_lines.TheConstants.{MAX_LINES}
-use Rattle.claims.specs.declared.order.Precedes.{Precedes}
-use Rattle.claims.specs.declared.order.Precedes.TheVariants.{Chain, Clock}
-use Rattle.claims.specs.declared.certificate.Certificate.{Certificate}
-use Rattle.claims.specs.declared.certificate.Piece.{Piece}
-use Rattle.claims.specs.declared.certificate.Clear.{Clear}
-use Rattle.claims.specs.declared.certificate.Why.{Why}
-use Rattle.claims.specs.declared.certificate.Why.TheVariants.{Before, After}
-use Rattle.claims.specs.declared.certificate.Foreign.{Foreign}
-use Rattle.claims.specs.declared.certificate.Reason.{Reason}
-use Rattle.claims.specs.declared.certificate.Reason.TheVariants.{Early, Late, Released}
+use Rattle.causal_order.specs.declared.order.Precedes.{Precedes}
+use Rattle.causal_order.specs.declared.order.Precedes.TheVariants.{Chain, Clock}
+use Rattle.causal_order.specs.declared.certificate.Certificate.{Certificate}
+use Rattle.causal_order.specs.declared.certificate.Piece.{Piece}
+use Rattle.causal_order.specs.declared.certificate.Clear.{Clear}
+use Rattle.causal_order.specs.declared.certificate.Why.{Why}
+use Rattle.causal_order.specs.declared.certificate.Why.TheVariants.{Before, After}
+use Rattle.causal_order.specs.declared.certificate.Foreign.{Foreign}
+use Rattle.causal_order.specs.declared.certificate.Reason.{Reason}
+use Rattle.causal_order.specs.declared.certificate.Reason.TheVariants.{Early, Late, Released}
 use Rattle.line_words.specs.declared.words.TheConstants.{SPACE}
 use Rattle.certificate.specs.declared.stops.TheConstants.{LINE_FEED, LINK}
 

@@ -6,7 +6,7 @@ ghost use Rattle.certificate.specs.Lines.{with_cleared};
 ghost use Rattle.certificate.specs.Parsing.{Fills};
 
 use crate::fields::LineError;
-use claims::{Certificate, Clear, Foreign, ForeignList, Piece, PieceList};
+use causal_order::{Certificate, Clear, Foreign, ForeignList, Piece, PieceList};
 use client_id::Duid;
 use lead_time::Reading;
 use prefix_range::Prefix;
@@ -26,7 +26,7 @@ pub struct Draft {
 }
 
 impl Model for Draft {
-    ghost use Rattle.claims.specs.declared.certificate.Certificate.{Certificate as CertificateValue};
+    ghost use Rattle.causal_order.specs.declared.certificate.Certificate.{Certificate as CertificateValue};
 
     ghost Value = { CertificateValue };
 

@@ -3,7 +3,7 @@
 ghost use Rattle.std.specs.Prelude.{◌≡◌};
 ghost use Rattle.certificate.specs.declared.error.CertificateError.TheVariants.{Fault, Memory};
 
-use claims::CertificateFault;
+use causal_order::CertificateFault;
 use std::alloc::{AllocError, AllocFailed};
 use thiserror::Error;
 

@@ -9,7 +9,7 @@ ghost use Rattle.certificate.specs.declared.fields.LineError.TheVariants.{Memory
 use crate::error::CertificateError;
 use crate::stops::LINK;
 use binding_rules::Role;
-use claims::{CertificateFault, Chain, Ref};
+use causal_order::{CertificateFault, Chain, Ref};
 use line_words::Words;
 use std::alloc::{AllocError, AllocFailed, Global};
 use text_fields::{Cuts, number_of};

@@ -25,7 +25,7 @@ mod stops;
 mod text_lines;
 mod writing;
 
-pub use claims::{
+pub use causal_order::{
     Certificate, CertificateFault, Clear, ClearList, Foreign, ForeignList, Piece, PieceList,
     Reason, Why,
 };

@@ -11,7 +11,7 @@ ghost use Rattle.line_words.specs.declared.words.TheConstants.{SPACE};
 use crate::draft::Draft;
 use crate::fields::{LineError, chain, keyword, reference};
 use crate::reasons::{reason, why};
-use claims::{Clear, ClearList, Foreign, Piece};
+use causal_order::{Clear, ClearList, Foreign, Piece};
 use client_id::Duid;
 use lead_time::Reading;
 use line_words::Words;

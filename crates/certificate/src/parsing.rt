@@ -5,14 +5,14 @@ ghost use Rattle.text_fields.specs.Parsing.{MovesOr, Gives};
 ghost use Rattle.text_fields.specs.Cuts.{split};
 ghost use Rattle.certificate.specs.Spelling.{IsWritten, certificate_text};
 ghost use Rattle.certificate.specs.Faults.{fault_of, opening_at, claim_on, certificate_of};
-ghost use Rattle.claims.specs.declared.certificate.Certificate.{Certificate as CertificateValue};
+ghost use Rattle.causal_order.specs.declared.certificate.Certificate.{Certificate as CertificateValue};
 ghost use Rattle.certificate.specs.declared.stops.TheConstants.{LINE_FEED};
 
 use crate::draft::Draft;
 use crate::error::CertificateError;
 use crate::line::{add_line, holder, interval, prefix};
 use crate::text_lines::TextLines;
-use claims::{Certificate, CertificateFault};
+use causal_order::{Certificate, CertificateFault};
 use std::alloc::Global;
 
 /// The last line.

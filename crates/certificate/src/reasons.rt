@@ -5,7 +5,7 @@ ghost use Rattle.certificate.specs.Lines.{clock_at, order_at, why_at, released_a
 ghost use Rattle.certificate.specs.Parsing.{Takes};
 
 use crate::fields::{LineError, chain, keyword, reference};
-use claims::{Precedes, Reason, Why};
+use causal_order::{Precedes, Reason, Why};
 use line_words::Words;
 use std::alloc::Global;
 

@@ -7,7 +7,7 @@ ghost use Rattle.certificate.specs.Faults.{line_at, head_at};
 ghost use Rattle.certificate.specs.declared.stops.TheConstants.{LINE_FEED};
 
 use crate::stops::LINE_FEED;
-use claims::CertificateFault;
+use causal_order::CertificateFault;
 use text_fields::Cuts;
 
 /// The most lines of a certificate, its head and its end line with them.

@@ -11,7 +11,7 @@ ghost use Rattle.certificate.specs.declared.stops.TheConstants.{LINE_FEED, LINK}
 use crate::error::CertificateError;
 use crate::stops::{LINE_FEED, LINK};
 use binding_rules::Role;
-use claims::{Certificate, Chain, Clear, Foreign, Piece, Precedes, Reason, Ref, Why};
+use causal_order::{Certificate, Chain, Clear, Foreign, Piece, Precedes, Reason, Ref, Why};
 use client_id::Duid;
 use lead_time::Reading;
 use line_words::{SPACE, add_duid, add_number, add_prefix, add_word};

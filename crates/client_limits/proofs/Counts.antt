@@ -7,8 +7,8 @@ use Rattle.std.specs.Ordering.{eq_by_cmp}
 use Rattle.std.specs.Str.{bytes_eq}
 use Rattle.std.specs.Map.{KeepsOthers}
 use Rattle.std.specs.BTreeMap.{BTreeMap, get_by, is_at}
-use Rattle.unit_holders.specs.Holders.{at_octets}
-use Rattle.unit_holders.proofs.Anew.{by_items, found_anew}
+use Rattle.client_limits.specs.Holders.{at_octets}
+use Rattle.client_limits.proofs.Anew.{by_items, found_anew}
 use Rattle.client_limits.specs.Rates.{or_zero, count_in}
 
 or_zero_if : (t : Bool) (w v : Option ℕ) → or_zero (if t then w else v) ≡ (if t then or_zero w else or_zero v)

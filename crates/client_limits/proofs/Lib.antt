@@ -1,2 +1,4 @@
+pub mod Anew
+pub mod Less
 pub mod Counts
 pub mod Permits

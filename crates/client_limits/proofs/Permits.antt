@@ -3,7 +3,7 @@ use Rattle.std.proofs.Common.{ℕ, List}
 use Rattle.std.specs.Prelude.{option_map}
 use Rattle.order_book.specs.Replayed.{state_of}
 use Rattle.dhcp6_pd.specs.declared.message.IaPd.{IaPd}
-use Rattle.admission.specs.declared.permit.Permit.{Permit}
+use Rattle.client_service.specs.declared.permit.Permit.{Permit}
 use Rattle.client_limits.specs.declared.quotas.Known.{Known}
 use Rattle.client_limits.specs.declared.quotas.Asking.{Asking}
 use Rattle.client_limits.specs.Quotas.{permits_from}

@@ -3,8 +3,8 @@ use Rattle.std.specs.Prelude.{◌≡◌, ℕ, List}
 use Rattle.journal_lines.specs.declared.line.Journal.{Journal}
 use Rattle.order_book.specs.Replayed.{state_of}
 use Rattle.dhcp6_pd.specs.declared.message.ClientMessage.{ClientMessage}
-use Rattle.admission.specs.declared.permit.Permit.{Permit}
-use Rattle.unit_holders.specs.declared.holders.Holders.{Holders}
+use Rattle.client_service.specs.declared.permit.Permit.{Permit}
+use Rattle.client_limits.specs.declared.holders.Holders.{Holders}
 use Rattle.client_limits.specs.declared.limiter.Limiter.{Limiter}
 use Rattle.client_limits.specs.Origins.{port_of, name_by}
 use Rattle.client_limits.specs.Quotas.{permits_of}

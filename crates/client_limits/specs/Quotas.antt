@@ -12,10 +12,10 @@ use Rattle.dhcp6_pd.specs.declared.message.ClientKind.{ClientKind}
 use Rattle.dhcp6_pd.specs.declared.message.ClientKind.TheVariants.{Solicit, Request}
 use Rattle.dhcp6_pd.specs.declared.message.ClientMessage.{ClientMessage}
 use Rattle.dhcp6_pd.specs.declared.message.IaPd.{IaPd}
-use Rattle.admission.specs.declared.permit.Permit.{Permit}
-use Rattle.admission.specs.declared.permit.Permit.TheVariants.{Ordered, Denied}
-use Rattle.unit_holders.specs.declared.holders.Holders.{Holders}
-use Rattle.unit_holders.specs.Holders.{holder_of, units_of}
+use Rattle.client_service.specs.declared.permit.Permit.{Permit}
+use Rattle.client_service.specs.declared.permit.Permit.TheVariants.{Ordered, Denied}
+use Rattle.client_limits.specs.declared.holders.Holders.{Holders}
+use Rattle.client_limits.specs.Holders.{holder_of, units_of}
 use Rattle.client_limits.specs.declared.limits.Limits.{Limits}
 use Rattle.client_limits.specs.declared.limits.PortRule.{PortRule}
 use Rattle.client_limits.specs.declared.limits.PortRule.TheVariants.{Free, Bound}

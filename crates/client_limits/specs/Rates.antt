@@ -5,7 +5,7 @@ use Rattle.std.specs.declared.alloc.Global.{Global}
 use Rattle.std.specs.declared.vec.Vec.{Vec}
 use Rattle.std.specs.Str.{bytes_eq}
 use Rattle.std.specs.BTreeMap.{BTreeMap, get_by}
-use Rattle.unit_holders.specs.Holders.{at_octets}
+use Rattle.client_limits.specs.Holders.{at_octets}
 use Rattle.client_limits.specs.declared.rates.Rates.{Rates}
 
 abbrev pub or_zero : Option ℕ → ℕ

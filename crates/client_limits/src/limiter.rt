@@ -4,14 +4,15 @@ ghost use Rattle.std.specs.Prelude.{◌≡◌, IfOk};
 ghost use Rattle.client_limits.specs.Origins.{port_of, name_by, named};
 ghost use Rattle.client_limits.specs.Limiting.{MayLet};
 
+use crate::holders::Holders;
 use crate::limits::Limits;
 use crate::origin::{name_by, port_named, port_of};
 use crate::quotas::{Known, permits_by, strays_in};
 use crate::rates::Rates;
 use access_records::{AccessRecord, Address, RelayPort};
-use admission::{Admission, Permit, Unheard};
 use binding_rules::{Body, Status, UnitStatus};
 use client_id::Duid;
+use client_service::{Admission, Permit, Unheard};
 use dhcp6_pd::ClientMessage;
 use journal_lines::{Event, Line};
 use lead_time::Reading;
@@ -19,7 +20,6 @@ use order_book::Book;
 use prefix_range::Prefix;
 use std::alloc::{AllocError, Global};
 use std::mem;
-use unit_holders::Holders;
 
 /// The relay port of the message that was asked about last, and the octets that name it.
 #[derive(Drop)]

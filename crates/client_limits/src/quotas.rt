@@ -2,20 +2,20 @@
 
 ghost use Rattle.std.specs.Prelude.{◌≡◌, ◌+◌, IfOk, length, option_map};
 ghost use Rattle.order_book.specs.Replayed.{state_of};
-ghost use Rattle.unit_holders.specs.Holders.{units_of, holder_of};
+ghost use Rattle.client_limits.specs.Holders.{units_of, holder_of};
 ghost use Rattle.client_limits.specs.Quotas.{has_unit, has_under, is_used, count_of, count_used, has_one, is_reached};
 ghost use Rattle.client_limits.specs.Quotas.{may_ask, is_other, is_elsewhere, asks_for_more, is_port_full, is_full};
 ghost use Rattle.client_limits.specs.Quotas.{is_denied, permit_by, may_take, permits_from, permits_of};
 
+use crate::holders::Holders;
 use crate::limits::{Limits, PortRule};
-use admission::Permit;
 use binding_rules::UnitStatus;
 use client_id::{Duid, Iaid};
+use client_service::Permit;
 use dhcp6_pd::{ClientKind, ClientMessage, IaPd};
 use order_book::Book;
 use prefix_range::Prefix;
 use std::alloc::{AllocError, Global};
-use unit_holders::Holders;
 
 /// Returns whether a client has a unit, under any identity association.
 fn has_unit(book: &Book, client: &Duid, unit: &Prefix) -> bool

@@ -1,3 +1,4 @@
+pub mod Within
 pub mod Orders
 pub mod Messages
 pub mod Books

@@ -2,7 +2,7 @@
 use Rattle.std.specs.Prelude.{◌≡◌, ℕ, zero, suc, ◌+◌, List, [], ◌∷◌, ◌++◌, length, take, drop, slice_get}
 use Rattle.std.specs.Prelude.{Option, Some, None, option_map, Ok}
 use Rattle.std.proofs.Common.{refl, ap, sym, subst, ◌∙◌, append_assoc, append-nil, add-one}
-use Rattle.admission.specs.declared.permit.Permit.{Permit}
+use Rattle.client_service.specs.declared.permit.Permit.{Permit}
 use Rattle.dhcp6_pd.specs.declared.message.ClientMessage.{ClientMessage}
 use Rattle.dhcp6_pd.specs.declared.message.IaPd.{IaPd}
 use Rattle.journal_lines.specs.declared.line.Journal.{Journal}

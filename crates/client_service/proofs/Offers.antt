@@ -2,8 +2,8 @@
 use Rattle.std.specs.Prelude.{◌≡◌, ℕ, List, [], ◌∷◌, ◌++◌, take, drop, Option, Some, None, Result, Ok, Err}
 use Rattle.std.specs.Prelude.{if◌then◌else◌}
 use Rattle.std.proofs.Common.{ap, subst, ◌∙◌, append-nil, inl, inr}
-use Rattle.admission.specs.declared.permit.Permit.{Permit}
-use Rattle.admission.specs.declared.permit.Permit.TheVariants.{Ordered, Denied}
+use Rattle.client_service.specs.declared.permit.Permit.{Permit}
+use Rattle.client_service.specs.declared.permit.Permit.TheVariants.{Ordered, Denied}
 use Rattle.dhcp6_pd.specs.declared.message.ClientKind.TheVariants.{Solicit}
 use Rattle.dhcp6_pd.specs.declared.message.ClientMessage.{ClientMessage}
 use Rattle.dhcp6_pd.specs.declared.message.IaPd.{IaPd}

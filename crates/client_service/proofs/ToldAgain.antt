@@ -2,7 +2,7 @@
 use Rattle.std.specs.Prelude.{◌≡◌, ℕ, ◌+◌, List, [], ◌∷◌, ◌++◌, length, take, drop, slice_get, Option, Some, None}
 use Rattle.std.specs.Prelude.{IfSome, Ok, Err}
 use Rattle.std.proofs.Common.{refl, ap, sym, subst, ◌∙◌, add-one}
-use Rattle.admission.specs.declared.permit.Permit.{Permit}
+use Rattle.client_service.specs.declared.permit.Permit.{Permit}
 use Rattle.dhcp6_pd.specs.declared.message.ClientMessage.{ClientMessage}
 use Rattle.dhcp6_pd.specs.declared.message.IaPd.{IaPd}
 use Rattle.journal_lines.specs.declared.line.Journal.{Journal}
@@ -17,9 +17,9 @@ use Rattle.locked_book.specs.declared.receipt.Receipt.{Receipt}
 use Rattle.locked_book.specs.declared.error.ServeError.{ServeError}
 use Rattle.locked_book.specs.declared.error.ServeError.TheVariants.{Book, Stranger, Memory}
 use Rattle.locked_book.specs.Serving.{last_receipt, ReceiptStands}
-use Rattle.standing_lease.specs.declared.standing.Standing.{Standing}
-use Rattle.standing_lease.specs.declared.terms.RenewTerms.{RenewTerms}
-use Rattle.standing_lease.specs.Standing.{IsStanding}
+use Rattle.client_service.specs.declared.standing.Standing.{Standing}
+use Rattle.client_service.specs.declared.terms.RenewTerms.{RenewTerms}
+use Rattle.client_service.specs.Standing.{IsStanding}
 use Rattle.client_service.specs.declared.told.Told.{Told}
 use Rattle.client_service.specs.Serving.{IsRecalled}
 use Rattle.client_service.specs.Answering.{order_for, permit_at}

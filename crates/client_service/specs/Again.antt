@@ -1,7 +1,7 @@
 -- What a client is told of its whole message without a line: what it has already, for the seconds that remain of it.
 use Rattle.std.specs.Prelude.{◌≡◌, ◌≢◌, false, ℕ, ⊤, max, List, [], ◌∷◌, drop, Option, Some, None}
-use Rattle.admission.specs.declared.permit.Permit.{Permit}
-use Rattle.admission.specs.declared.permit.Permit.TheVariants.{Ordered, Denied}
+use Rattle.client_service.specs.declared.permit.Permit.{Permit}
+use Rattle.client_service.specs.declared.permit.Permit.TheVariants.{Ordered, Denied}
 use Rattle.dhcp6_pd.specs.declared.message.ClientKind.TheVariants.{Solicit}
 use Rattle.dhcp6_pd.specs.declared.message.ClientMessage.{ClientMessage}
 use Rattle.dhcp6_pd.specs.declared.message.IaPd.{IaPd}
@@ -14,8 +14,8 @@ use Rattle.server_book.specs.declared.messages.IaAnswer.TheVariants.{Given, NoPr
 use Rattle.server_book.specs.declared.manner.Manner.{Manner}
 use Rattle.server_book.specs.Messages.{answer_of, is_elsewhere}
 use Rattle.locked_book.specs.declared.receipt.Receipt.{Receipt}
-use Rattle.standing_lease.specs.declared.terms.RenewTerms.{RenewTerms}
-use Rattle.standing_lease.specs.Standing.{IsStanding}
+use Rattle.client_service.specs.declared.terms.RenewTerms.{RenewTerms}
+use Rattle.client_service.specs.Standing.{IsStanding}
 use Rattle.client_service.specs.Serving.{AtBook}
 use Rattle.client_service.specs.Telling.{ByRefusal}
 use Rattle.client_service.specs.Answering.{order_for, permit_at}

@@ -2,8 +2,8 @@
 use Rattle.std.specs.Prelude.{◌≡◌, ⊤, true, false, ℕ, ◌<◌, List, [], ◌∷◌, ◌++◌, length, take, drop, slice_get, Option}
 use Rattle.std.specs.Prelude.{Some, None}
 use Rattle.std.specs.Prelude.{Ok, Err}
-use Rattle.admission.specs.declared.permit.Permit.{Permit}
-use Rattle.admission.specs.declared.permit.Permit.TheVariants.{Ordered}
+use Rattle.client_service.specs.declared.permit.Permit.{Permit}
+use Rattle.client_service.specs.declared.permit.Permit.TheVariants.{Ordered}
 use Rattle.dhcp6_pd.specs.declared.message.ClientMessage.{ClientMessage}
 use Rattle.dhcp6_pd.specs.declared.message.IaPd.{IaPd}
 use Rattle.dhcp6_pd.specs.declared.numbers.TheConstants.{MAX_OCTETS}

@@ -1,7 +1,7 @@
 -- For bodies only: what functions answer of an IA_PD, with the number of the line that it is told by.
 use Rattle.std.specs.Prelude.{◌≡◌, ℕ, ⊤, Bool, true, false, List, [], ◌∷◌, ◌++◌, Option, Some, None, Result, Ok, Err}
 use Rattle.std.specs.Prelude.{◌<◌, length, take, slice_get}
-use Rattle.admission.specs.declared.permit.Permit.{Permit}
+use Rattle.client_service.specs.declared.permit.Permit.{Permit}
 use Rattle.dhcp6_pd.specs.declared.message.ClientKind.{ClientKind}
 use Rattle.dhcp6_pd.specs.declared.message.ClientKind.TheVariants.{Solicit, Request as RequestKind}
 use Rattle.journal_lines.specs.declared.line.Journal.{Journal}
@@ -26,7 +26,7 @@ use Rattle.server_book.specs.Messages.{answer_of, is_elsewhere}
 use Rattle.client_service.specs.declared.silence.Silence.{Silence}
 use Rattle.client_service.specs.declared.silence.Silence.TheVariants.{Refused, Elsewhere, TooLong, Memory}
 use Rattle.client_service.specs.Answering.{order_for, permit_at, AreTold, IsSilent}
-use Rattle.standing_lease.specs.declared.terms.RenewTerms.{RenewTerms}
+use Rattle.client_service.specs.declared.terms.RenewTerms.{RenewTerms}
 use Rattle.client_service.specs.Again.{IsAgainBy, AreAgain, latest}
 use Rattle.client_service.specs.declared.partner.Partner.{Partner}
 use Rattle.client_service.specs.declared.told.Told.{Told}

@@ -1,3 +1,5 @@
+pub mod Standing
+pub mod LeaseLaws
 pub mod Lines
 pub mod Serving
 pub mod Telling

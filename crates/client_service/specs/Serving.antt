@@ -11,9 +11,9 @@ use Rattle.locked_book.specs.declared.receipt.Receipt.{Receipt}
 use Rattle.locked_book.specs.declared.error.ServeError.{ServeError}
 use Rattle.locked_book.specs.declared.error.ServeError.TheVariants.{Stranger, Book}
 use Rattle.locked_book.specs.Serving.{last_receipt, ReceiptStands, IsStrange, IsPassServed, IsPassOffered}
-use Rattle.standing_lease.specs.declared.standing.Standing.{Standing}
-use Rattle.standing_lease.specs.declared.terms.RenewTerms.{RenewTerms}
-use Rattle.standing_lease.specs.Standing.{IsStanding}
+use Rattle.client_service.specs.declared.standing.Standing.{Standing}
+use Rattle.client_service.specs.declared.terms.RenewTerms.{RenewTerms}
+use Rattle.client_service.specs.Standing.{IsStanding}
 
 -- at a legal journal that the book may have, of whom these receipts are known
 abbrev pub AtJournal : (List Receipt → Journal → Type 0) → List Receipt → (Journal → Type 0) → Type 0

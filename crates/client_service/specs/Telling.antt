@@ -2,8 +2,8 @@
 -- refusal, or of a SOLICIT by an offer; and which receipts were added (RFC 8415, sections 18.3.1 to 18.3.7).
 use Rattle.std.specs.Prelude.{◌≡◌, ◌≢◌, ◌⊎◌, ℕ, ⊤, List, [], ◌∷◌, ◌++◌, Some, None, Result, Ok, Err}
 use Rattle.prefix_range.specs.Prefix.{Prefix}
-use Rattle.admission.specs.declared.permit.Permit.{Permit}
-use Rattle.admission.specs.declared.permit.Permit.TheVariants.{Ordered, Denied}
+use Rattle.client_service.specs.declared.permit.Permit.{Permit}
+use Rattle.client_service.specs.declared.permit.Permit.TheVariants.{Ordered, Denied}
 use Rattle.dhcp6_pd.specs.declared.message.ClientKind.{ClientKind}
 use Rattle.dhcp6_pd.specs.declared.message.ClientKind.TheVariants.{Solicit}
 use Rattle.journal_lines.specs.declared.line.Journal.{Journal}

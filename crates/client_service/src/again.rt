@@ -6,16 +6,16 @@ ghost use Rattle.client_service.specs.Ending.{AreAllAgain, IsAgainAt, IsDenial};
 
 use crate::hearing::AllTold;
 use crate::partner::Partner;
+use crate::permit::Permit;
 use crate::permits::permit_at;
 use crate::service::Service;
+use crate::terms::RenewTerms;
 use crate::told::Told;
-use admission::Permit;
 use dhcp6_pd::ClientMessage;
 use lead_time::Reading;
 use locked_book::ServeError;
 use order_book::{BookError, Order};
 use server_book::{IaAnswer, order_of};
-use standing_lease::RenewTerms;
 use std::alloc::Global;
 
 /// Returns what a client is told of a refusal for which no unit of a partner's may be taken over.

@@ -13,14 +13,14 @@ ghost use Rattle.client_service.specs.Ending.{IsUnwritten, IsUnencoded};
 use crate::again::all_again;
 use crate::hearing::all_told;
 use crate::partner::Partner;
+use crate::permit::Permit;
 use crate::service::Service;
 use crate::silence::Silence;
-use admission::Permit;
+use crate::terms::RenewTerms;
 use client_id::Duid;
 use dhcp6_pd::{ClientKind, ClientMessage, InformationRequest, PdError, ServerMessage, encode};
 use lead_time::Reading;
 use server_book::{IaAnswer, Manner, answer_of, information_answer};
-use standing_lease::RenewTerms;
 use std::alloc::Global;
 use std::marker::Model;
 

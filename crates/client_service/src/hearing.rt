@@ -6,11 +6,11 @@ ghost use Rattle.client_service.specs.Lines.{or_earlier};
 
 use crate::ordering::at_last;
 use crate::partner::Partner;
+use crate::permit::Permit;
 use crate::permits::permit_at;
 use crate::service::Service;
 use crate::silence::Silence;
 use crate::told::Told;
-use admission::Permit;
 use dhcp6_pd::{ClientKind, ClientMessage};
 use lead_time::Reading;
 use locked_book::ServeError;

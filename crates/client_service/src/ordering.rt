@@ -2,7 +2,7 @@
 
 ghost use Rattle.std.specs.Prelude.{◌≡◌};
 ghost use Rattle.order_book.specs.Answer.{IsRequest};
-ghost use Rattle.admission.specs.declared.permit.Permit.TheVariants.{Ordered};
+ghost use Rattle.client_service.specs.declared.permit.Permit.TheVariants.{Ordered};
 ghost use Rattle.dhcp6_pd.specs.declared.message.ClientKind.TheVariants.{Solicit, Request};
 ghost use Rattle.client_service.specs.Telling.{IsClients};
 ghost use Rattle.client_service.specs.Ending.{told_of, told_by, IsOrderOf, EndsIn, EndsAs, Seizes};

@@ -3,7 +3,7 @@
 ghost use Rattle.std.specs.Prelude.{◌≡◌};
 ghost use Rattle.client_service.specs.Answering.{permit_at};
 
-use admission::Permit;
+use crate::permit::Permit;
 
 /// Whether the IA_PD at a place may be ordered, counted from 0: behind the end of the list all may.
 pub(crate) fn permit_at(permits: &[Permit], place: usize) -> Permit

@@ -6,11 +6,12 @@ ghost use Rattle.order_book.specs.Answer.{IsRequest};
 ghost use Rattle.locked_book.specs.declared.receipt.Receipt.{Receipt as ReceiptValue};
 ghost use Rattle.client_service.specs.Serving.{IsOrderServed, IsOfferMade, IsSeizableFound, IsRecalled};
 
+use crate::standing::Standing;
+use crate::terms::RenewTerms;
 use lead_time::Reading;
 use locked_book::{Receipt, ServeError};
 use order_book::Order;
 use prefix_range::Prefix;
-use standing_lease::{RenewTerms, Standing};
 
 /// A server's book, that takes orders by a pass: [`Alone`](crate::Alone) is a book that nobody else serves, and
 /// [`Shared`](crate::Shared) one behind a lock.

@@ -1,11 +1,12 @@
 //! A book behind a lock.
 
 use crate::service::Service;
+use crate::standing::Standing;
+use crate::terms::RenewTerms;
 use lead_time::Reading;
 use locked_book::{BookName, Pass, Receipt, ServeError, SharedBook};
 use order_book::Order;
 use prefix_range::Prefix;
-use standing_lease::{RenewTerms, Standing};
 use std::sync::Wait;
 
 /// Serves a book behind a lock, by passes to it. Between two orders others may add lines: what is known of the journal

@@ -3,9 +3,9 @@ use Rattle.std.specs.Prelude.{◌≡◌, ℕ, List, [], ◌++◌, Option, Some, 
 use Rattle.std.proofs.Common.{arith, refl, subst, ap, sym, ◌∙◌, append_assoc, append-nil}
 use Rattle.std.proofs.lemmas.List.{take-append-drop}
 use Rattle.std.specs.Io.KnownBytes.{Appends, Keeps}
-use Rattle.link_entry.specs.Passing.{Puts}
-use Rattle.link_entry.specs.declared.passage.Passage.{Passage}
-use Rattle.link_entry.specs.declared.passage.Passage.TheVariants.{Open, Records}
+use Rattle.link_auth.specs.Passing.{Puts}
+use Rattle.link_auth.specs.declared.passage.Passage.{Passage}
+use Rattle.link_auth.specs.declared.passage.Passage.TheVariants.{Open, Records}
 use Rattle.daemon_devices.specs.Giving.{given, IsPassedOn, Sent, Skips, Stays, Gives, IsGiven}
 use Rattle.daemon_devices.specs.declared.connection.Lost.{Lost}
 use Rattle.daemon_devices.specs.declared.connection.Lost.TheVariants.{Broken, Stuck, Spent, Memory}

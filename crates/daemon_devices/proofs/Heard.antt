@@ -2,14 +2,14 @@
 use Rattle.std.specs.Prelude.{◌≡◌, ℕ, List, Option, Ok}
 use Rattle.std.proofs.Common.{refl, subst, sym, ap, ◌∙◌}
 use Rattle.std.specs.Io.KnownBytes.{Keeps}
-use Rattle.link_entry.specs.Passing.{Takes}
-use Rattle.link_entry.specs.Entering.{Hears}
-use Rattle.link_entry.specs.declared.passage.Passage.{Passage}
-use Rattle.link_entry.specs.declared.passage.Passage.TheVariants.{Open, Records}
-use Rattle.link_entry.specs.declared.waiting.Entrant.{Entrant}
-use Rattle.link_entry.specs.declared.waiting.Waiting.{Waiting}
-use Rattle.link_entry.specs.declared.waiting.Waiting.TheVariants.{Proof, Greeting, Callee}
-use Rattle.link_entry.specs.declared.waiting.Verdict.TheVariants.{Enters}
+use Rattle.link_auth.specs.Passing.{Takes}
+use Rattle.link_auth.specs.Entering.{Hears}
+use Rattle.link_auth.specs.declared.passage.Passage.{Passage}
+use Rattle.link_auth.specs.declared.passage.Passage.TheVariants.{Open, Records}
+use Rattle.link_auth.specs.declared.waiting.Entrant.{Entrant}
+use Rattle.link_auth.specs.declared.waiting.Waiting.{Waiting}
+use Rattle.link_auth.specs.declared.waiting.Waiting.TheVariants.{Proof, Greeting, Callee}
+use Rattle.link_auth.specs.declared.waiting.Verdict.TheVariants.{Enters}
 use Rattle.daemon_devices.specs.Giving.{given, Sent, GoesOutAsBefore, OnlyHears, IsUnused}
 use Rattle.daemon_devices.proofs.Given.{stays}
 

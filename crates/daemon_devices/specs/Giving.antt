@@ -4,9 +4,9 @@ use Rattle.std.specs.Io.KnownBytes.{append_known, Appends, Keeps}
 use Rattle.std.specs.declared.time.Instant.{Instant}
 use Rattle.daemon_devices.specs.declared.connection.Lost.{Lost}
 use Rattle.daemon_devices.specs.declared.connection.Lost.TheVariants.{Memory, Spent}
-use Rattle.link_entry.specs.Passing.{Puts}
-use Rattle.link_entry.specs.declared.passage.Passage.{Passage}
-use Rattle.link_entry.specs.declared.passage.Passage.TheVariants.{Open, Records}
+use Rattle.link_auth.specs.Passing.{Puts}
+use Rattle.link_auth.specs.declared.passage.Passage.{Passage}
+use Rattle.link_auth.specs.declared.passage.Passage.TheVariants.{Open, Records}
 
 -- the octets that were given: those that the stream has, where they are known, and then those that wait for it
 abbrev pub given : Option (List ℕ) → List ℕ → Option (List ℕ)

@@ -8,8 +8,7 @@ ghost use Rattle.daemon_devices.specs.Silence.{seconds_from, IsGivenUp};
 
 use crate::duplex::Duplex;
 use crate::unsent::Unsent;
-use link_entry::{Entrant, Passage};
-use link_records::LinkFault;
+use link_auth::{Entrant, LinkFault, Passage};
 use std::alloc::Global;
 use std::io::ErrorKind;
 use std::marker::Model;

@@ -6,7 +6,7 @@
 //! ([`Rest`]) until a socket has something, or a time is up.
 //!
 //! Of the connections that come by the door nothing counts at first: they wait side by side ([`WaitingRoom`]) until one
-//! is let in (`link_entry`), and has 5 s for that.
+//! is let in (`link_auth`), and has 5 s for that.
 //!
 //! What is written to a stream that takes no more now waits in [`Unsent`], and goes out at a later turn.
 //!

@@ -7,7 +7,7 @@ ghost use Rattle.daemon_devices.specs.Silence.{seconds_from};
 use crate::connection::Connection;
 use crate::duplex::Duplex;
 use crate::unsent::Unsent;
-use link_entry::{EntryFault, Verdict, Waiting};
+use link_auth::{EntryFault, Verdict, Waiting};
 use std::alloc::Global;
 use std::io::ErrorKind;
 use std::time::Instant;

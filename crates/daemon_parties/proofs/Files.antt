@@ -1,7 +1,7 @@
 -- Files that stay as they are.
 use Rattle.std.specs.Prelude.{◌≡◌}
 use Rattle.std.proofs.Common.{refl, sym, ◌∙◌, subst}
-use Rattle.server_run.specs.Running.{RunState}
+use Rattle.server_core.specs.Running.{RunState}
 use Rattle.daemon_parties.specs.Hearing.{HasSameFiles}
 
 module _ {P : Type 0} where

@@ -2,7 +2,7 @@
 use Rattle.std.specs.Prelude.{◌≡◌, ℕ, List, [], ◌∷◌, ◌++◌, ◌<◌, length}
 use Rattle.std.proofs.Common.{ap, sym, ◌∙◌, subst, take, get_or, suc}
 use Rattle.std.proofs.Math.Seq.{take-suc, take-length}
-use Rattle.server_run.specs.declared.leaving.HeldAnswer.{HeldAnswer}
+use Rattle.server_core.specs.declared.leaving.HeldAnswer.{HeldAnswer}
 use Rattle.daemon_parties.specs.Telling.{Leaves, AllLeave, more}
 
 module _ {P Line : Type 0} (Sends : Line → P → List ℕ → Line → Type 0) (transit now : ℕ) (first : Line) where

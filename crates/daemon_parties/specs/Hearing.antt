@@ -1,6 +1,6 @@
 -- What may happen while a daemon hears.
 use Rattle.std.specs.Prelude.{◌≡◌}
-use Rattle.server_run.specs.Running.{RunState}
+use Rattle.server_core.specs.Running.{RunState}
 
 -- Datagrams may have come, and none was sent: Listens says of a way to those who send them, before and behind a call,
 -- that one may have come.

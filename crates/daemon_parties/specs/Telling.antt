@@ -1,6 +1,6 @@
 -- What clients are told: the answers that were held back, each to who asked, but for those that are too late.
 use Rattle.std.specs.Prelude.{◌≡◌, ◌⊎◌, ℕ, ◌+◌, ◌≤◌, List, [], ◌∷◌, ◌++◌}
-use Rattle.server_run.specs.declared.leaving.HeldAnswer.{HeldAnswer}
+use Rattle.server_core.specs.declared.leaving.HeldAnswer.{HeldAnswer}
 
 -- An answer may still leave: no transit is set, or not more than that has passed since its message was read.
 abbrev pub IsInTime : (transit read now : ℕ) → Type 0

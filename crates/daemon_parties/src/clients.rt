@@ -10,15 +10,15 @@ use access_records::{AccessRecord, Address};
 use client_limits::Limiter;
 use daemon_devices::Datagrams;
 use dhcp6_pd::{ClientKind, PdError, PdFault, ServerKind};
+use disk_model::Folder;
 use lead_time::{Reading, Transit};
 use order_book::Book;
 use server_book::Manner;
+use server_core::{Heard, HeldAnswer, Running};
 use server_notices::{Happening, Log};
-use server_run::{Heard, HeldAnswer, Running};
 use server_status::Traffic;
 use std::alloc::{AllocError, Global};
 use std::mem;
-use volume_folder::Folder;
 
 /// The longest datagram, in octets.
 const LONGEST: usize = 65_535;

@@ -1,7 +1,7 @@
 //! What a person asks by the control socket, and is told.
 
-use control_words::{Answer, Request, Verdict};
 use daemon_devices::Control;
+use server_status::{Answer, Request, Verdict};
 use std::alloc::Global;
 use std::time::Instant;
 

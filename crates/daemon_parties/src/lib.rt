@@ -1,7 +1,7 @@
 //! Those whom a daemon hears and tells: clients, the partner, and the person at the control socket.
 //!
 //! Each party is heard in a turn, and told what was held back for it once the lines that this tells of are on the disk.
-//! They stand on devices that don't wait (`daemon_devices`), and on a server that runs (`server_run`).
+//! They stand on devices that don't wait (`daemon_devices`), and on a server that runs (`server_core`).
 //!
 //! ```text
 //! clients.hear(&mut running, &manner, &clocks, &mut log)?;

@@ -9,16 +9,16 @@ use crate::clocks::{Clocks, Moment};
 use crate::hearing::HearingError;
 use crate::standing::{Standing, parting_of};
 use daemon_devices::{Connection, Door, Leaving, WaitingRoom};
+use disk_model::Folder;
 use lead_time::Reading;
-use link_entry::{EntryFault, Keeper};
+use link_auth::{EntryFault, Keeper};
 use link_talk::{Handed, Stage};
 use order_book::Order;
+use server_core::Running;
 use server_notices::{Happening, Log, Parting};
-use server_run::Running;
 use server_settings::Settings;
 use std::alloc::{AllocError, Global};
 use std::marker::Model;
-use volume_folder::Folder;
 
 /// How many octets are read at once, at most.
 const READ_SIZE: usize = 65_536;

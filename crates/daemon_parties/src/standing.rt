@@ -12,15 +12,15 @@ use crate::clocks::{Clocks, Moment};
 use crate::hearing::HearingError;
 use binding_rules::Counter;
 use daemon_devices::{Connection, Door, Got, Lost, QuietSecond};
+use disk_model::Folder;
 use failover_message::{Frame, FrameKind, encode};
 use lead_time::Reading;
 use link_talk::{Came, Handed, Stage, TalkError};
+use server_core::Running;
 use server_notices::{Happening, Log, Parting};
-use server_run::Running;
 use server_settings::Settings;
 use std::alloc::Global;
 use std::time::Instant;
-use volume_folder::Folder;
 
 /// How many seconds a connection stands that has stood for a while.
 const A_WHILE: u64 = 10;

@@ -9,10 +9,10 @@ use crate::clients::Clients;
 use crate::clocks::Moment;
 use crate::partner::Partner;
 use daemon_devices::{Datagrams, Door};
+use disk_model::Folder;
 use link_talk::Handed;
+use server_core::{HeldAnswer, Running};
 use server_notices::Log;
-use server_run::{HeldAnswer, Running};
-use volume_folder::Folder;
 
 /// Sends each answer to who asked, but for those that are too late, and says the frames to the partner, each once.
 pub fn tell<F: Folder + Drop, G: Datagrams, D: Door, L: Print>(

@@ -8,8 +8,9 @@ use crate::fault::Fault;
 use crate::writing::{write_json, write_out};
 use crate::zones::{style_of, zone_named};
 use archive_desk::Told;
-use attribution_desk::{Command, DeskError, Watched, run};
-use desk_intake::{Intake, PairIntake, ReadInput, ReadPair, take_all};
+use attribution_desk::{
+    Command, DeskError, Intake, PairIntake, ReadInput, ReadPair, Watched, run, take_all,
+};
 use desk_reports::{explain_told, holder_told};
 use desk_words::{Settings, Telling};
 use journal_text::{text_gives_what_it_spells, written_is_closed};

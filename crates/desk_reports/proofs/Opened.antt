@@ -2,7 +2,7 @@
 use Rattle.std.specs.Prelude.{◌≡◌, ℕ, Result, Ok, Err, IfOk}
 use Rattle.std.proofs.Common.{subst, inr}
 use Rattle.journal_lines.specs.declared.line.Journal.{Journal as Lines}
-use Rattle.claims.specs.declared.certificate.Certificate.{Certificate as Claim}
+use Rattle.causal_order.specs.declared.certificate.Certificate.{Certificate as Claim}
 use Rattle.causal_order.specs.Journals.{Journals, journals_of}
 use Rattle.pair_ruling.specs.Ruled.{IsFit}
 use Rattle.report_words.specs.declared.document.Explanation.{Explanation}

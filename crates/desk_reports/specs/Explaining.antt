@@ -3,7 +3,7 @@ use Rattle.std.specs.Prelude.{◌≡◌, ◌⊎◌, ℕ, Some, None, Result, Ok,
 use Rattle.binding_rules.specs.declared.role.Role.TheVariants.{Primary, Secondary}
 use Rattle.journal_lines.specs.declared.fault.JournalFault.{JournalFault}
 use Rattle.journal_lines.specs.declared.line.Journal.{Journal as Lines}
-use Rattle.claims.specs.declared.certificate.Certificate.{Certificate as Claim}
+use Rattle.causal_order.specs.declared.certificate.Certificate.{Certificate as Claim}
 use Rattle.causal_order.specs.Journals.{Journals, journals_of}
 use Rattle.certificate.specs.declared.error.CertificateError.{CertificateError}
 use Rattle.certificate.specs.declared.error.CertificateError.TheVariants.{Fault}

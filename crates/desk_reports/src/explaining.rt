@@ -6,12 +6,11 @@ ghost use Rattle.journal_text.specs.Closed.{IsClosed};
 ghost use Rattle.desk_reports.specs.Explaining.{IsShown, IsExplained, IsExplainedOfRead};
 
 use attribution::Verdict;
-use attribution_desk::Case;
+use attribution_desk::{Case, DeskError};
 use auditor::audit;
 use binding_rules::Role;
+use causal_order::Certificate;
 use certificate::CertificateError;
-use claims::Certificate;
-use desk_intake::DeskError;
 use evidence_report::{failure_of, report_on};
 use journal_lines::{Journal, JournalFault};
 use lead_time::{Skew, Transit};

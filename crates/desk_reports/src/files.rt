@@ -12,13 +12,12 @@ use archive_files::{
     Agreement, FilesError, JournalFiles, PassedOver, Shown, catalogue_of, shown_at,
 };
 use attribution::Verdict;
+use attribution_desk::{DeskError, ReadPair};
 use binding_rules::Role;
+use causal_order::CertificateFault;
 use certificate::CertificateError;
-use claims::CertificateFault;
-use desk_intake::{DeskError, ReadPair};
 use desk_words::Settings;
-use journal_archive::{Archive, Lack, Pair};
-use journal_copy::ShownPair;
+use journal_archive::{Archive, Lack, Pair, ShownPair};
 use journal_lines::Journal;
 use lead_time::{Skew, Transit};
 use pair_ruling::{Ruling, ruling_line};

@@ -7,13 +7,12 @@ use crate::explaining::explain_read;
 use crate::telling::{Style, Subject, page_told, written};
 use crate::why_data::why_data;
 use archive_desk::Told;
-use attribution_desk::{Case, Search, Searched, search_pair};
-use desk_intake::{DeskError, ReadPair};
+use attribution_desk::{Case, DeskError, ReadPair, Search, Searched, search_pair};
 use desk_words::{ReportForm, Settings};
 use near_leases::{NearLease, WhyNobody, near_leases, why_nobody};
-use near_words::why_blocks;
 use plain_search::HolderQuery;
-use report_text::{Spelling, passages_of, text_of};
+use report_render::{Spelling, passages_of, text_of};
+use report_words::why_blocks;
 use std::alloc::{AllocError, Global};
 use std::thread::Threads;
 

@@ -5,16 +5,14 @@ ghost use Rattle.journal_text.specs.Closed.{IsClosed};
 
 use crate::explaining::explain_read;
 use archive_desk::Told;
-use desk_intake::{DeskError, ReadPair};
+use attribution_desk::{DeskError, ReadPair};
 use desk_words::ReportForm;
 use journal_lines::{Journal, JournalFault};
 use journal_text::write;
 use lead_time::{Skew, Transit};
 use pair_ruling::{status_of, warnings};
 use report_data::data_of;
-use report_page::{Origin, Page, page_of};
-use report_picture::{picture_of, svg_of};
-use report_text::{Spelling, spelled, text_of};
+use report_render::{Origin, Page, Spelling, page_of, picture_of, spelled, svg_of, text_of};
 use report_words::{Explanation, document_of};
 use std::alloc::{AllocError, Global};
 use std::thread::Threads;

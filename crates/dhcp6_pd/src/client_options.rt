@@ -13,8 +13,8 @@ use crate::numbers::MAX_IAS;
 use crate::option_code::OptionCode;
 use crate::options::{Options, RawOption};
 use client_id::Duid;
-use lists::Listed;
 use std::alloc::Global;
+use text_fields::Listed;
 
 /// What the options of a client's message say, as far as they were parsed.
 #[derive(Drop)]

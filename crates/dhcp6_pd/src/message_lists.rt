@@ -4,9 +4,9 @@ ghost use Rattle.std.specs.Prelude.{◌≡◌, ◌∷◌, [], OnOk, IfOk};
 
 use crate::message::{IaPd, IaReply, Relay};
 use client_id::Iaid;
-use lists::Listed;
 use std::alloc::{AllocError, Global};
 use std::marker::Model;
+use text_fields::Listed;
 
 /// Relays, from the server to the client.
 pub type RelayList = Listed<Relay>;

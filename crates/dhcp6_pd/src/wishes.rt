@@ -13,8 +13,8 @@ use crate::numbers::{IA_NA, IA_PD, IA_TA, OPTION_REQUEST};
 use crate::options::{Options, RawOption};
 use byteorder::{BigEndian, ByteOrder};
 use client_id::Iaid;
-use lists::Listed;
 use std::alloc::{AllocError, Global};
+use text_fields::Listed;
 
 /// What the options of a client's message ask for beside the first prefix of each IA_PD, as far as they were parsed.
 #[derive(Drop)]

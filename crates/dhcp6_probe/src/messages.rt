@@ -8,11 +8,10 @@ use dhcp6_pd::{
     RelayId, ServerKind, ServerMessage, decode, encode,
 };
 use line_words::{add_duid, add_number, add_word};
-use lists::Listed;
 use prefix_range::{Prefix, push_prefix};
 use probe_lines::Arguments;
 use std::alloc::{AllocError, Global};
-use text_fields::{push_number, push_octets};
+use text_fields::{Listed, push_number, push_octets};
 
 /// What a datagram may be, by name.
 const NAMES: [&[u8]; 14] = [

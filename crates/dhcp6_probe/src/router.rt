@@ -4,11 +4,10 @@ use crate::messages::{add_fault, add_relay};
 use client_id::Iaid;
 use dhcp6_pd::{InformationRequest, ServerKind, ServerMessage, decode, decode_information, encode};
 use line_words::{add_duid, add_number, add_word};
-use lists::Listed;
 use probe_lines::Arguments;
 use router_options::{DomainName, Occasion, OptionList, OptionsError, RouterOptions, chosen};
 use std::alloc::{AllocError, Global};
-use text_fields::push_octets;
+use text_fields::{Listed, push_octets};
 
 /// Appends codes that are asked for.
 fn add_codes(out: &mut Vec<u8>, codes: &[u16]) -> Result<(), AllocError> {

@@ -4,10 +4,10 @@ use Rattle.std.specs.Prelude.{length, Contains as Has}
 use Rattle.std.proofs.Common.{sym, ◌∙◌, ap, subst, arith, inl, inr, get_or}
 use Rattle.std.proofs.lemmas.Bool.{cases_lt}
 use Rattle.std.proofs.lemmas.Option.{same_Some, slice_get-get_or, slice_get_within, get_or_from_slice_get}
-use Rattle.claims.specs.declared.reference.Ref.{Ref}
-use Rattle.claims.specs.declared.certificate.Piece.{Piece}
-use Rattle.claims.specs.declared.certificate.Clear.{Clear}
-use Rattle.claims.specs.Naming.{NamesAt}
+use Rattle.causal_order.specs.declared.reference.Ref.{Ref}
+use Rattle.causal_order.specs.declared.certificate.Piece.{Piece}
+use Rattle.causal_order.specs.declared.certificate.Clear.{Clear}
+use Rattle.causal_order.specs.Naming.{NamesAt}
 use Rattle.causal_order.specs.Journals.{Journals}
 use Rattle.causal_order.proofs.Walking.{one_earliest}
 use Rattle.attribution.specs.Acceptance.{IsCleared, Discharges}

@@ -4,7 +4,7 @@ use Rattle.std.proofs.Common.{sym, ◌∙◌, ap, refl, subst}
 use Rattle.journal_lines.specs.declared.event.Event.TheVariants.{Grant}
 use Rattle.journal_lines.specs.declared.event.Lease.{Lease}
 use Rattle.journal_lines.specs.declared.line.Line.{Line}
-use Rattle.claims.specs.declared.reference.Ref.{Ref}
+use Rattle.causal_order.specs.declared.reference.Ref.{Ref}
 use Rattle.causal_order.specs.Journals.{Journals, Names, line_of}
 use Rattle.causal_order.proofs.Deciding.{line_names, names_line}
 use Rattle.attribution.specs.declared.delegation.Delegation.{Delegation}

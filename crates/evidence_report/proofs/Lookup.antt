@@ -7,8 +7,8 @@ use Rattle.std.proofs.lemmas.Option.{slice_get-get_or, slice_get-map, slice_get_
 use Rattle.std.proofs.lemmas.List.{map-append}
 use Rattle.std.proofs.lemmas.List.Elements.{Contains-append_left, Contains-push, Contains-push_cases}
 use Rattle.journal_lines.specs.declared.line.Line.{Line}
-use Rattle.claims.specs.declared.certificate.Certificate.{Certificate}
-use Rattle.claims.specs.declared.reference.Ref.{Ref}
+use Rattle.causal_order.specs.declared.certificate.Certificate.{Certificate}
+use Rattle.causal_order.specs.declared.reference.Ref.{Ref}
 use Rattle.causal_order.specs.Journals.{Journals, Names, line_of}
 use Rattle.causal_order.specs.LineOrder.{ComesBefore}
 use Rattle.causal_order.proofs.Deciding.{line_names, names_line}

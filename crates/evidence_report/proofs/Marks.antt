@@ -2,7 +2,7 @@
 use Rattle.std.specs.Prelude.{◌≡◌, List, Option, Some, None, option_map}
 use Rattle.std.proofs.Common.{sym, ◌∙◌, ap, refl}
 use Rattle.journal_lines.specs.declared.line.Line.{Line}
-use Rattle.claims.specs.declared.reference.Ref.{Ref}
+use Rattle.causal_order.specs.declared.reference.Ref.{Ref}
 use Rattle.causal_order.specs.Journals.{Journals, line_of}
 use Rattle.causal_order.specs.Order.{IsChain}
 use Rattle.causal_order.specs.Tests.{first_of_chain, last_of_chain}

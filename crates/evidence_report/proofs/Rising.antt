@@ -9,8 +9,8 @@ use Rattle.std.proofs.lemmas.List.Elements.{Contains-append_left, Contains-push,
 use Rattle.std.proofs.lemmas.List.Sorted.{Contains-permutation, IsPermutation-sym}
 use Rattle.binding_rules.specs.declared.role.Role.{Role}
 use Rattle.binding_rules.specs.declared.role.Role.TheVariants.{Primary, Secondary}
-use Rattle.claims.specs.declared.reference.Ref.{Ref}
-use Rattle.claims.specs.Order.{place_of}
+use Rattle.causal_order.specs.declared.reference.Ref.{Ref}
+use Rattle.causal_order.specs.WrittenOrder.{place_of}
 use Rattle.causal_order.specs.LineOrder.{ComesBefore}
 use Rattle.auditor.proofs.Given.{Contains-get, get-Contains}
 use Rattle.evidence_report.specs.Lines.{AreOnce, IsBehind}

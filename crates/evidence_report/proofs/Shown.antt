@@ -9,8 +9,8 @@ use Rattle.std.proofs.lemmas.Option.{slice_get-get_or}
 use Rattle.std.proofs.lemmas.List.Elements.{Contains-push_cases}
 use Rattle.journal_lines.specs.declared.event.Lease.{Lease}
 use Rattle.journal_lines.specs.declared.line.Line.{Line}
-use Rattle.claims.specs.declared.reference.Ref.{Ref}
-use Rattle.claims.specs.declared.certificate.Piece.{Piece}
+use Rattle.causal_order.specs.declared.reference.Ref.{Ref}
+use Rattle.causal_order.specs.declared.certificate.Piece.{Piece}
 use Rattle.causal_order.specs.Journals.{Journals, line_of}
 use Rattle.causal_order.proofs.Deciding.{line_names, names_line}
 use Rattle.attribution.specs.declared.delegation.Delegation.{Delegation}

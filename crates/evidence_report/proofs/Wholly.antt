@@ -4,10 +4,10 @@ use Rattle.std.specs.Prelude.{Contains as Has}
 use Rattle.std.proofs.Common.{zero, suc, sym, ◌∙◌, ap, subst, refl, arith}
 use Rattle.std.proofs.lemmas.Option.{slice_get-map}
 use Rattle.journal_lines.specs.declared.event.Lease.{Lease}
-use Rattle.claims.specs.declared.certificate.Certificate.{Certificate}
-use Rattle.claims.specs.declared.certificate.Piece.{Piece}
-use Rattle.claims.specs.declared.certificate.Foreign.{Foreign}
-use Rattle.claims.specs.declared.reference.Ref.{Ref}
+use Rattle.causal_order.specs.declared.certificate.Certificate.{Certificate}
+use Rattle.causal_order.specs.declared.certificate.Piece.{Piece}
+use Rattle.causal_order.specs.declared.certificate.Foreign.{Foreign}
+use Rattle.causal_order.specs.declared.reference.Ref.{Ref}
 use Rattle.causal_order.specs.Journals.{Journals}
 use Rattle.causal_order.specs.Order.{WrittenBy, WrittenFrom}
 use Rattle.attribution.specs.declared.delegation.Delegation.{Delegation}

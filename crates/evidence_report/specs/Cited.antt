@@ -2,17 +2,17 @@
 use Rattle.std.specs.Prelude.{List, ◌∷◌, ◌++◌, map, Contains as Has}
 use Rattle.std.specs.List.{flat_map}
 use Rattle.journal_lines.specs.declared.line.Line.{Line}
-use Rattle.claims.specs.declared.reference.Ref.{Ref}
-use Rattle.claims.specs.declared.order.Precedes.{Precedes}
-use Rattle.claims.specs.declared.order.Precedes.TheVariants.{Chain, Clock}
-use Rattle.claims.specs.declared.certificate.Certificate.{Certificate}
-use Rattle.claims.specs.declared.certificate.Piece.{Piece}
-use Rattle.claims.specs.declared.certificate.Clear.{Clear}
-use Rattle.claims.specs.declared.certificate.Why.{Why}
-use Rattle.claims.specs.declared.certificate.Why.TheVariants.{Before, After}
-use Rattle.claims.specs.declared.certificate.Foreign.{Foreign}
-use Rattle.claims.specs.declared.certificate.Reason.{Reason}
-use Rattle.claims.specs.declared.certificate.Reason.TheVariants.{Early, Late, Released}
+use Rattle.causal_order.specs.declared.reference.Ref.{Ref}
+use Rattle.causal_order.specs.declared.order.Precedes.{Precedes}
+use Rattle.causal_order.specs.declared.order.Precedes.TheVariants.{Chain, Clock}
+use Rattle.causal_order.specs.declared.certificate.Certificate.{Certificate}
+use Rattle.causal_order.specs.declared.certificate.Piece.{Piece}
+use Rattle.causal_order.specs.declared.certificate.Clear.{Clear}
+use Rattle.causal_order.specs.declared.certificate.Why.{Why}
+use Rattle.causal_order.specs.declared.certificate.Why.TheVariants.{Before, After}
+use Rattle.causal_order.specs.declared.certificate.Foreign.{Foreign}
+use Rattle.causal_order.specs.declared.certificate.Reason.{Reason}
+use Rattle.causal_order.specs.declared.certificate.Reason.TheVariants.{Early, Late, Released}
 use Rattle.causal_order.specs.Journals.{Journals, Names}
 use Rattle.evidence_report.specs.declared.piece_report.PieceReport.{PieceReport}
 use Rattle.evidence_report.specs.declared.report.Cited.{Cited}

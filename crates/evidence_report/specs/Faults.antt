@@ -3,12 +3,12 @@
 use Rattle.std.specs.Prelude.{◌≡◌, ◌≢◌, ℕ, ◌+◌, ◌*◌, ◌<◌, ◌≤◌, ◌⊎◌, IsTrue, Option, Some, None}
 use Rattle.prefix_range.specs.Prefix.{Contains}
 use Rattle.journal_lines.specs.declared.event.Lease.{Lease}
-use Rattle.claims.specs.declared.reference.Ref.{Ref}
-use Rattle.claims.specs.declared.certificate.Certificate.{Certificate}
-use Rattle.claims.specs.declared.certificate.Piece.{Piece}
-use Rattle.claims.specs.declared.certificate.Foreign.{Foreign}
-use Rattle.claims.specs.declared.certificate.Reason.{Reason}
-use Rattle.claims.specs.declared.certificate.Reason.TheVariants.{Early, Late, Released}
+use Rattle.causal_order.specs.declared.reference.Ref.{Ref}
+use Rattle.causal_order.specs.declared.certificate.Certificate.{Certificate}
+use Rattle.causal_order.specs.declared.certificate.Piece.{Piece}
+use Rattle.causal_order.specs.declared.certificate.Foreign.{Foreign}
+use Rattle.causal_order.specs.declared.certificate.Reason.{Reason}
+use Rattle.causal_order.specs.declared.certificate.Reason.TheVariants.{Early, Late, Released}
 use Rattle.causal_order.specs.Journals.{Journals}
 use Rattle.causal_order.specs.Order.{IsSurelyBefore, WrittenBy, WrittenFrom}
 use Rattle.attribution.specs.declared.delegation.Delegation.{Delegation}

@@ -1,7 +1,7 @@
 -- Lists of lines, in order.
 use Rattle.std.specs.Prelude.{◌≡◌, ◌↔◌, ℕ, ◌-◌, ◌<◌, List, length, Some, slice_get, Contains as Has}
-use Rattle.claims.specs.declared.reference.Ref.{Ref}
-use Rattle.claims.specs.Order.{place_of}
+use Rattle.causal_order.specs.declared.reference.Ref.{Ref}
+use Rattle.causal_order.specs.WrittenOrder.{place_of}
 use Rattle.causal_order.specs.LineOrder.{ComesBefore}
 
 -- each line comes before those behind it: the primary's before the secondary's, and then by number

@@ -1,10 +1,10 @@
 -- What is shown of other clients' delegations.
 use Rattle.std.specs.Prelude.{◌≡◌, ◌↔◌, IsTrue}
-use Rattle.claims.specs.declared.reference.Ref.{Ref}
-use Rattle.claims.specs.declared.certificate.Foreign.{Foreign}
-use Rattle.claims.specs.declared.certificate.Reason.{Reason}
-use Rattle.claims.specs.declared.certificate.Reason.TheVariants.{Early as EndedBefore, Late as BegunAfter}
-use Rattle.claims.specs.declared.certificate.Reason.TheVariants.{Released as GivenBack}
+use Rattle.causal_order.specs.declared.reference.Ref.{Ref}
+use Rattle.causal_order.specs.declared.certificate.Foreign.{Foreign}
+use Rattle.causal_order.specs.declared.certificate.Reason.{Reason}
+use Rattle.causal_order.specs.declared.certificate.Reason.TheVariants.{Early as EndedBefore, Late as BegunAfter}
+use Rattle.causal_order.specs.declared.certificate.Reason.TheVariants.{Released as GivenBack}
 use Rattle.causal_order.specs.Journals.{Journals}
 use Rattle.attribution.specs.declared.delegation.Delegation.{Delegation}
 use Rattle.attribution.specs.Acceptance.{Tells, GivesBack}

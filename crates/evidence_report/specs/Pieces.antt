@@ -2,11 +2,11 @@
 use Rattle.std.specs.Prelude.{◌≡◌, ◌↔◌, ℕ, IsTrue, List, Option, Some, None, map, Contains as Has}
 use Rattle.std.specs.Borrow.{Bor}
 use Rattle.journal_lines.specs.declared.event.Lease.{Lease}
-use Rattle.claims.specs.declared.reference.Ref.{Ref}
-use Rattle.claims.specs.declared.certificate.Piece.{Piece}
-use Rattle.claims.specs.declared.certificate.Clear.{Clear}
-use Rattle.claims.specs.declared.certificate.Why.{Why}
-use Rattle.claims.specs.declared.certificate.Why.TheVariants.{Before as BeforeGrant, After as AfterEnd}
+use Rattle.causal_order.specs.declared.reference.Ref.{Ref}
+use Rattle.causal_order.specs.declared.certificate.Piece.{Piece}
+use Rattle.causal_order.specs.declared.certificate.Clear.{Clear}
+use Rattle.causal_order.specs.declared.certificate.Why.{Why}
+use Rattle.causal_order.specs.declared.certificate.Why.TheVariants.{Before as BeforeGrant, After as AfterEnd}
 use Rattle.causal_order.specs.Journals.{Journals}
 use Rattle.attribution.specs.declared.delegation.Delegation.{Delegation}
 use Rattle.attribution.specs.Delegation.{of_lease}

@@ -1,6 +1,6 @@
 -- What the report of an accepted certificate shows.
 use Rattle.std.specs.Prelude.{ℕ, IsTrue, IsSome, Contains as Has}
-use Rattle.claims.specs.declared.certificate.Certificate.{Certificate}
+use Rattle.causal_order.specs.declared.certificate.Certificate.{Certificate}
 use Rattle.causal_order.specs.Journals.{Journals}
 use Rattle.attribution.specs.Acceptance.{IsCarried, ReasonHolds}
 use Rattle.attribution.specs.FirstRefusal.{IsVerdict}

@@ -9,8 +9,7 @@ ghost use Rattle.evidence_report.specs.Cited.{cited_by, AreCited, AreFound};
 use crate::line_order::in_order;
 use crate::piece_report::{PieceReport, ReleaseReport};
 use crate::report::Cited;
-use causal_order::{Chain, Lines, Precedes, Ref};
-use claims::{Certificate, Clear, Foreign, Piece, Reason, Why};
+use causal_order::{Certificate, Chain, Clear, Foreign, Lines, Piece, Precedes, Reason, Ref, Why};
 use std::alloc::{AllocError, Global};
 
 fn cite_chain(refs: &mut Vec<Ref>, chain: &Chain) -> Result<(), AllocError>

@@ -3,8 +3,8 @@
 ghost use Rattle.std.specs.Prelude.{◌≡◌, ◌↔◌, ℕ, ◌+◌, ◌≤◌, IsTrue, MatchOption, Some, None, All};
 ghost use Rattle.std.specs.Prelude.{length, option_map, slice_get};
 ghost use Rattle.causal_order.specs.Journals.{Journals};
-ghost use Rattle.claims.specs.declared.certificate.Certificate.{Certificate as CertificateValue};
-ghost use Rattle.claims.specs.declared.certificate.Piece.{Piece as PieceValue};
+ghost use Rattle.causal_order.specs.declared.certificate.Certificate.{Certificate as CertificateValue};
+ghost use Rattle.causal_order.specs.declared.certificate.Piece.{Piece as PieceValue};
 ghost use Rattle.attribution.specs.declared.delegation.Delegation.{Delegation as DelegationValue};
 ghost use Rattle.attribution.specs.Acceptance.{IsGranted, IsPastOpen, IsPastPartner, Tells, ReasonHolds};
 ghost use Rattle.attribution.specs.FirstRefusal.{IsVerdict, begin_at};
@@ -21,8 +21,7 @@ use crate::told::told_at;
 use attribution::Verdict;
 use auditor::LineSource;
 use binding_rules::Role;
-use causal_order::{Chain, Lines, Ref};
-use claims::Certificate;
+use causal_order::{Certificate, Chain, Lines, Ref};
 use lead_time::Reading;
 
 /// What is shown of the side's journal.

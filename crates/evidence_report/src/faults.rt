@@ -2,7 +2,7 @@
 
 use attribution::Delegation;
 use binding_rules::Role;
-use claims::Ref;
+use causal_order::Ref;
 use client_id::Duid;
 use lead_time::Reading;
 use prefix_range::Prefix;

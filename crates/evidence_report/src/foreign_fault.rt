@@ -2,7 +2,7 @@
 
 ghost use Rattle.std.specs.Prelude.{◌≡◌, ◌↔◌, IsTrue, MatchOption};
 ghost use Rattle.causal_order.specs.Journals.{Journals};
-ghost use Rattle.claims.specs.declared.certificate.Foreign.{Foreign as ForeignValue};
+ghost use Rattle.causal_order.specs.declared.certificate.Foreign.{Foreign as ForeignValue};
 ghost use Rattle.attribution.specs.declared.delegation.Lasting.TheVariants.{For};
 ghost use Rattle.attribution.specs.Acceptance.{IsNew, ReasonHolds};
 ghost use Rattle.evidence_report.specs.Others.{IsForeignReport};
@@ -13,7 +13,7 @@ use crate::faults::ForeignFault;
 use crate::foreign_report::{ForeignReport, Outside};
 use crate::mark::{Mark, OrderReport};
 use attribution::Lasting;
-use claims::Certificate;
+use causal_order::Certificate;
 use journal_lines::Lease;
 use lead_time::{Reading, Skew, Transit};
 

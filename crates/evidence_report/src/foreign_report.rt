@@ -2,7 +2,7 @@
 
 use crate::mark::{Mark, OrderReport};
 use attribution::Delegation;
-use claims::{Chain, Foreign, Ref};
+use causal_order::{Chain, Foreign, Ref};
 use lead_time::Reading;
 
 /// A delegation that a line tells of, and what its server's clock showed there.

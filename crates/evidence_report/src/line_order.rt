@@ -2,7 +2,7 @@
 
 ghost use Rattle.std.specs.Prelude.{◌≡◌, ◌↔◌, ◌+◌, ◌<◌, ◌^◌, IfOk, IsTrue};
 ghost use Rattle.std.specs.List.Sorted.{IsNonDecreasingBy};
-ghost use Rattle.claims.specs.Order.{place_of};
+ghost use Rattle.causal_order.specs.WrittenOrder.{place_of};
 ghost use Rattle.evidence_report.specs.Lines.{AreOnce, IsBehind};
 
 use binding_rules::Role;

@@ -1,6 +1,6 @@
 //! Lines with the readings of their clocks.
 
-use claims::{Chain, Ref};
+use causal_order::{Chain, Ref};
 use lead_time::Reading;
 
 /// A line, and what its server's clock showed when it was written.

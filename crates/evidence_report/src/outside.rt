@@ -8,8 +8,7 @@ use crate::chains::{earliest_mark, latest_mark};
 use crate::foreign_report::{ForeignReport, Outside};
 use crate::orders::order_report;
 use crate::told::{gives_back, told_at};
-use causal_order::{Lines, Ref};
-use claims::{Certificate, Foreign, Reason};
+use causal_order::{Certificate, Foreign, Lines, Reason, Ref};
 use lead_time::Skew;
 use std::alloc::{AllocError, Global};
 

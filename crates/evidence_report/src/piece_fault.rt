@@ -2,7 +2,7 @@
 
 ghost use Rattle.std.specs.Prelude.{◌≡◌, MatchOption};
 ghost use Rattle.causal_order.specs.Journals.{Journals};
-ghost use Rattle.claims.specs.declared.certificate.Piece.{Piece as PieceValue};
+ghost use Rattle.causal_order.specs.declared.certificate.Piece.{Piece as PieceValue};
 ghost use Rattle.attribution.specs.Acceptance.{IsGranted};
 ghost use Rattle.auditor.specs.Bounds.{IsHolders};
 ghost use Rattle.evidence_report.specs.Pieces.{IsPieceReport};
@@ -11,7 +11,7 @@ ghost use Rattle.evidence_report.specs.Faults.{FailsPiece, IsHolderFault, Begins
 use crate::faults::PieceFault;
 use crate::mark::Mark;
 use crate::piece_report::PieceReport;
-use claims::{Certificate, Piece};
+use causal_order::{Certificate, Piece};
 use journal_lines::Lease;
 use lead_time::{Skew, Transit};
 

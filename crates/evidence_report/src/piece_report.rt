@@ -1,7 +1,7 @@
 //! What is shown of a piece.
 
 use crate::mark::{Mark, OrderReport};
-use claims::{Chain, Clear, Piece};
+use causal_order::{Chain, Clear, Piece};
 use journal_lines::Lease;
 use lead_time::Reading;
 

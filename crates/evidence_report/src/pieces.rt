@@ -11,7 +11,7 @@ use crate::releases::release_reports;
 use crate::told::granted_at;
 use attribution::Delegation;
 use auditor::LineSource;
-use claims::{Certificate, Piece};
+use causal_order::{Certificate, Piece};
 use lead_time::Skew;
 use std::alloc::{AllocError, Global};
 

@@ -1,8 +1,8 @@
 //! What is shown of the releases of what a piece's grant gave.
 
 ghost use Rattle.std.specs.Prelude.{◌≡◌, ◌↔◌, IfOk, IsTrue, MatchOption, Contains as Has};
-ghost use Rattle.claims.specs.declared.certificate.Clear.{Clear as ClearValue};
-ghost use Rattle.claims.specs.Naming.{NamesAt};
+ghost use Rattle.causal_order.specs.declared.certificate.Clear.{Clear as ClearValue};
+ghost use Rattle.causal_order.specs.Naming.{NamesAt};
 ghost use Rattle.attribution.specs.Acceptance.{IsCleared, Discharges};
 ghost use Rattle.auditor.specs.Bounds.{IsWrittenFrom};
 ghost use Rattle.auditor.specs.Refusals.{ClearsAt};
@@ -18,8 +18,7 @@ use crate::orders::order_report;
 use crate::piece_report::{Cleared, ReleaseReport};
 use attribution::Delegation;
 use auditor::LineSource;
-use causal_order::{Chain, Lines, Ref, precedes};
-use claims::{Clear, Piece, Why};
+use causal_order::{Chain, Clear, Lines, Piece, Ref, Why, precedes};
 use lead_time::{Reading, Skew};
 use std::alloc::{AllocError, Global};
 

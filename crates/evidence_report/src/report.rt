@@ -2,7 +2,7 @@
 
 use crate::foreign_report::ForeignReport;
 use crate::piece_report::PieceReport;
-use claims::{Certificate, Ref};
+use causal_order::{Certificate, Ref};
 use journal_lines::Line;
 use lead_time::{Reading, Skew, Transit};
 

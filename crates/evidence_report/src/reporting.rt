@@ -11,8 +11,7 @@ use crate::pieces::piece_reports;
 use crate::report::{Report, SideReport};
 use auditor::LineSource;
 use binding_rules::Role;
-use causal_order::{Lines, Ref};
-use claims::Certificate;
+use causal_order::{Certificate, Lines, Ref};
 use lead_time::{Reading, Skew, Transit};
 use std::alloc::{AllocError, Global};
 

@@ -5,7 +5,7 @@ use Rattle.std.proofs.Common.{arith, sym, ◌∙◌, ap, subst, refl}
 use Rattle.prefix_range.specs.Prefix.{IsPrefix}
 use Rattle.journal_lines.specs.declared.event.Lease.{Lease}
 use Rattle.binding_rules.specs.declared.role.Role.TheVariants.{Primary}
-use Rattle.claims.specs.declared.reference.Ref.{Ref}
+use Rattle.causal_order.specs.declared.reference.Ref.{Ref}
 use Rattle.causal_order.specs.Journals.{Journals, journal_of}
 use Rattle.attribution.specs.Listing.{IsListing}
 use Rattle.attribution.specs.Tests.{lease_of}

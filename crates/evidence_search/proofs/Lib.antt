@@ -1,3 +1,4 @@
+pub mod Passing
 pub mod Complete
 pub mod Holders
 pub mod Widened

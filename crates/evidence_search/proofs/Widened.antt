@@ -2,13 +2,13 @@
 use Rattle.std.specs.Prelude.{◌≡◌, ℕ, ◌+◌, ◌<◌, ◌≤◌, List, Result, Ok, Err, IfOk}
 use Rattle.std.proofs.Common.{arith, sym, subst}
 use Rattle.binding_rules.specs.declared.role.Role.TheVariants.{Primary}
-use Rattle.claims.specs.declared.certificate.Certificate.{Certificate}
+use Rattle.causal_order.specs.declared.certificate.Certificate.{Certificate}
 use Rattle.journal_lines.specs.declared.line.Line.{Line}
 use Rattle.causal_order.specs.Journals.{Journals, journal_of}
 use Rattle.attribution.specs.Acceptance.{ClosesFrom, IsTrueInEveryRun}
 use Rattle.attribution.proofs.Refusals.{accepted_from}
 use Rattle.auditor.specs.Closing.{ClosesAt}
-use Rattle.volume_heads.specs.NextHead.{AreLegal}
+use Rattle.book_rules.specs.NextHead.{AreLegal}
 use Rattle.plain_search.specs.declared.query.Query.{Query}
 use Rattle.plain_search.specs.declared.query.HolderQuery.{HolderQuery}
 use Rattle.plain_search.specs.declared.error.FindError.{FindError}

@@ -1,2 +1,4 @@
+pub mod Passages
+pub mod Chains
 pub mod Claim
 pub mod Search

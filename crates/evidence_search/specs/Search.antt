@@ -1,12 +1,12 @@
 -- For bodies only: what a search puts together, and what it shows.
 use Rattle.std.specs.Prelude.{◌≡◌, ℕ, ◌<◌, ◌≤◌, List, Option, Some}
-use Rattle.claims.specs.declared.reference.Ref.{Ref}
-use Rattle.claims.specs.declared.certificate.Certificate.{Certificate}
-use Rattle.claims.specs.declared.certificate.Piece.{Piece}
-use Rattle.claims.specs.declared.certificate.Foreign.{Foreign}
+use Rattle.causal_order.specs.declared.reference.Ref.{Ref}
+use Rattle.causal_order.specs.declared.certificate.Certificate.{Certificate}
+use Rattle.causal_order.specs.declared.certificate.Piece.{Piece}
+use Rattle.causal_order.specs.declared.certificate.Foreign.{Foreign}
 use Rattle.causal_order.specs.Journals.{Journals}
 use Rattle.attribution.specs.Acceptance.{IsTrueInEveryRun}
-use Rattle.volume_heads.specs.NextHead.{AreLegal}
+use Rattle.book_rules.specs.NextHead.{AreLegal}
 use Rattle.plain_search.specs.declared.query.Query.{Query}
 use Rattle.plain_search.specs.declared.query.HolderQuery.{HolderQuery}
 use Rattle.plain_search.specs.declared.reach.Reach.{Reach}

@@ -4,9 +4,11 @@ ghost use Rattle.std.specs.Prelude.{◌≡◌, IfOk, IsErrOf, ◌<◌, ◌-◌, 
 ghost use Rattle.evidence_search.specs.Claim.{Claims, HasNoPlainEvidence, IsTooLong};
 ghost use Rattle.evidence_search.specs.Search.{certificate_with, IsPutTogether};
 
+use crate::foreign::linked_foreign;
+use crate::messages::Messages;
+use crate::pieces::linked_pieces;
 use auditor::LineSource;
-use claims::{Certificate, ForeignList, PieceList};
-use message_search::{Messages, linked_foreign, linked_pieces};
+use causal_order::{Certificate, ForeignList, PieceList};
 use plain_search::{FindError, Query, foreign_entries, pieces};
 use std::alloc::Global;
 

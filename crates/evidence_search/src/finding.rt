@@ -2,16 +2,16 @@
 
 ghost use Rattle.std.specs.Prelude.{◌≡◌, ◌↔◌, IsTrue, IfOk, IsErrOf};
 ghost use Rattle.attribution.specs.Acceptance.{IsTrueInEveryRun};
-ghost use Rattle.volume_heads.specs.NextHead.{AreLegal};
+ghost use Rattle.book_rules.specs.NextHead.{AreLegal};
 ghost use Rattle.evidence_search.specs.Claim.{asked, Claims, IsShown, HasNoPlainEvidence, IsTooLong};
 
 use crate::evidence::{evidence, linked_evidence};
+use crate::messages::Messages;
 use attribution::Verdict;
 use auditor::{LineSource, audit};
-use claims::Certificate;
+use causal_order::Certificate;
 use client_id::Duid;
 use lead_time::{Reading, Skew, Transit};
-use message_search::Messages;
 use plain_search::{FindError, Query};
 use prefix_range::Prefix;
 use std::alloc::Global;

@@ -2,20 +2,20 @@
 
 ghost use Rattle.std.specs.Prelude.{◌≡◌, ◌↔◌, ◌+◌, List, ℕ, IsTrue, IfOk, IsErrOf, MatchOption, OnOk, Some};
 ghost use Rattle.attribution.specs.Acceptance.{IsTrueInEveryRun};
-ghost use Rattle.volume_heads.specs.NextHead.{AreLegal};
+ghost use Rattle.book_rules.specs.NextHead.{AreLegal};
 ghost use Rattle.evidence_search.specs.Claim.{held_by, HasNoPlainEvidence, IsRound, IsAcceptedOf, IsWidest};
 ghost use Rattle.evidence_search.specs.Claim.{HasNoPlainHolder, IsTooLong, IsTooLongOfOne};
 ghost use Rattle.plain_search.specs.Collected.{IsRecent};
 ghost use Rattle.evidence_search.specs.Search.{HasMoment, IsClientAt};
 
+use crate::messages::Messages;
+use crate::pieces::linked_reach_at;
 use crate::widening::widest;
 use auditor::LineSource;
 use binding_rules::Role;
-use causal_order::Ref;
-use claims::Certificate;
+use causal_order::{Certificate, Ref};
 use client_id::Duid;
 use lead_time::Reading;
-use message_search::{Messages, linked_reach_at};
 use plain_search::{FindError, HolderQuery, Query, Reach, Recent, lease_at, reach_at};
 use std::alloc::{AllocError, Global};
 

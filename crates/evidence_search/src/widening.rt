@@ -9,11 +9,11 @@ ghost use Rattle.evidence_search.specs.Search.{IsShownRound, IsTold};
 
 use crate::finding::search_over;
 use crate::guessing::guess_round;
+use crate::messages::Messages;
 use auditor::LineSource;
 use binding_rules::Role;
-use claims::Certificate;
+use causal_order::Certificate;
 use lead_time::{Reading, Skew};
-use message_search::Messages;
 use plain_search::{FindError, Query, less_skew};
 use std::alloc::{AllocError, Global};
 

@@ -3,24 +3,24 @@ use Rattle.std.proofs.Common.{◌≡◌, ℕ, ◌+◌, List, [], length, map, ta
 use Rattle.binding_rules.specs.declared.role.Role.{Role}
 use Rattle.journal_lines.specs.declared.line.Journal.{Journal}
 use Rattle.journal_lines.specs.declared.line.Line.{Line}
-use Rattle.torn_disk.specs.Disk.{Call}
-use Rattle.volume_folder.specs.Names.{NameCall, names_after, AreSettled}
+use Rattle.disk_model.specs.Disk.{Call}
+use Rattle.disk_model.specs.Names.{NameCall, names_after, AreSettled}
 use Rattle.order_book.specs.Replayed.{with_line}
 use Rattle.server_settings.specs.Settings.{ServerSettings}
 use Rattle.std.proofs.Common.{Result, Ok, Err, IfOk}
-use Rattle.folder_recovery.specs.Folder.{GoesOn}
-use Rattle.folder_recovery.specs.declared.step.FolderBook.{FolderBook}
-use Rattle.folder_recovery.specs.declared.step.NextStep.{NextStep}
-use Rattle.folder_recovery.specs.declared.step.NextStep.TheVariants.{BeginFirst, GoOn as GoOnWith, BeginNext}
-use Rattle.folder_recovery.specs.declared.step.NextStep.TheVariants.{End as EndOf}
-use Rattle.book_volumes.specs.Volumes.{going_on, HasVolume}
+use Rattle.volume_store.specs.Folder.{GoesOn}
+use Rattle.volume_store.specs.declared.step.FolderBook.{FolderBook}
+use Rattle.volume_store.specs.declared.step.NextStep.{NextStep}
+use Rattle.volume_store.specs.declared.step.NextStep.TheVariants.{BeginFirst, GoOn as GoOnWith, BeginNext}
+use Rattle.volume_store.specs.declared.step.NextStep.TheVariants.{End as EndOf}
+use Rattle.volume_store.specs.Volumes.{going_on, HasVolume}
 use Rattle.server_start.specs.declared.starting.Start.{Start}
 use Rattle.server_start.specs.declared.starting.Start.TheVariants.{First, GoOn, End, Next}
 use Rattle.server_start.specs.Starting.{IsStart}
-use Rattle.server_run.specs.Live.{LiveState}
-use Rattle.server_run.specs.Running.{RunState}
-use Rattle.server_run.specs.Beginning.{HasBook, HasNextBook, HasSameFiles}
-use Rattle.server_laws.specs.Starting.{HasStarted, StartsKeep}
+use Rattle.server_core.specs.Live.{LiveState}
+use Rattle.server_core.specs.Running.{RunState}
+use Rattle.server_core.specs.Beginning.{HasBook, HasNextBook, HasSameFiles}
+use Rattle.server_core.specs.Starting.{HasStarted, StartsKeep}
 use Rattle.folder_start.specs.Keeping.{HasDone, StartsWith}
 
 module _ {P : Type 0} (old new : RunState P) (same : HasSameFiles old new) where

@@ -3,19 +3,19 @@ use Rattle.std.specs.Prelude.{◌≡◌, ⊤, ℕ, List, [], map}
 use Rattle.binding_rules.specs.declared.role.Role.{Role}
 use Rattle.journal_lines.specs.declared.line.Journal.{Journal}
 use Rattle.journal_lines.specs.declared.line.Line.{Line}
-use Rattle.torn_disk.specs.Disk.{Call}
-use Rattle.volume_folder.specs.Names.{NameCall}
+use Rattle.disk_model.specs.Disk.{Call}
+use Rattle.disk_model.specs.Names.{NameCall}
 use Rattle.order_book.specs.Replayed.{with_line}
 use Rattle.open_volume.specs.declared.volume.VolumeSoFar.{VolumeSoFar}
 use Rattle.open_volume.specs.Spelling.{text_lines}
-use Rattle.folder_recovery.specs.Folder.{AreVolumesSoFar, AreContents}
-use Rattle.book_volumes.specs.Volumes.{going_on}
+use Rattle.volume_store.specs.Folder.{AreVolumesSoFar, AreContents}
+use Rattle.volume_store.specs.Volumes.{going_on}
 use Rattle.server_start.specs.declared.starting.Start.{Start}
 use Rattle.server_start.specs.declared.starting.Start.TheVariants.{First, GoOn, End, Next}
-use Rattle.server_run.specs.Live.{LiveState}
-use Rattle.server_run.specs.Beginning.{HasBook, HasNextBook}
-use Rattle.server_laws.specs.Servers.{AllLeaveLines}
-use Rattle.server_laws.specs.Starting.{StartsServers}
+use Rattle.server_core.specs.Live.{LiveState}
+use Rattle.server_core.specs.Beginning.{HasBook, HasNextBook}
+use Rattle.server_core.specs.Servers.{AllLeaveLines}
+use Rattle.server_core.specs.Starting.{StartsServers}
 
 -- What stands on the disk behind what a server does at its start, in a folder of so many volumes: a first volume; the
 -- one that goes on, before the line that it lacks; or one behind a closed volume, which has ended.

@@ -1,13 +1,12 @@
 //! Why a server doesn't start.
 
-use book_volumes::{BeginVolumeError, PutError, ReopenError, RollError};
-use folder_recovery::FolderRecoveryError;
+use disk_model::DeviceError;
 use locked_book::ServeError;
-use server_run::{BeginFault, RollFault};
+use server_core::{BeginFault, RollFault};
 use server_start::StartError;
 use std::io;
 use thiserror::Error;
-use torn_disk::DeviceError;
+use volume_store::{BeginVolumeError, FolderRecoveryError, PutError, ReopenError, RollError};
 
 /// Why a roll wasn't done.
 #[derive(Clone, Copy, Debug, PartialEq, Eq, Error)]

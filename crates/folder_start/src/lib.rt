@@ -1,6 +1,6 @@
 //! A server's start over the folder of its volumes.
 //!
-//! [`start`] reads the last files of a folder, and goes on with what they lead to (`folder_recovery`), if a server of
+//! [`start`] reads the last files of a folder, and goes on with what they lead to (`volume_store`), if a server of
 //! these settings may (`server_start`): with a first volume, the last one, or the one that follows it. Of the volumes
 //! before, it reads the messages that the partner may lack. [`start_from`] is the part behind the reading: whatever a
 //! loss of power left of a server's volumes, the server starts with these (specs/Keeping).

@@ -8,7 +8,7 @@ use Rattle.binding_rules.specs.declared.role.Role.TheVariants.{Primary, Secondar
 use Rattle.binding_rules.specs.Role.{is_side}
 use Rattle.journal_lines.specs.declared.line.Line.{Line}
 use Rattle.journal_lines.specs.Close.{until_close}
-use Rattle.volume_heads.specs.NextHead.{AreLegal}
+use Rattle.book_rules.specs.NextHead.{AreLegal}
 use Rattle.causal_order.specs.Journals.{volume_of}
 use Rattle.volume_join.specs.Laws.{HaveRoom, JoinedIsLegal}
 use Rattle.attribution.specs.Volumes.{past_close, volume_at, volumes_in}

@@ -10,7 +10,7 @@ use Rattle.journal_lines.specs.Close.{is_close, until_close}
 use Rattle.book_state.specs.Book.{BookState, blank}
 use Rattle.book_state.specs.Effects.{after}
 use Rattle.book_rules.specs.Volumes.{IsVolume, book_after}
-use Rattle.volume_heads.specs.NextHead.{AreNextHead, Follows, AreVolumes, head_lines}
+use Rattle.book_rules.specs.NextHead.{AreNextHead, Follows, AreVolumes, head_lines}
 use Rattle.volume_join.specs.Joined.{unclosed, going_on, joined}
 use Rattle.volume_join.specs.Laws.{HaveRoom, JoinedIsLegal}
 use Rattle.attribution.specs.Volumes.{past_close, volume_at, volumes_in}

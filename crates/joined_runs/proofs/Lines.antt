@@ -6,7 +6,7 @@ use Rattle.journal_lines.specs.declared.event.Event.{Event}
 use Rattle.journal_lines.specs.declared.event.Event.TheVariants.{Close}
 use Rattle.journal_lines.specs.declared.line.Line.{Line}
 use Rattle.journal_lines.specs.Close.{is_close, until_close}
-use Rattle.volume_heads.specs.NextHead.{is_head, head_lines}
+use Rattle.book_rules.specs.NextHead.{is_head, head_lines}
 use Rattle.volume_join.specs.Joined.{unclosed, behind_head, numbered, going_on, joined}
 use Rattle.attribution.specs.Volumes.{past_close}
 

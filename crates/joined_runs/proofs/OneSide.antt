@@ -4,7 +4,7 @@ use Rattle.std.proofs.Common.{suc, arith, ◌∙◌, ap, subst}
 use Rattle.binding_rules.specs.declared.role.Role.{Role}
 use Rattle.journal_lines.specs.declared.line.Line.{Line}
 use Rattle.journal_lines.specs.Close.{until_close}
-use Rattle.volume_heads.specs.NextHead.{AreLegal}
+use Rattle.book_rules.specs.NextHead.{AreLegal}
 use Rattle.volume_join.specs.Laws.{HaveRoom, JoinedIsLegal}
 use Rattle.attribution.specs.Volumes.{past_close, volumes_in}
 use Rattle.joined_runs.specs.Volumes.{SideVolumes}

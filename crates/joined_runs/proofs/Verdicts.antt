@@ -1,9 +1,9 @@
 -- A certificate that is accepted over the journals that volumes are together is true over the volumes.
 use Rattle.std.specs.Prelude.{◌≡◌, ℕ}
 use Rattle.std.proofs.Common.{subst}
-use Rattle.volume_heads.specs.NextHead.{AreLegal}
+use Rattle.book_rules.specs.NextHead.{AreLegal}
 use Rattle.causal_order.specs.Journals.{Journals}
-use Rattle.claims.specs.declared.certificate.Certificate.{Certificate}
+use Rattle.causal_order.specs.declared.certificate.Certificate.{Certificate}
 use Rattle.attribution.specs.declared.verdict.Verdict.TheVariants.{Accepted}
 use Rattle.attribution.specs.Acceptance.{IsAccepted}
 use Rattle.attribution.specs.FirstRefusal.{IsVerdict, AcceptsTheAccepted}

@@ -5,7 +5,7 @@ use Rattle.binding_rules.specs.declared.role.Role.{Role}
 use Rattle.binding_rules.specs.declared.role.Role.TheVariants.{Primary, Secondary}
 use Rattle.journal_lines.specs.declared.line.Line.{Line}
 use Rattle.causal_order.specs.Journals.{Journals, volume_of}
-use Rattle.claims.specs.declared.certificate.Certificate.{Certificate}
+use Rattle.causal_order.specs.declared.certificate.Certificate.{Certificate}
 use Rattle.attribution.specs.Run.{Step, IsRun, KeepsSkew, Leaves, StartInTime, Holds, HoldsWhole}
 use Rattle.attribution.specs.Acceptance.{IsAccepted, IsTrueIn, IsTrueInEveryRun}
 use Rattle.attribution.specs.Snapshot.{snapshots, IsRunSoFar, KeepsSkewSoFar, LeavesSoFar}

@@ -5,12 +5,12 @@ ghost use Rattle.attribution.specs.FirstRefusal.{IsVerdict};
 ghost use Rattle.attribution.specs.Snapshot.{snapshots};
 ghost use Rattle.joined_runs.specs.Volumes.{PairVolumes, joined_journals, BothHaveRoom};
 ghost use Rattle.joined_runs.specs.Laws.{IsTrueOverVolumes, IsTrueOverVolumesSoFar};
-ghost use Rattle.volume_heads.specs.NextHead.{AreLegal};
+ghost use Rattle.book_rules.specs.NextHead.{AreLegal};
 
 use crate::laws::accepted_is_true_over_volumes;
 use attribution::{Verdict, verdict_is_one};
 use auditor::{LineSource, audit};
-use claims::Certificate;
+use causal_order::Certificate;
 use lead_time::{Skew, Transit};
 
 /// Judges the certificate as `auditor::audit` does: accepted, or refused by the first condition that isn't met. The

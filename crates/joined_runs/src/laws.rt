@@ -3,7 +3,7 @@
 ghost use Rattle.joined_runs.specs.Laws.{JoinedCouldBeLeft, JoinedCouldBeLeftSoFar, AcceptedIsTrueOverVolumes};
 ghost use Rattle.joined_runs.specs.Laws.{SnapshotsAreTrueOverVolumes, TrueOfJoinedIsTrueOverVolumes};
 ghost use Rattle.joined_runs.specs.PutTogether.{PutTogetherIsJoined};
-ghost use Rattle.volume_heads.specs.NextHead.{AreLegal};
+ghost use Rattle.book_rules.specs.NextHead.{AreLegal};
 
 use attribution::{accepted_is_true, snapshots_are_true};
 use volume_join::joined_is_legal;

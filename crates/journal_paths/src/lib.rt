@@ -9,19 +9,36 @@
 //! let files = JournalPaths::at(&rt, &rt, &words)?;
 //! let catalogue = catalogue_of(rt.alloc(), &files, Agreement::OfBoth)?;
 //! ```
+//!
+//! How much of a volume its server has on the disk, as the server says.
+//!
+//! Who copies a file that a server writes on may see lines that a loss of power would take back, and of which nobody
+//! was told yet. [`ask`] asks the server, over its directory's control socket, which volume it writes and how many
+//! lines of it are on the disk; [`first_lines`] are these lines of what was read since, with the head line before them.
+//!
+//! ```text
+//! if let Some(synced) = ask(&net, alloc, control) {
+//!     let octets = first_lines(&octets, synced.lines + 1);
+//! }
+//! ```
 #![tactic(auto)]
+
+mod asking;
+mod synced;
+mod synced_lines;
 
 ghost use Rattle.std.specs.Prelude.{◌≤◌, ⊤, length, IfOk};
 
-use access_lines::AccessBeside;
-use access_records::{AccessError, AccessText};
+use access_records::{AccessBeside, AccessError, AccessText};
 use archive_files::{FileEnd, JournalFiles, Unreadable};
+pub use asking::ask;
 use std::alloc::{AllocError, Global};
 use std::fs::{self, File};
 use std::io::{self, Error, ErrorKind, Read, Seek, SeekFrom};
 use std::net::Net;
 use std::path::{Path, PathBuf};
-use synced_lines::{Synced, ask, first_lines};
+pub use synced::{Synced, synced_in};
+pub use synced_lines::first_lines;
 
 /// The name of a server's socket in its directory.
 const CONTROL: &str = "control";

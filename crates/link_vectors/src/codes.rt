@@ -1,6 +1,6 @@
 //! Codes of messages.
 
-use link_records::hmac;
+use link_auth::hmac;
 use std::test::Fail;
 
 /// The cases 1 to 4, 6 and 7 of RFC 4231: a key, a message, and its code.

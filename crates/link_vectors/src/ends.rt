@@ -1,6 +1,6 @@
 //! Two ends that share a key.
 
-use link_records::{Heard, Joined, LinkKey, Opening, Side};
+use link_auth::{Heard, Joined, LinkKey, Opening, Side};
 use std::alloc::Global;
 use std::test::Fail;
 

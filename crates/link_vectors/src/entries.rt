@@ -3,8 +3,7 @@
 use crate::ends::{CALLED, CALLER, KEY};
 use binding_rules::{Counter, Role};
 use failover_message::{Frame, FrameKind, encode};
-use link_entry::{Entrant, EntryFault, Keeper, Verdict, Waiting};
-use link_records::{LinkKey, Side};
+use link_auth::{Entrant, EntryFault, Keeper, LinkKey, Side, Verdict, Waiting};
 use std::alloc::Global;
 use std::test::Fail;
 

@@ -1,6 +1,6 @@
 //! Texts that spell a key, and texts that don't.
 
-use link_records::{KeyError, LinkKey};
+use link_auth::{KeyError, LinkKey};
 use std::alloc::Global;
 use std::test::Fail;
 

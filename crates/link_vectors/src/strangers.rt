@@ -1,7 +1,7 @@
 //! Who hasn't the key.
 
 use crate::ends::{CALLED, CALLER, answer, opening, pair, waiting};
-use link_records::{Heard, Joined, LinkFault, LinkKey, Opening, Side};
+use link_auth::{Heard, Joined, LinkFault, LinkKey, Opening, Side};
 use std::test::Fail;
 
 /// Why an end refuses a proof.

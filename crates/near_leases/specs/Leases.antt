@@ -1,7 +1,7 @@
 -- The delegations of addresses of a prefix that lines tell of, round a moment.
 use Rattle.std.specs.Prelude.{◌≡◌, ◌↔◌, ℕ, ◌+◌, ◌≤◌, List, [], ◌∷◌, Option, Some, None, Contains as Has}
 use Rattle.prefix_range.specs.Prefix.{Prefix, Overlaps}
-use Rattle.claims.specs.declared.reference.Ref.{Ref}
+use Rattle.causal_order.specs.declared.reference.Ref.{Ref}
 use Rattle.journal_lines.specs.declared.line.Line.{Line}
 use Rattle.causal_order.specs.Journals.{Journals, Names}
 use Rattle.attribution.specs.declared.delegation.Delegation.{Delegation}

@@ -1,8 +1,8 @@
 //! Asking the server of a directory, by its control socket.
 
 use crate::fault::Fault;
-use control_words::{Answer, Request, Verdict};
 use node_daemon::CONTROL;
+use server_status::{Answer, Request, Verdict};
 use std::alloc::Global;
 use std::io::{Read, Write};
 use std::net::Net;

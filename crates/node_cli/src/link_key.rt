@@ -2,7 +2,7 @@
 
 ghost use Rattle.std.specs.Prelude.{◌≢◌, ◌↔◌, IsTrue, bit_and};
 
-use link_records::{KeyError, LinkKey};
+use link_auth::{KeyError, LinkKey};
 use std::alloc::Global;
 use std::fs::{File, OpenFile};
 use std::io;

@@ -4,7 +4,7 @@ use crate::MOST_OCTETS;
 use crate::advising::advise;
 use crate::fault::Fault;
 use crate::link_key::{KeyRefusal, key_in};
-use link_records::LinkKey;
+use link_auth::LinkKey;
 use node_daemon::{ServeFailure, serve};
 use node_words::Served;
 use serve_settings::{LinkProtection, ServeSettings, ServeSettingsError};

@@ -3,18 +3,18 @@ use Rattle.std.specs.Prelude.{◌≡◌, ℕ, List, [], ◌∷◌, ◌++◌}
 use Rattle.std.proofs.Common.{inl, inr, sym, ◌∙◌, ap, subst}
 use Rattle.binding_rules.specs.declared.role.Role.{Role}
 use Rattle.journal_lines.specs.declared.line.Journal.{Journal}
-use Rattle.torn_disk.specs.Disk.{Call}
-use Rattle.volume_folder.specs.Names.{NameCall, names_after, AreSettled}
-use Rattle.volume_folder.specs.Volumes.{HasSettled}
+use Rattle.disk_model.specs.Disk.{Call}
+use Rattle.disk_model.specs.Names.{NameCall, names_after, AreSettled}
+use Rattle.disk_model.specs.Volumes.{HasSettled}
 use Rattle.open_volume.specs.Spelling.{text_lines}
 use Rattle.open_volume.specs.declared.volume.VolumeSoFar.{VolumeSoFar}
-use Rattle.book_volumes.specs.Volumes.{ended_volume}
-use Rattle.server_run.specs.Live.{LiveState}
-use Rattle.server_run.specs.Going.{so_far}
-use Rattle.server_run.specs.Running.{RunState}
-use Rattle.server_laws.specs.Settling.{IsRolled}
-use Rattle.server_laws.specs.Servers.{IsServers}
-use Rattle.server_laws.specs.Laws.{StaysServers, SettlesKeep, RollsKeep}
+use Rattle.volume_store.specs.Volumes.{ended_volume}
+use Rattle.server_core.specs.Live.{LiveState}
+use Rattle.server_core.specs.Going.{so_far}
+use Rattle.server_core.specs.Running.{RunState}
+use Rattle.server_core.specs.Settling.{IsRolled}
+use Rattle.server_core.specs.Servers.{IsServers}
+use Rattle.server_core.specs.Laws.{StaysServers, SettlesKeep, RollsKeep}
 use Rattle.daemon_parties.specs.Hearing.{HasSameFiles}
 use Rattle.node_daemon.specs.Turning.{Ways, IsTurn, Turns, none, more, HasTurned}
 use Rattle.node_daemon.specs.Lasting.{Keeps, goes_on, rolls, Lasts, at_first, one_more, HasLasted}

@@ -2,7 +2,7 @@
 use Rattle.std.specs.Prelude.{◌≡◌, ℕ, List, [], Option}
 use Rattle.std.proofs.Common.{sym, subst}
 use Rattle.daemon_devices.specs.Giving.{Sent}
-use Rattle.server_run.specs.Running.{RunState}
+use Rattle.server_core.specs.Running.{RunState}
 use Rattle.daemon_parties.specs.Hearing.{MayHear, nothing, HasSameFiles}
 use Rattle.daemon_parties.specs.Saying.{MayStand, SaysOver}
 use Rattle.daemon_parties.proofs.Given.{may_stand, said_nothing}

@@ -2,12 +2,12 @@
 use Rattle.std.specs.Prelude.{ℕ, List, [], ◌∷◌, ◌++◌}
 use Rattle.binding_rules.specs.declared.role.Role.{Role}
 use Rattle.journal_lines.specs.declared.line.Journal.{Journal}
-use Rattle.torn_disk.specs.Disk.{Call}
+use Rattle.disk_model.specs.Disk.{Call}
 use Rattle.open_volume.specs.declared.volume.VolumeSoFar.{VolumeSoFar}
-use Rattle.book_volumes.specs.Volumes.{ended_volume}
-use Rattle.server_run.specs.Running.{RunState}
-use Rattle.server_laws.specs.Servers.{IsServers}
-use Rattle.server_laws.specs.Laws.{StaysServers, RollsServers}
+use Rattle.volume_store.specs.Volumes.{ended_volume}
+use Rattle.server_core.specs.Running.{RunState}
+use Rattle.server_core.specs.Servers.{IsServers}
+use Rattle.server_core.specs.Laws.{StaysServers, RollsServers}
 use Rattle.node_daemon.specs.Turning.{Ways, IsTurn, SinceThen}
 
 -- What a turn keeps of a server's volumes, from where it has heard, over what it has begun, to where its lines are put:

@@ -1,12 +1,12 @@
 -- What a daemon does to a server, its clients and its partner, turn after turn.
 use Rattle.std.specs.Prelude.{◌≡◌, ◌⊎◌, ℕ, List, [], Option}
 use Rattle.daemon_devices.specs.Giving.{Sent}
-use Rattle.served_book.specs.Served.{receipts_in}
+use Rattle.server_core.specs.Served.{receipts_in}
 use Rattle.link_talk.specs.declared.outbox.Handed.{Handed}
-use Rattle.server_run.specs.declared.leaving.HeldAnswer.{HeldAnswer}
-use Rattle.server_run.specs.Running.{RunState}
-use Rattle.server_run.specs.Saying.{AreBacked, handed_of}
-use Rattle.server_laws.specs.Settling.{IsRolled, IsSettled}
+use Rattle.server_core.specs.declared.leaving.HeldAnswer.{HeldAnswer}
+use Rattle.server_core.specs.Running.{RunState}
+use Rattle.server_core.specs.Saying.{AreBacked, handed_of}
+use Rattle.server_core.specs.Settling.{IsRolled, IsSettled}
 use Rattle.daemon_parties.specs.Hearing.{MayHear, HasSameFiles}
 use Rattle.daemon_parties.specs.Saying.{frames_of, SaysOver, MayStand}
 use Rattle.daemon_parties.specs.Telling.{AllLeave}

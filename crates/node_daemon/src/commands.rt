@@ -6,21 +6,20 @@ ghost use Rattle.node_daemon.specs.declared.commands.Refusal.TheVariants.{Memory
 
 use crate::daemon::Daemon;
 use crate::reporting::{standing_of, units_of, volume_of};
-use access_files::AccessKeeper;
 use binding_rules::ServerState;
-use control_words::{Form, Leave, Request};
 use daemon_devices::{Control, Datagrams, Door, Rest};
 use daemon_parties::{Clocks, Moment};
+use disk_files::AccessKeeper;
+use disk_model::Folder;
 use lead_time::Reading;
 use locked_book::ServeError;
 use order_book::Order;
+use server_core::Running;
 use server_notices::Happening;
-use server_run::Running;
-use server_status::{ClockState, Link, Status};
+use server_status::{ClockState, Form, Leave, Link, Request, Status};
 use server_upkeep::{Bar, Roll, Told};
 use std::alloc::AllocError;
 use thiserror::Error;
-use volume_folder::Folder;
 
 /// Why a request is refused.
 #[derive(Clone, Copy, Debug, PartialEq, Eq, Error)]

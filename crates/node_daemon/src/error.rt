@@ -2,7 +2,7 @@
 
 use daemon_parties::HearingError;
 use folder_start::NotRolled;
-use server_run::{EndFault, SettleError};
+use server_core::{EndFault, SettleError};
 use std::io;
 use thiserror::Error;
 

@@ -1,21 +1,19 @@
 //! The daemon of a directory: the system's files, sockets and clocks.
 
 ghost use Rattle.std.specs.Prelude.{◌≡◌, [], ◌∷◌, IfOk};
-ghost use Rattle.volume_folder.specs.Names.{held};
+ghost use Rattle.disk_model.specs.Names.{held};
 
 use crate::daemon::Daemon;
 use crate::error::DaemonError;
 use crate::reporting::head_lines_of;
-use access_files::FolderKeeper;
 use binding_rules::Role;
 use client_limits::{Limiter, Limits};
 use daemon_devices::{ControlSocket, Readiness, SystemDoor, UdpDatagrams, Watched};
 use daemon_parties::{Clients, Clocks, Desk, HearingError, Moment, Partner, SystemClocks};
+use disk_files::{FolderError, FolderKeeper, RealFolder, RealVolumes};
 use folder_start::{Began, Pairing, StartFailure, Started, start};
-use link_entry::Keeper;
-use link_records::{LinkKey, Side};
+use link_auth::{Keeper, LinkKey, Side};
 use order_book::Book;
-use real_files::{FolderError, RealFolder, RealVolumes};
 use serve_settings::ServeSettings;
 use server_notices::{Happening, Log, Watch};
 use server_settings::Settings;

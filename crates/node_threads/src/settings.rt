@@ -2,12 +2,12 @@
 
 ghost use Rattle.std.specs.Prelude.{◌≡◌, ◌≤◌, Some, IfOk, IfSome, IsErrOf};
 ghost use Rattle.toml.specs.Data.{Members};
-ghost use Rattle.settings_text.specs.Document.{IsDocument, named_in};
+ghost use Rattle.server_settings.specs.Document.{IsDocument, named_in};
 ghost use Rattle.server_settings.specs.Settings.{ServerSettings, AreWithin};
 ghost use Rattle.book_state.specs.Places.{AreDisjoint};
 
 use server_book::{OpenError, Settings};
-use settings_text::settings_in;
+use server_settings::settings_in;
 use std::alloc::Global;
 use std::net::SocketAddr;
 use toml::Table;

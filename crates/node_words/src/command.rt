@@ -4,7 +4,7 @@ use crate::error::WordsError;
 use clap::error::ErrorKind;
 use clap::{Arg, ArgAction, ArgMatches, Command as ClapCommand, Error as ClapError};
 use client_service::Partner;
-use control_words::{Form, Leave, PARTNER_STOPPED, Request};
+use server_status::{Form, Leave, PARTNER_STOPPED, Request};
 use std::alloc::{AllocError, Global};
 use text_fields::number_of;
 

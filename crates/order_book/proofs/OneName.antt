@@ -31,7 +31,7 @@ use Rattle.book_state.specs.Effects.{effect, after}
 use Rattle.book_rules.specs.Volumes.{AreSteps, book_after}
 use Rattle.book_rules.proofs.RuleNumbers.{one_number}
 use Rattle.book_state.proofs.Ranges.{within}
-use Rattle.volume_heads.proofs.Settings.{Settings, IsSetting, settings_kept}
+use Rattle.book_rules.proofs.Settings.{Settings, IsSetting, settings_kept}
 use Rattle.book_state.proofs.TableLaws.{disjoint_push}
 use Rattle.order_book.specs.declared.order.Asked.{Asked}
 use Rattle.order_book.specs.declared.order.Order.{Order}

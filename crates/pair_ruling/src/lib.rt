@@ -14,14 +14,30 @@
 //!     Ruled::Refused(ruling) => return ruling_line(alloc, &ruling), // refused K1 Clocks B3
 //! };
 //! ```
+//!
+//! What the desk rules on two journals, found by threads.
+//!
+//! `rule_pair_by` answers what `rule_pair` of `pair_ruling` answers. The rules of both journals, and the notes of their
+//! lines behind them, are found side by side; then one thread merges the two and looks for the first take that is early.
+//! The first refusal in the order of `rule_pair` counts, whatever the others came to.
+//!
+//! ```text
+//! let merged = match rule_pair_by(rt, alloc, &journal_a, &journal_b, skew)? {
+//!     Ruled::Fit(merged) => merged,
+//!     Ruled::Refused(ruling) => return ruling_line(alloc, &ruling), // refused K1 Clocks B3
+//! };
+//! ```
 #![tactic(auto)]
 
 mod clocks;
+mod finding;
 mod pair;
 mod ruling;
+mod threads_ruling;
 mod ties;
 
 pub use clocks::{Clocked, clock_pair, least_text};
 pub use pair::{Ruled, rule_pair};
 pub use ruling::{Ruling, ruling_line, rulings, status_of};
+pub use threads_ruling::rule_pair_by;
 pub use ties::{doubt, warnings};

@@ -39,7 +39,7 @@ use Rattle.book_rules.specs.MessageRules.{IsContactAnswer, TellsUnit}
 use Rattle.book_rules.specs.Rules.{IsStep}
 use Rattle.book_state.specs.Effects.{changed, effect, expired, granted, learned, or_as_was, same_prefix, seized}
 use Rattle.book_state.specs.Effects.{taken_body}
-use Rattle.volume_heads.specs.NextHead.{is_head}
+use Rattle.book_rules.specs.NextHead.{is_head}
 use Rattle.pair_world.specs.UnitWorld.{Entry, Gives, GivesBack, IsAlone, IsGrantable, IsIn, MaySay, Server, UnitSetting}
 use Rattle.pair_world.specs.UnitWorld.{granted as one_granted}
 use Rattle.pair_world.proofs.Books.{Moves, same_prefix_is, same_prefix_self, sent_contact, sent_reply, sent_update}

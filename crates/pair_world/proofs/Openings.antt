@@ -16,7 +16,7 @@ use Rattle.book_state.specs.Book.{BookState, blank}
 use Rattle.book_state.specs.declared.pool.Pool.{Pool}
 use Rattle.book_state.specs.Effects.{after, effect}
 use Rattle.book_rules.specs.Volumes.{book_after}
-use Rattle.volume_heads.specs.NextHead.{lines_from, pool_event, transit_events}
+use Rattle.book_rules.specs.NextHead.{lines_from, pool_event, transit_events}
 use Rattle.server_settings.specs.Settings.{ServerSettings, opening}
 use Rattle.order_book.specs.Replayed.{state_of}
 use Rattle.attribution.specs.Run.{Step}

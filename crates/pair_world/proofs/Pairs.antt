@@ -21,7 +21,7 @@ use Rattle.book_state.specs.Book.{BookState, is_unit}
 use Rattle.book_rules.specs.Rules.{IsStep}
 use Rattle.book_state.specs.declared.pool.Pool.{Pool}
 use Rattle.book_state.specs.Effects.{after, effect, learned, taken_body}
-use Rattle.volume_heads.specs.NextHead.{is_head}
+use Rattle.book_rules.specs.NextHead.{is_head}
 use Rattle.pair_world.specs.UnitWorld.{Entry, Server, UnitSetting}
 use Rattle.pair_world.proofs.BookSteps.{Agrees, IsDownFor, IsFed, MayWrite, step, stopped_after}
 use Rattle.pair_world.proofs.Safety.{Invariant, KnownFrom, moves, passes}

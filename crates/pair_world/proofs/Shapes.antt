@@ -15,7 +15,7 @@ use Rattle.journal_lines.specs.declared.event.Event.{Event}
 use Rattle.journal_lines.specs.declared.event.Lease.{Lease}
 use Rattle.journal_lines.specs.declared.line.Line.{Line}
 use Rattle.book_state.specs.Book.{BookState}
-use Rattle.volume_heads.specs.NextHead.{is_head}
+use Rattle.book_rules.specs.NextHead.{is_head}
 use Rattle.order_book.specs.declared.order.Asked.{Asked}
 use Rattle.order_book.specs.declared.order.Order.TheVariants.{Backup as BackupOrder, Close as CloseOrder}
 use Rattle.order_book.specs.declared.order.Order.TheVariants.{Expire as ExpireOrder, Reclaim as ReclaimOrder}

@@ -12,7 +12,7 @@ use Rattle.journal_lines.specs.declared.event.Event.TheVariants.{Send, Take}
 use Rattle.journal_lines.specs.Close.{is_close, until_close}
 use Rattle.book_rules.specs.Volumes.{AreSteps, book_after}
 use Rattle.book_state.specs.Book.{BookState, blank}
-use Rattle.volume_heads.specs.NextHead.{AreLegal}
+use Rattle.book_rules.specs.NextHead.{AreLegal}
 use Rattle.book_rules.specs.Rules.{IsStep}
 use Rattle.book_rules.specs.declared.rule.Rule.TheVariants.{Sequence}
 use Rattle.book_state.specs.Effects.{after}

@@ -13,7 +13,7 @@ use Rattle.binding_rules.specs.Unit.{status_of}
 use Rattle.binding_rules.specs.Giving.{is_own}
 use Rattle.journal_lines.specs.declared.event.Lease.{Lease}
 use Rattle.book_state.specs.Book.{IsUnit, IsCalm}
-use Rattle.volume_heads.specs.NextHead.{AreLegal}
+use Rattle.book_rules.specs.NextHead.{AreLegal}
 use Rattle.server_settings.specs.Settings.{ServerSettings, AreFit}
 use Rattle.attribution.specs.Run.{lines_of, IsRun, KeepsSkew, StartInTime, IsValidAt, Holds}
 use Rattle.pair_world.specs.declared.event.Event.{Event}

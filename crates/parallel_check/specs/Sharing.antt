@@ -2,7 +2,7 @@
 use Rattle.std.specs.Prelude.{IfSome, ℕ, List, [], ◌∷◌, ◌++◌, All, None}
 use Rattle.std.specs.Int.{w128, to_be_bytes}
 use Rattle.causal_order.specs.Journals.{Journals}
-use Rattle.claims.specs.declared.certificate.Certificate.{Certificate}
+use Rattle.causal_order.specs.declared.certificate.Certificate.{Certificate}
 use Rattle.auditor.specs.Known.{AreOthers}
 use Rattle.parallel_check.specs.declared.sharing.Known.{Known}
 

@@ -16,7 +16,7 @@ use crate::sharing::sharing_of;
 use crate::word::{Ticket, closed, opened};
 use attribution::Verdict;
 use auditor::LineSource;
-use claims::Certificate;
+use causal_order::Certificate;
 use lead_time::{Skew, Transit};
 use std::alloc::Global;
 use std::sync::Wait;

@@ -8,7 +8,7 @@ use crate::gate::Gate;
 use crate::sharing::{Known, others_for};
 use attribution::Verdict;
 use auditor::{LineSource, audit, audit_knowing};
-use claims::Certificate;
+use causal_order::Certificate;
 use lead_time::{Skew, Transit};
 
 /// Certificates over one source, and what is known of other clients for them.

@@ -9,8 +9,7 @@ ghost use Rattle.auditor.specs.Known.{AreOthers};
 ghost use Rattle.parallel_check.specs.Sharing.{IsKnown, AreKnown, asked_by, unknown};
 
 use auditor::{LineSource, others_of};
-use causal_order::Ref;
-use claims::Certificate;
+use causal_order::{Certificate, Ref};
 use client_id::Duid;
 use prefix_range::Prefix;
 use std::alloc::{AllocError, Global};

@@ -4,7 +4,7 @@ use Rattle.std.specs.Prelude.{None, MatchOption, if◌then◌else◌}
 use Rattle.std.proofs.Common.{arith, sym, ◌∙◌, ap, subst, refl, inl, inr}
 use Rattle.std.proofs.lemmas.Bool.Decides.{Decides-eqb}
 use Rattle.journal_lines.specs.declared.event.Lease.{Lease}
-use Rattle.claims.specs.declared.reference.Ref.{Ref}
+use Rattle.causal_order.specs.declared.reference.Ref.{Ref}
 use Rattle.causal_order.specs.Journals.{Journals}
 use Rattle.causal_order.specs.Bounds.{reading_of}
 use Rattle.attribution.specs.Run.{infinity}

@@ -4,7 +4,7 @@ use Rattle.std.specs.Prelude.{MatchOption, All, Contains as Has}
 use Rattle.std.proofs.Common.{arith, sym, subst, refl}
 use Rattle.std.proofs.lemmas.List.Elements.{All-append, Contains-append_left, Contains-append_right}
 use Rattle.prefix_range.specs.Prefix.{Prefix, IsPrefix, HasAddress, Overlaps}
-use Rattle.claims.specs.declared.reference.Ref.{Ref}
+use Rattle.causal_order.specs.declared.reference.Ref.{Ref}
 use Rattle.journal_lines.specs.declared.event.Event.{Event}
 use Rattle.causal_order.specs.Journals.{Journals}
 use Rattle.attribution.specs.Listing.{Concerns, IsListing}

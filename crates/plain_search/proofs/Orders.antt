@@ -6,9 +6,9 @@ use Rattle.binding_rules.specs.declared.role.Role.{Role}
 use Rattle.binding_rules.specs.declared.role.Role.TheVariants.{Primary, Secondary}
 use Rattle.binding_rules.specs.Role.{partner_of}
 use Rattle.journal_lines.specs.declared.line.Line.{Line}
-use Rattle.claims.specs.declared.reference.Ref.{Ref}
-use Rattle.claims.specs.declared.order.Precedes.{Precedes}
-use Rattle.claims.specs.declared.order.Precedes.TheVariants.{Chain, Clock}
+use Rattle.causal_order.specs.declared.reference.Ref.{Ref}
+use Rattle.causal_order.specs.declared.order.Precedes.{Precedes}
+use Rattle.causal_order.specs.declared.order.Precedes.TheVariants.{Chain, Clock}
 use Rattle.causal_order.specs.Journals.{Journals, line_of, Names}
 use Rattle.causal_order.specs.Order.{IsLater, IsChain, EndsWith, Leads, WrittenBy, WrittenFrom, IsSurelyBefore}
 use Rattle.causal_order.specs.Tests.{is_later}

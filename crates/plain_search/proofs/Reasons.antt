@@ -1,9 +1,9 @@
 -- Why other clients' delegations stay out of the interval.
 use Rattle.std.specs.Prelude.{◌≡◌, ℕ, ◌+◌, ◌≤◌, List, [], ◌∷◌, ◌++◌, Some, None, All, Contains as Has}
 use Rattle.std.proofs.Common.{arith, sym, ◌∙◌, subst, refl}
-use Rattle.claims.specs.declared.reference.Ref.{Ref}
-use Rattle.claims.specs.declared.certificate.Foreign.{Foreign}
-use Rattle.claims.specs.declared.certificate.Reason.TheVariants.{Early, Late, Released}
+use Rattle.causal_order.specs.declared.reference.Ref.{Ref}
+use Rattle.causal_order.specs.declared.certificate.Foreign.{Foreign}
+use Rattle.causal_order.specs.declared.certificate.Reason.TheVariants.{Early, Late, Released}
 use Rattle.causal_order.specs.Journals.{Journals}
 use Rattle.causal_order.specs.Bounds.{reading_of}
 use Rattle.attribution.specs.declared.delegation.Delegation.{Delegation}

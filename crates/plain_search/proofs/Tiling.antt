@@ -2,8 +2,8 @@
 use Rattle.std.specs.Prelude.{◌≡◌, ℕ, ◌+◌, ◌<◌, ◌≤◌, List, [], ◌∷◌, ◌++◌, length, All, Contains as Has}
 use Rattle.std.proofs.Common.{arith, sym, ◌∙◌, ap, subst, refl}
 use Rattle.std.proofs.lemmas.List.Sums.{sum_by_push}
-use Rattle.claims.specs.declared.reference.Ref.{Ref}
-use Rattle.claims.specs.declared.certificate.Piece.{Piece}
+use Rattle.causal_order.specs.declared.reference.Ref.{Ref}
+use Rattle.causal_order.specs.declared.certificate.Piece.{Piece}
 use Rattle.causal_order.specs.Journals.{Journals}
 use Rattle.attribution.specs.Acceptance.{Tile}
 use Rattle.plain_search.specs.declared.query.Query.{Query}

@@ -1,7 +1,7 @@
 -- Walks over lines: what is wanted is still left, or done.
 use Rattle.std.specs.Prelude.{◌≡◌, ◌⊎◌, List, [], ◌∷◌, Contains as Has}
 use Rattle.std.proofs.Common.{suc, arith, sym, subst, refl, inl, inr}
-use Rattle.claims.specs.declared.reference.Ref.{Ref}
+use Rattle.causal_order.specs.declared.reference.Ref.{Ref}
 use Rattle.attribution.proofs.Deciding.{has_cases}
 
 -- each line that is wanted is left, or done

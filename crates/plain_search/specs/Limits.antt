@@ -1,8 +1,8 @@
 -- How long a certificate's text is.
 use Rattle.std.specs.Prelude.{ℕ, ◌+◌, List, length}
 use Rattle.std.specs.List.{sum_by}
-use Rattle.claims.specs.declared.certificate.Certificate.{Certificate}
-use Rattle.claims.specs.declared.certificate.Piece.{Piece}
+use Rattle.causal_order.specs.declared.certificate.Certificate.{Certificate}
+use Rattle.causal_order.specs.declared.certificate.Piece.{Piece}
 
 -- the lines of a piece: its own, and one for each release that is cleared
 abbrev pub lines_of_piece : Piece → ℕ

@@ -1,7 +1,7 @@
 //! The pieces that carry an interval.
 
 ghost use Rattle.std.specs.Prelude.{◌≡◌, ◌≤◌, All, IfOk, IsErrOf};
-ghost use Rattle.claims.specs.declared.reference.Ref.{Ref as RefValue};
+ghost use Rattle.causal_order.specs.declared.reference.Ref.{Ref as RefValue};
 ghost use Rattle.attribution.specs.Acceptance.{GivesBack};
 ghost use Rattle.plain_search.specs.Search.{IsPlainEntry, HasEntry, AreEntries, IsReach, AreAllReaches, AreInOrder};
 ghost use Rattle.plain_search.specs.Search.{IsPieceOf, ReachTo, HasGap, ArePiecesOver};
@@ -15,8 +15,7 @@ use crate::reach::{Reach, reaches};
 use crate::sweep::{Passed, farthest, pass};
 use attribution::Delegation;
 use auditor::LineSource;
-use causal_order::{Lines, Ref};
-use claims::{Clear, ClearList, Piece, PieceList, Why};
+use causal_order::{Clear, ClearList, Lines, Piece, PieceList, Ref, Why};
 use lead_time::{Reading, Skew};
 use std::alloc::{AllocError, Global};
 

@@ -2,7 +2,7 @@
 
 ghost use Rattle.std.specs.Prelude.{◌≡◌, ◌↔◌, ℕ, ◌⊎◌, ◌≤◌, ◌<◌, None, Some, MatchOption, IfOk, IfSome, OnOk, not};
 ghost use Rattle.std.specs.Prelude.{Contains as Has};
-ghost use Rattle.claims.specs.declared.reference.Ref.{Ref as RefValue};
+ghost use Rattle.causal_order.specs.declared.reference.Ref.{Ref as RefValue};
 ghost use Rattle.attribution.specs.Acceptance.{GivesBack};
 ghost use Rattle.plain_search.specs.declared.collected.Dated.{Dated as DatedValue};
 ghost use Rattle.plain_search.specs.Collected.{shows_before, AreRising, IsFirstFailing, NoneFails, IsKeptBy};

@@ -1,7 +1,7 @@
 //! What releases leave of a grant, each looked at: where they are few, or their readings don't rise.
 
 ghost use Rattle.std.specs.Prelude.{◌≡◌, ◌↔◌, ℕ, ◌+◌, ◌≤◌, IsTrue, MatchOption};
-ghost use Rattle.claims.specs.declared.reference.Ref.{Ref as RefValue};
+ghost use Rattle.causal_order.specs.declared.reference.Ref.{Ref as RefValue};
 ghost use Rattle.attribution.specs.Acceptance.{GivesBack};
 ghost use Rattle.auditor.specs.Walks.{AreReleases};
 ghost use Rattle.plain_search.specs.Search.{IsReadAt, IsPlainlyBefore, AreKeptTo, IsReturnedBy};

@@ -5,7 +5,7 @@ use crate::foreign::foreign_of;
 use crate::object::Object;
 use crate::pieces::pieces_of;
 use crate::values::{client_of, line_of, prefix_of, text_of, time_of};
-use claims::Certificate;
+use causal_order::Certificate;
 use evidence_report::{Cited, Report, SideReport};
 use journal_text::push_entry;
 use lead_time::Reading;

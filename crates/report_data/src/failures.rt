@@ -5,7 +5,7 @@ use crate::object::Object;
 use crate::values::{client_of, line_of, prefix_of, side_of, time_of};
 use attribution::Delegation;
 use binding_rules::Role;
-use claims::Ref;
+use causal_order::Ref;
 use evidence_report::{Failure, ForeignFault, PieceFault};
 use lead_time::Reading;
 use serde_json::Value;

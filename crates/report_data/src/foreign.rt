@@ -5,7 +5,7 @@ use crate::values::{
     association_of, chain_of, client_of, line_of, mark_of, order_of, prefix_of, time_of,
 };
 use attribution::{Delegation, Lasting};
-use claims::{Chain, Ref};
+use causal_order::{Chain, Ref};
 use evidence_report::{ForeignReport, Mark, OrderReport, Outside, Told};
 use serde_json::Value;
 use std::alloc::{AllocError, Global};

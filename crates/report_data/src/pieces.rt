@@ -4,7 +4,7 @@ use crate::object::Object;
 use crate::values::{
     association_of, chain_of, client_of, line_of, mark_of, order_of, prefix_of, time_of,
 };
-use claims::{Chain, Clear};
+use causal_order::{Chain, Clear};
 use evidence_report::{Cleared, Granted, Mark, OrderReport, PieceReport, ReleaseReport};
 use serde_json::Value;
 use std::alloc::{AllocError, Global};

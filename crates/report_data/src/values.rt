@@ -11,7 +11,7 @@ ghost use Rattle.report_data.specs.Fields.{HasNumber, IsText};
 use crate::object::Object;
 use attribution::push_place;
 use binding_rules::Role;
-use claims::{Chain, Ref};
+use causal_order::{Chain, Ref};
 use client_id::{Duid, Iaid};
 use evidence_report::{Mark, OrderReport};
 use lead_time::Reading;

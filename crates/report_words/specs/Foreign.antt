@@ -1,7 +1,7 @@
 -- What is told of other clients' delegations.
 use Rattle.std.specs.Prelude.{ℕ, ◌+◌, ◌*◌, ◌==◌, if◌then◌else◌, List, [], ◌∷◌, ◌++◌, Option, Some, None}
-use Rattle.claims.specs.declared.reference.Ref.{Ref}
-use Rattle.claims.specs.declared.certificate.Certificate.{Certificate}
+use Rattle.causal_order.specs.declared.reference.Ref.{Ref}
+use Rattle.causal_order.specs.declared.certificate.Certificate.{Certificate}
 use Rattle.attribution.specs.declared.delegation.Lasting.{Lasting}
 use Rattle.attribution.specs.declared.delegation.Lasting.TheVariants.{For, Until}
 use Rattle.evidence_report.specs.declared.mark.Mark.{Mark}

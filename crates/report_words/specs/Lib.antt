@@ -4,3 +4,4 @@ pub mod Pieces
 pub mod Foreign
 pub mod Refusing
 pub mod Whole
+pub mod Reasons

@@ -1,7 +1,7 @@
 -- What is told of the question and its premises.
 use Rattle.std.specs.Prelude.{ℕ, ◌+◌, nat_le, if◌then◌else◌, List, [], ◌∷◌, ◌++◌, Option, Some, None}
 use Rattle.binding_rules.specs.declared.role.Role.{Role}
-use Rattle.claims.specs.declared.certificate.Certificate.{Certificate}
+use Rattle.causal_order.specs.declared.certificate.Certificate.{Certificate}
 use Rattle.evidence_report.specs.declared.report.SideReport.{SideReport}
 use Rattle.report_words.specs.declared.word.Word.TheVariants as word
 use Rattle.report_words.specs.Telling.{Told, heading, paragraph, item}

@@ -3,8 +3,8 @@ use Rattle.std.specs.Prelude.{ℕ, List, [], ◌∷◌, Option, Some, None}
 use Rattle.binding_rules.specs.declared.role.Role.{Role}
 use Rattle.journal_lines.specs.declared.fault.JournalFault.{JournalFault}
 use Rattle.journal_lines.specs.declared.fault.JournalFault.TheVariants as fault
-use Rattle.claims.specs.declared.fault.CertificateFault.{CertificateFault}
-use Rattle.claims.specs.declared.fault.CertificateFault.TheVariants as text
+use Rattle.causal_order.specs.declared.fault.CertificateFault.{CertificateFault}
+use Rattle.causal_order.specs.declared.fault.CertificateFault.TheVariants as text
 use Rattle.book_rules.specs.Rules.{rule_number}
 use Rattle.attribution.specs.declared.verdict.Verdict.{Verdict}
 use Rattle.attribution.specs.declared.verdict.Verdict.TheVariants as verdict

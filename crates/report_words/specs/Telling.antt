@@ -2,7 +2,7 @@
 use Rattle.std.specs.Prelude.{◌≡◌, ℕ, ◌+◌, ◌-◌, nat_le, Bool, true, false, if◌then◌else◌, List, [], ◌∷◌, ◌++◌, map}
 use Rattle.std.specs.Prelude.{Option, Some, None}
 use Rattle.std.specs.List.{filter, flat_map}
-use Rattle.claims.specs.declared.reference.Ref.{Ref}
+use Rattle.causal_order.specs.declared.reference.Ref.{Ref}
 use Rattle.evidence_report.specs.declared.mark.Mark.{Mark}
 use Rattle.evidence_report.specs.declared.mark.OrderReport.{OrderReport}
 use Rattle.evidence_report.specs.declared.mark.OrderReport.TheVariants.{Chain, Clock}

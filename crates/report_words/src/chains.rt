@@ -6,7 +6,7 @@ ghost use Rattle.report_words.specs.declared.word.Word.TheVariants.{Line as Line
 
 use crate::block::{Block, Kind, push_words};
 use crate::word::Word;
-use claims::{Chain, Ref};
+use causal_order::{Chain, Ref};
 use std::alloc::AllocError;
 
 /// What stands before a line of a chain.

@@ -9,7 +9,7 @@ use crate::block::{Block, Kind, Part, push_block};
 use crate::word::Word;
 use attribution::Delegation;
 use binding_rules::Role;
-use claims::Ref;
+use causal_order::Ref;
 use evidence_report::{Failure, ForeignFault, PieceFault};
 use lead_time::Reading;
 use std::alloc::AllocError;

@@ -15,7 +15,7 @@ use crate::pieces::{for_ever, push_endless};
 use crate::sums::{OF_LEASE, by_mark, with_both};
 use crate::word::Word;
 use attribution::Lasting;
-use claims::{Certificate, Chain, Ref};
+use causal_order::{Certificate, Chain, Ref};
 use evidence_report::{ForeignReport, Mark, Outside, Report, Told};
 use journal_lines::Lease;
 use lead_time::{End, Reading, Skew, Transit};

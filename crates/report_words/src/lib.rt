@@ -11,6 +11,16 @@
 //! let explanation = Explanation { ruling, report: Some(report), failure };
 //! let document = document_of(alloc, &explanation)?;
 //! ```
+//!
+//! Why a search for a holder names nobody, in words.
+//!
+//! [`why_blocks`] tells it as blocks of a report (`report_words`): what was asked, why nobody is named, and of each
+//! delegation near the moment from when to when it can be shown, from when to when it may have been, and what is
+//! missing at the moment. Each number stands there with the sum that it comes from.
+//!
+//! ```text
+//! let blocks = why_blocks(alloc, &query, &why, &leases)?;
+//! ```
 #![tactic(auto)]
 
 mod block;
@@ -18,6 +28,7 @@ mod chains;
 mod document;
 mod failures;
 mod foreign;
+mod leases;
 mod moments;
 mod orders;
 mod pieces;
@@ -26,9 +37,11 @@ mod releases;
 mod rule_words;
 mod rulings;
 mod sums;
+mod whole;
 mod word;
 
 pub use block::{Block, Document, Kind, Part, push_block, push_sum};
 pub use document::{Explanation, document_of};
 pub use sums::with_both;
+pub use whole::why_blocks;
 pub use word::Word;

@@ -7,7 +7,7 @@ use crate::block::{Block, Kind, push_block, push_sum};
 use crate::chains::push_chain;
 use crate::sums::{by_mark, less};
 use crate::word::Word;
-use claims::{Chain, Ref};
+use causal_order::{Chain, Ref};
 use evidence_report::Mark;
 use lead_time::{Reading, Skew};
 use std::alloc::AllocError;

@@ -7,7 +7,7 @@ use crate::block::{Block, Kind, push_block};
 use crate::chains::push_chain;
 use crate::moments::{Bound, push_written};
 use crate::word::Word;
-use claims::Ref;
+use causal_order::Ref;
 use evidence_report::OrderReport;
 use lead_time::Skew;
 use std::alloc::AllocError;

@@ -12,7 +12,7 @@ use crate::moments::{push_must, push_no_chain};
 use crate::releases::push_release;
 use crate::sums::{OF_LEASE, by_mark, less, with_both};
 use crate::word::Word;
-use claims::{Piece, Ref};
+use causal_order::{Piece, Ref};
 use evidence_report::{Granted, Mark, PieceReport, ReleaseReport};
 use journal_lines::Lease;
 use lead_time::{Skew, Transit};

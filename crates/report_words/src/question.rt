@@ -8,7 +8,7 @@ ghost use Rattle.report_words.specs.Question.{side_told};
 use crate::block::{Block, Kind, push_block, push_sum};
 use crate::word::Word;
 use binding_rules::Role;
-use claims::Certificate;
+use causal_order::Certificate;
 use evidence_report::SideReport;
 use lead_time::{Reading, Skew, Transit};
 use std::alloc::AllocError;

@@ -9,7 +9,7 @@ use crate::moments::{Bound, push_must, push_written};
 use crate::orders::push_order;
 use crate::pieces::NO_EARLIER;
 use crate::word::Word;
-use claims::{Clear, Piece, Ref};
+use causal_order::{Clear, Piece, Ref};
 use evidence_report::{Cleared, ReleaseReport};
 use lead_time::Skew;
 use std::alloc::AllocError;

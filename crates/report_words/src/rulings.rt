@@ -11,7 +11,7 @@ use crate::word::Word;
 use attribution::Verdict;
 use binding_rules::Role;
 use book_rules::Rule;
-use claims::{CertificateFault, Ref};
+use causal_order::{CertificateFault, Ref};
 use journal_lines::JournalFault;
 use pair_ruling::Ruling;
 use std::alloc::AllocError;

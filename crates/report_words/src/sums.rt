@@ -6,7 +6,7 @@ ghost use Rattle.report_words.specs.declared.word.Word.TheVariants as word;
 
 use crate::block::Part;
 use crate::word::Word;
-use claims::Ref;
+use causal_order::Ref;
 use evidence_report::Mark;
 use lead_time::{Skew, Transit};
 

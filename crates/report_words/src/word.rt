@@ -1,7 +1,7 @@
 //! The words of a report.
 
 use binding_rules::Role;
-use claims::Ref;
+use causal_order::Ref;
 use client_id::{Duid, Iaid};
 use journal_lines::Line;
 use prefix_range::Prefix;

@@ -5,8 +5,8 @@ ghost use Rattle.router_options.specs.Choosing.{is_asked, is_due, chosen};
 
 use crate::options::{INFORMATION_REFRESH, PREFERENCE, UNICAST};
 use crate::ready::{OptionList, ReadyOption};
-use lists::Listed;
 use std::alloc::{AllocError, Global};
+use text_fields::Listed;
 
 /// What an answer answers.
 #[derive(Clone, Copy, Debug, PartialEq, Eq)]

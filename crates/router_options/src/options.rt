@@ -10,8 +10,8 @@ use crate::error::OptionsError;
 use crate::name::DomainName;
 use crate::ready::{OptionList, ReadyOption};
 use byteorder::{BigEndian, ByteOrder};
-use lists::Listed;
 use std::alloc::{AllocError, Global};
+use text_fields::Listed;
 
 /// The option codes (RFC 8415, sections 21.8, 21.12 and 21.23; RFC 3646; RFC 4075).
 pub(crate) const PREFERENCE: u16 = 7;

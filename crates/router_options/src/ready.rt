@@ -2,9 +2,9 @@
 
 ghost use Rattle.std.specs.Prelude.{◌≡◌, ◌≤◌, length, IfOk, IfSome, None, ◌↔◌, ◌<◌};
 
-use lists::Listed;
 use std::alloc::{AllocError, Global};
 use std::marker::Model;
+use text_fields::Listed;
 
 /// The most octets of an option's data (RFC 8415, section 21.1).
 const MAX_DATA: usize = 65_535;

@@ -6,7 +6,7 @@ use Rattle.toml.specs.Data.{Data, Members, get_member, as_integer, as_bool, as_s
 use Rattle.text_fields.specs.Parsing.{◌>>=◌}
 use Rattle.book_state.specs.Places.{AreDisjoint}
 use Rattle.server_settings.specs.Settings.{ServerSettings, AreWithin}
-use Rattle.settings_text.specs.Document.{IsDocument, named_in}
+use Rattle.server_settings.specs.Document.{IsDocument, named_in}
 use Rattle.server_upkeep.specs.Upkeep.{Limits}
 use Rattle.server_settings.specs.declared.error.OpenError.{OpenError}
 use Rattle.server_settings.specs.declared.error.OpenError.TheVariants.{Overlap, Memory as NoMemory}

@@ -13,7 +13,7 @@ use toml::{Table, Value};
 /// What protects the partners' link from strangers.
 #[derive(Debug, Drop)]
 pub enum LinkProtection {
-    /// A key that both servers have: this file spells it (`link_records`). The path goes from the settings' directory
+    /// A key that both servers have: this file spells it (`link_auth`). The path goes from the settings' directory
     /// on.
     KeyFile(String),
     /// Another layer lets nobody but the partner reach the port.

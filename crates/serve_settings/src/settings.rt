@@ -3,7 +3,7 @@
 ghost use Rattle.std.specs.Prelude.{◌≡◌, ◌⊎◌, IfOk, IfErr, MatchResult};
 ghost use Rattle.toml.specs.Data.{Members};
 ghost use Rattle.toml.specs.View.{table_view};
-ghost use Rattle.settings_text.specs.Document.{IsDocument};
+ghost use Rattle.server_settings.specs.Document.{IsDocument};
 ghost use Rattle.serve_settings.specs.Serving.{IsServed, IsNodeRefusal, IsRefusal};
 ghost use Rattle.serve_settings.specs.Serving.{HasPartnerOrIsAlone, IsProtected, IsPartnerFault, IsKeyFault, has_none};
 ghost use Rattle.manner_settings.specs.Keys.{IsManner};

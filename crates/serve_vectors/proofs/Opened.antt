@@ -1,6 +1,6 @@
 -- A folder that was just opened.
 use Rattle.std.proofs.Common.{◌≡◌, ℕ, List, [], ◌∷◌, refl, sym, subst, ap}
-use Rattle.volume_folder.specs.Names.{NameCall, held, names_after, AreSettled}
+use Rattle.disk_model.specs.Names.{NameCall, held, names_after, AreSettled}
 
 pub held_is_settled : (calls : List NameCall) (n : ℕ) → calls ≡ held n ∷ [] → AreSettled calls
 held_is_settled calls n is = subst AreSettled (sym is) (record { usable = refl; sure = refl; most = refl })

@@ -3,11 +3,11 @@
 use crate::clients::Told;
 use crate::server::Server;
 use binding_rules::{PartnerMessage, Role};
-use book_recovery::{FoundBook, recover};
 use journal_lines::{Event, Head, Volume};
 use order_book::Book;
 use std::alloc::Global;
 use std::test::Fail;
+use volume_store::{FoundBook, recover};
 
 /// How the volume at a place begins.
 fn head_at(place: usize) -> Option<Head> {

@@ -6,7 +6,7 @@ use binding_rules::Role;
 use lead_time::Reading;
 use std::alloc::Global;
 use std::test::Fail;
-use test_settings::pair_settings;
+use test_support::pair_settings;
 
 /// The settings of both, whose pool has sixteen units.
 const PRIMARY: &str = pair_settings!("primary", "2001:db8::/52");

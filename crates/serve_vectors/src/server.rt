@@ -3,23 +3,22 @@
 use crate::clients::{Told, request};
 use crate::disk::{Disk, Loss};
 use crate::folder::{DiskFolder, SharedDisk};
-use admission::Everything;
+use client_service::Everything;
+use disk_model::Folder;
 use failover_message::encode;
 use folder_start::{NotRolled, Pairing, StartFailure, Started, start};
 use lead_time::Reading;
 use link_talk::{Came, Handed, Stage};
 use order_book::Order;
 use server_book::Manner;
-use server_run::{Heard, HeldAnswer, Leaving, RollFault, Running, Settled};
-use server_settings::Settings;
+use server_core::{Heard, HeldAnswer, Leaving, RollFault, Running, Settled};
+use server_settings::{Settings, read_settings};
 use server_start::StartError;
-use settings_text::read_settings;
 use std::alloc::Global;
 use std::cell::RefCell;
 use std::mem;
 use std::rc::Rc;
 use std::test::Fail;
-use volume_folder::Folder;
 
 /// How many units the pool has.
 const UNITS: usize = 16;

@@ -3,7 +3,7 @@
 //! `order_of` takes the order of each IA_PD out of a client's message, and `answer_of` makes the message that answers
 //! it in a server's [`Manner`], of what became of each (specs/Messages, specs/Manner); `information_answer` answers a
 //! request for options alone. The book that does what is ordered is that of `order_book`, its
-//! settings are those of `server_settings` and `settings_text`: this crate hands their items on, so that who serves
+//! settings are those of `server_settings`: this crate hands their items on, so that who serves
 //! clients names one crate.
 //!
 //! ```text
@@ -18,5 +18,4 @@ mod messages;
 pub use manner::{AddressRule, Manner, RebindUnknown};
 pub use messages::{IaAnswer, answer_of, information_answer, order_of};
 pub use order_book::{Asked, Book, BookError, Order, Reply, answer_is_one, opening_is_legal};
-pub use server_settings::{OpenError, Settings};
-pub use settings_text::read_settings;
+pub use server_settings::{OpenError, Settings, read_settings};

@@ -4,9 +4,9 @@ ghost use Rattle.std.specs.Prelude.{◌≡◌, [], IfOk};
 ghost use Rattle.server_book.specs.Manner.{plain, has_options, hides, occasion_of, refused_addresses};
 
 use dhcp6_pd::{ClientKind, ClientMessage, IaidList};
-use lists::Listed;
 use router_options::{Occasion, OptionList};
 use std::alloc::{AllocError, Global};
+use text_fields::Listed;
 
 /// What a server says of an IA_PD of a REBIND that it has no binding for.
 #[derive(Clone, Copy, Debug, PartialEq, Eq)]

@@ -11,11 +11,11 @@ use dhcp6_pd::{
     ClientKind, ClientMessage, IaPart, IaPd, IaReply, IaReplyAnswer, InformationRequest, Relay,
     RelayId, RelayList, ServerKind, ServerMessage,
 };
-use lists::Listed;
 use order_book::{Asked, BookError, Order};
 use prefix_range::Prefix;
 use router_options::{Occasion, chosen};
 use std::alloc::{AllocError, Global};
+use text_fields::Listed;
 
 /// The outcome of one IA_PD of a client's message.
 #[derive(Clone, Copy, Debug, PartialEq, Eq)]

@@ -9,7 +9,7 @@ use Rattle.journal_lines.specs.declared.line.Journal.{Journal}
 use Rattle.book_state.specs.declared.pool.Pool.{Pool}
 use Rattle.book_state.specs.Book.{units_in}
 use Rattle.book_state.specs.Places.{IsPool, AreDisjoint}
-use Rattle.volume_heads.specs.NextHead.{pool_event, transit_events, lines_from}
+use Rattle.book_rules.specs.NextHead.{pool_event, transit_events, lines_from}
 
 pub record ServerSettings : Type 0 where
   pub role : Role

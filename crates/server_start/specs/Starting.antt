@@ -9,9 +9,9 @@ use Rattle.order_book.specs.declared.order.Order.TheVariants.{Restart}
 use Rattle.order_book.specs.Replayed.{state_of, with_line}
 use Rattle.order_book.specs.Answer.{reading_of, next_line, IsFirstRefusal}
 use Rattle.order_book.specs.NextBook.{MayRoll}
-use Rattle.folder_recovery.specs.declared.step.NextStep.{NextStep}
-use Rattle.folder_recovery.specs.declared.step.NextStep.TheVariants.{BeginFirst, GoOn as GoOnWith, BeginNext}
-use Rattle.folder_recovery.specs.declared.step.NextStep.TheVariants.{End as EndOf}
+use Rattle.volume_store.specs.declared.step.NextStep.{NextStep}
+use Rattle.volume_store.specs.declared.step.NextStep.TheVariants.{BeginFirst, GoOn as GoOnWith, BeginNext}
+use Rattle.volume_store.specs.declared.step.NextStep.TheVariants.{End as EndOf}
 use Rattle.server_start.specs.declared.setting.Setting.{Setting}
 use Rattle.server_start.specs.declared.error.StartError.{StartError}
 use Rattle.server_start.specs.declared.error.StartError.TheVariants.{Settings, ClockBehind, NoVolumeFollows, Refused}

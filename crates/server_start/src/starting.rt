@@ -10,23 +10,23 @@ use crate::clock::reading_ahead;
 use crate::error::StartError;
 use crate::opening::opening_of;
 use crate::setting::Differing;
-use folder_recovery::NextStep;
 use lead_time::Reading;
 use order_book::{Book, BookError, Order};
 use server_settings::Settings;
 use std::alloc::Global;
+use volume_store::NextStep;
 
 /// What a server does at its start.
 #[derive(Drop)]
 pub enum Start {
-    /// Nobody was told of any volume: the first book is opened now (`book_volumes::begin_first`).
+    /// Nobody was told of any volume: the first book is opened now (`volume_store::begin_first`).
     First,
     /// This book goes on: its last line is `restart`, which its file lacks.
     GoOn(Book),
-    /// This closed book's volume lacks its end line: it is ended and followed (`book_volumes::roll`), and the next
+    /// This closed book's volume lacks its end line: it is ended and followed (`volume_store::roll`), and the next
     /// one's first order is `restart`.
     End(Book),
-    /// This closed book's volume has ended: it is followed (`book_volumes::begin_next`), and the next one's first order
+    /// This closed book's volume has ended: it is followed (`volume_store::begin_next`), and the next one's first order
     /// is `restart`.
     Next(Book),
 }

@@ -1,1 +1,3 @@
+mod Answers
+mod Requests
 mod Summing

@@ -16,8 +16,8 @@ use Rattle.server_settings.specs.Settings.{ServerSettings, settings_of, AreWithi
 use Rattle.book_state.specs.declared.pool.Pool.{Pool}
 use Rattle.book_state.specs.Book.{units_in}
 use Rattle.book_state.specs.Places.{IsPool}
-use Rattle.settings_text.specs.Document.{role_of, prefix_of, up_to, text_at, number_at, role_in, duid_in, transit_by}
-use Rattle.settings_text.specs.Document.{transit_in, pool_of, pools_of, pools_in as named_pools, named_in}
+use Rattle.server_settings.specs.Document.{role_of, prefix_of, up_to, text_at, number_at, role_in, duid_in, transit_by}
+use Rattle.server_settings.specs.Document.{transit_in, pool_of, pools_of, pools_in as named_pools, named_in}
 use Rattle.settings_advice.specs.declared.key.Key.{Key}
 use Rattle.settings_advice.specs.declared.key.Key.TheVariants.{Role, Duid, SkewMs, Mclt, Life, TransitMs}
 use Rattle.settings_advice.specs.declared.key.Key.TheVariants.{Prefix as PrefixKey, Unit, Pool as PoolKey}

@@ -3,7 +3,7 @@ use Rattle.std.specs.Prelude.{◌≡◌, ⊤, ℕ, ◌+◌, List, [], ◌∷◌,
 use Rattle.toml.specs.Data.{Data, Items, no_items, item, Members, no_members, get_member, as_array, as_table}
 use Rattle.text_fields.specs.Parsing.{◌>>=◌}
 use Rattle.prefix_range.specs.Prefix.{Prefix, IsPrefix}
-use Rattle.settings_text.specs.Document.{prefix_of, text_at}
+use Rattle.server_settings.specs.Document.{prefix_of, text_at}
 use Rattle.settings_advice.specs.declared.key.Key.TheVariants.{Prefix as PrefixKey, Unit}
 use Rattle.settings_advice.specs.declared.wish.Wording.TheVariants.{Range}
 use Rattle.settings_advice.specs.declared.wish.Wish.TheVariants.{Text, Number}

@@ -5,7 +5,7 @@ use Rattle.toml.specs.Data.{Members}
 use Rattle.server_settings.specs.Settings.{ServerSettings, AreFit}
 use Rattle.book_state.specs.Book.{units_in}
 use Rattle.book_state.specs.Places.{AreDisjoint}
-use Rattle.settings_text.specs.Document.{named_in}
+use Rattle.server_settings.specs.Document.{named_in}
 use Rattle.settings_advice.specs.declared.key.Key.TheVariants.{Listen, Link, Workers}
 use Rattle.settings_advice.specs.declared.wish.Wording.TheVariants.{Address}
 use Rattle.settings_advice.specs.declared.wish.Wish.TheVariants.{Text, Number}

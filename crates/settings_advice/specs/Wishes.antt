@@ -6,7 +6,7 @@ use Rattle.toml.specs.Data.{Data, Items, no_items, item, Members, get_member, as
 use Rattle.prefix_range.specs.Prefix.{Prefix}
 use Rattle.client_id.specs.Duid.{duid_word}
 use Rattle.binding_rules.specs.declared.role.Role.{Role}
-use Rattle.settings_text.specs.Document.{role_of, prefix_of}
+use Rattle.server_settings.specs.Document.{role_of, prefix_of}
 use Rattle.settings_advice.specs.declared.key.Key.{Key}
 use Rattle.settings_advice.specs.declared.key.Key.TheVariants.{Role as RoleKey, Duid, SkewMs, Mclt, Life, TransitMs}
 use Rattle.settings_advice.specs.declared.key.Key.TheVariants.{Listen, Link, Workers, Pool}

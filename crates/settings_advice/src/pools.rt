@@ -12,12 +12,12 @@ use crate::complaint::{Complaint, Place};
 use crate::key::Key;
 use crate::wish::{Wanted, Wish, Wording};
 use prefix_range::Prefix;
-use settings_text::prefix_of;
+use server_settings::prefix_of;
 use std::alloc::{AllocError, Global};
 use toml::{Table, Value};
 
 /// Returns the prefix that a pool names, if it names one.
-#[tactic(auto, unfolding(crate::specs::Pools::prefix_in, settings_text::specs::Document::text_at))]
+#[tactic(auto, unfolding(crate::specs::Pools::prefix_in, server_settings::specs::Document::text_at))]
 fn prefix_in(table: &Table) -> Option<Prefix>
     ensures { Finds (λ p. p) result (prefix_in (table_view table.now)) }
 {

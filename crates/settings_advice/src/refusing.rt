@@ -7,8 +7,7 @@ ghost use Rattle.settings_advice.specs.Refusing.{AreAll, AreNamed, IsClash, AreR
 use crate::asking::{add_complaints, wishes};
 use crate::complaint::{Complaint, Place};
 use crate::pools::add_of_pools;
-use server_settings::OpenError;
-use settings_text::settings_in;
+use server_settings::{OpenError, settings_in};
 use std::alloc::{AllocError, Global};
 use std::fmt;
 use std::fmt::Write;

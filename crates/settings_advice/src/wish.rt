@@ -6,7 +6,7 @@ ghost use Rattle.settings_advice.specs.Wishes.{Spells, IsText, IsTextFault, IsNu
 ghost use Rattle.settings_advice.specs.Wishes.{IsCount, IsCountFault, AreTables, AreTablesFault, Meets, IsFault};
 
 use crate::key::Key;
-use settings_text::{duid_of, prefix_of, role_of};
+use server_settings::{duid_of, prefix_of, role_of};
 use std::fmt;
 use std::fmt::Write;
 use std::net::SocketAddr;

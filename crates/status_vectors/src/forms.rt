@@ -1,7 +1,7 @@
 //! What is written of a status.
 
 use crate::statuses::{serving, waiting};
-use control_words::Form;
+use server_status::Form;
 use std::test::Fail;
 
 const SERVING_LINES: &str = "\

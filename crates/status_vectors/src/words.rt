@@ -1,6 +1,6 @@
 //! What goes over a control socket.
 
-use control_words::{Answer, Form, Leave, Request, Verdict};
+use server_status::{Answer, Form, Leave, Request, Verdict};
 use std::test::Fail;
 
 const REQUESTS: [(&str, Request); 8] = [

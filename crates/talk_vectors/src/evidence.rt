@@ -5,7 +5,7 @@ use crate::servers::Server;
 use attribution::Verdict;
 use auditor::{PlainSource, audit_bytes};
 use binding_rules::Role;
-use claims::Certificate;
+use causal_order::Certificate;
 use client_id::Duid;
 use evidence_search::{FindError, find_certificate};
 use journal_text::{read, write, written_is_closed};

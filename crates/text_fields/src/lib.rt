@@ -12,9 +12,11 @@
 #![tactic(auto)]
 
 mod cuts;
+mod lists;
 mod number;
 mod octets;
 
 pub use cuts::Cuts;
+pub use lists::Listed;
 pub use number::{number_of, push_number};
 pub use octets::{is_hex, octet_of, octets_of, push_octets};

@@ -2,7 +2,7 @@ use Rattle.std.specs.Prelude.{IfOk}
 use Rattle.std.proofs.Common.{ℕ, List, Result, Ok, Err, sym, subst, refl}
 use Rattle.journal_archive.specs.declared.answer.Pair.{Pair}
 use Rattle.journal_archive.specs.declared.archive.Archive.{Archive}
-use Rattle.journal_copy.specs.declared.pair.ShownPair.{ShownPair}
+use Rattle.journal_archive.specs.declared.pair.ShownPair.{ShownPair}
 use Rattle.archive_files.specs.declared.error.FilesError.{FilesError}
 use Rattle.archive_files.specs.declared.showing.Shown.{Shown}
 use Rattle.archive_files.specs.declared.showing.Shown.TheVariants.{Journals}

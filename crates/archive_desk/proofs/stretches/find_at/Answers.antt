@@ -3,7 +3,7 @@ use Rattle.std.proofs.Common.{ℕ, List, Result, Ok, Err, Option, sym, ap, subst
 use Rattle.plain_search.specs.declared.query.Query.{Query}
 use Rattle.journal_archive.specs.declared.answer.Pair.{Pair}
 use Rattle.journal_archive.specs.declared.archive.Archive.{Archive}
-use Rattle.journal_copy.specs.declared.pair.ShownPair.{ShownPair}
+use Rattle.journal_archive.specs.declared.pair.ShownPair.{ShownPair}
 use Rattle.archive_files.specs.declared.error.FilesError.{FilesError}
 use Rattle.archive_files.specs.declared.showing.Shown.{Shown}
 use Rattle.archive_files.specs.declared.showing.Shown.TheVariants.{Journals}

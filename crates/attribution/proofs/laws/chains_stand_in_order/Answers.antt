@@ -1,4 +1,4 @@
-use Rattle.volume_heads.specs.NextHead.{AreLegal}
+use Rattle.book_rules.specs.NextHead.{AreLegal}
 use Rattle.attribution.proofs.Lawful.{lawful}
 use Rattle.attribution.proofs.Headline.{chains_stand_in_order}
 use Rattle.attribution.proofs.laws.chains_stand_in_order.Goals as goal

@@ -1,4 +1,4 @@
-use Rattle.volume_heads.specs.NextHead.{AreLegal}
+use Rattle.book_rules.specs.NextHead.{AreLegal}
 use Rattle.attribution.proofs.Lawful.{lawful}
 use Rattle.attribution.proofs.Headline.{late_after_close}
 use Rattle.attribution.proofs.laws.late_after_close.Goals as goal

@@ -1,4 +1,4 @@
-use Rattle.volume_heads.specs.NextHead.{AreLegal}
+use Rattle.book_rules.specs.NextHead.{AreLegal}
 use Rattle.attribution.proofs.Lawful.{lawful}
 use Rattle.attribution.proofs.Closing.{closes_behind}
 use Rattle.attribution.proofs.Snapshot.{snapshots_true, snapshots_true_of}

@@ -2,7 +2,7 @@ use Rattle.std.proofs.Common.{[]}
 use Rattle.std.specs.Prelude.{◌≡◌, ℕ, List, Result, Ok, Err, IfOk}
 use Rattle.attribution_desk.specs.Answer.{IsAnswerOf, IsDeskAnswer}
 use Rattle.attribution_desk.specs.declared.answer.Answer.{Answer}
-use Rattle.desk_intake.specs.declared.error.DeskError.{DeskError}
+use Rattle.attribution_desk.specs.declared.error.DeskError.{DeskError}
 use Rattle.attribution_desk.specs.Headline.{IsTrueOfTexts}
 use Rattle.attribution_desk.proofs.AllRead.{of_input}
 use Rattle.attribution_desk.proofs.Headline.{answer_true}

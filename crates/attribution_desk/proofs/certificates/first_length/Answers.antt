@@ -1,6 +1,6 @@
 use Rattle.std.proofs.Common.{◌≤◌, ◌++◌, length, take, [], subst}
 use Rattle.std.specs.Prelude.{MatchOption, IfSome}
-use Rattle.desk_intake.specs.Intake.{IsWholeText, TextGoesOn}
+use Rattle.attribution_desk.specs.Intake.{IsWholeText, TextGoesOn}
 use Rattle.attribution_desk.proofs.Batches.{goes_on_from_none, length_of_whole, length_of_all}
 use Rattle.attribution_desk.proofs.certificates.first_length.Goals as goal
 

@@ -2,7 +2,7 @@ use Rattle.std.proofs.Common.{arith, ◌≡◌, ◌<◌, ◌++◌, [], length, s
 use Rattle.std.proofs.lemmas.Bool.Decides.{nat_tests}
 use Rattle.attribution_desk.specs.Batch.{AreTexts}
 use Rattle.attribution_desk.specs.Claims.{texts_of}
-use Rattle.desk_intake.proofs.Lines.{text_within}
+use Rattle.attribution_desk.proofs.Lines.{text_within}
 use Rattle.attribution_desk.proofs.Batches.{some_text, none_left, one_text, one_claim}
 use Rattle.attribution_desk.proofs.certificates.texts_in.Goals as goal
 

@@ -2,7 +2,7 @@ use Rattle.std.proofs.Common.{[], subst}
 use Rattle.binding_rules.specs.declared.role.Role.TheVariants.{Primary, Secondary}
 use Rattle.std.specs.Io.KnownBytes.{Appends}
 use Rattle.attribution_desk.specs.Searching.{IsPairTold, IsSearchTold}
-use Rattle.desk_intake.proofs.Intakes.{parsed_closed}
+use Rattle.attribution_desk.proofs.Intakes.{parsed_closed}
 use Rattle.attribution_desk.proofs.AllRead.{written, of_pair}
 use Rattle.attribution_desk.proofs.searching.search_input.Goals as goal
 

@@ -1,6 +1,6 @@
 use Rattle.std.proofs.Common.{subst}
 use Rattle.attribution.specs.FirstRefusal.{IsVerdict}
-use Rattle.volume_heads.specs.NextHead.{AreLegal}
+use Rattle.book_rules.specs.NextHead.{AreLegal}
 use Rattle.attribution.proofs.Refusals.{accepted_from}
 use Rattle.attribution.proofs.Lawful.{lawful}
 use Rattle.attribution.proofs.Headline.{headline}

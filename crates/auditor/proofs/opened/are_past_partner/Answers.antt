@@ -1,7 +1,7 @@
 use Rattle.std.specs.Prelude.{◌≡◌, List, Some, slice_get}
 use Rattle.std.proofs.Common.{arith, ap, length, subst, refl}
 use Rattle.std.proofs.lemmas.Option.{slice_get_read}
-use Rattle.claims.specs.declared.certificate.Piece.{Piece}
+use Rattle.causal_order.specs.declared.certificate.Piece.{Piece}
 use Rattle.attribution.specs.Acceptance.{IsPastPartner}
 use Rattle.auditor.proofs.Tiling.{one_more, holds_of_all}
 use Rattle.auditor.proofs.opened.are_past_partner.Goals as goal

@@ -1,7 +1,7 @@
 use Rattle.std.proofs.Common.{rules, arith, ap, length, subst, refl, List, ◌≡◌, Some}
 use Rattle.std.specs.Prelude.{slice_get}
 use Rattle.std.proofs.lemmas.Option.{slice_get_read}
-use Rattle.claims.specs.declared.certificate.Piece.{Piece}
+use Rattle.causal_order.specs.declared.certificate.Piece.{Piece}
 use Rattle.auditor.proofs.Tiling.{next_in_place, gap_past_last, gap_of_none}
 use Rattle.auditor.proofs.pieces.first_gap.Goals as goal
 use Rattle.auditor.proofs.pieces.first_gap.Goals.{then-is_empty-via-then-is_empty}

@@ -1,6 +1,6 @@
 use Rattle.std.specs.Prelude.{MatchOption}
 use Rattle.std.proofs.Common.{subst}
-use Rattle.claims.specs.declared.reference.Ref.{Ref}
+use Rattle.causal_order.specs.declared.reference.Ref.{Ref}
 use Rattle.attribution.specs.declared.delegation.Delegation.{Delegation}
 use Rattle.causal_order.specs.LineOrder.{IsLeast}
 use Rattle.auditor.specs.Refusals.{CutsLeaseShort}

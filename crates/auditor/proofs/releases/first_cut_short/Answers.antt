@@ -1,7 +1,7 @@
 use Rattle.std.specs.Prelude.{slice_get}
 use Rattle.std.proofs.Common.{arith, ap, length, subst, refl, List, ◌≡◌, Some}
 use Rattle.std.proofs.lemmas.Option.{slice_get_read}
-use Rattle.claims.specs.declared.certificate.Piece.{Piece}
+use Rattle.causal_order.specs.declared.certificate.Piece.{Piece}
 use Rattle.attribution.specs.Acceptance.{IsDischarged}
 use Rattle.auditor.proofs.Tiling.{one_more, all_held}
 use Rattle.auditor.proofs.releases.first_cut_short.Goals as goal

@@ -1,6 +1,6 @@
 use Rattle.text_fields.specs.Cuts.{behind}
 use Rattle.text_fields.proofs.Appending.{pushed}
-use Rattle.claims.specs.declared.certificate.Reason.TheVariants.{Released}
+use Rattle.causal_order.specs.declared.certificate.Reason.TheVariants.{Released}
 use Rattle.certificate.specs.Spelling.{latest_words, reason_words}
 use Rattle.certificate.proofs.Texts.{release_words, released_spelled}
 use Rattle.certificate.proofs.writing.add_released.Goals as goal

@@ -1,5 +1,5 @@
 use Rattle.std.proofs.Common.{sym, subst, ap, ◌∙◌, Ok, Err}
-use Rattle.admission.specs.declared.permit.Permit.TheVariants.{Ordered}
+use Rattle.client_service.specs.declared.permit.Permit.TheVariants.{Ordered}
 use Rattle.client_service.specs.Ending.{EndsAs, Seizes}
 use Rattle.client_service.proofs.Orders.{once_more, stays, ends_strange}
 use Rattle.client_service.proofs.ordering.at_last.Goals as goal

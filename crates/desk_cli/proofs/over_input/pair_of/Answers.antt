@@ -1,6 +1,6 @@
 use Rattle.std.proofs.Common.{[]}
 use Rattle.binding_rules.specs.declared.role.Role.TheVariants.{Primary, Secondary}
-use Rattle.desk_intake.proofs.Intakes.{parsed_closed}
+use Rattle.attribution_desk.proofs.Intakes.{parsed_closed}
 use Rattle.desk_cli.proofs.over_input.pair_of.Goals as goal
 
 pub returns-clause-primary_closed : goal.returns-clause-primary_closed

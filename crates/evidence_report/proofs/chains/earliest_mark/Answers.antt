@@ -1,6 +1,6 @@
 use Rattle.std.specs.Prelude.{Some}
 use Rattle.std.proofs.Common.{sym, ◌∙◌, ap, subst}
-use Rattle.claims.specs.declared.reference.Ref.{Ref}
+use Rattle.causal_order.specs.declared.reference.Ref.{Ref}
 use Rattle.causal_order.specs.Order.{IsChain}
 use Rattle.causal_order.specs.Tests.{first_of_chain, last_of_chain}
 use Rattle.evidence_report.proofs.Marks.{earliest_shown, none_to_empty, none_to_other}

@@ -1,6 +1,6 @@
 use Rattle.std.specs.Prelude.{List}
 use Rattle.std.proofs.Common.{subst}
-use Rattle.claims.specs.declared.reference.Ref.{Ref}
+use Rattle.causal_order.specs.declared.reference.Ref.{Ref}
 use Rattle.evidence_report.specs.Cited.{AreFound}
 use Rattle.evidence_report.proofs.Lookup.{cited_once}
 use Rattle.evidence_report.proofs.citing.cited_lines.Goals as goal

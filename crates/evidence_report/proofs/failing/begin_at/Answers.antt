@@ -1,7 +1,7 @@
 use Rattle.std.specs.Prelude.{◌≡◌, ◌-◌, List, Some, slice_get}
 use Rattle.std.proofs.Common.{arith, length, subst, refl}
 use Rattle.std.proofs.lemmas.Option.{slice_get_read}
-use Rattle.claims.specs.declared.certificate.Piece.{Piece}
+use Rattle.causal_order.specs.declared.certificate.Piece.{Piece}
 use Rattle.evidence_report.proofs.Refusing.{begins_behind}
 use Rattle.evidence_report.proofs.failing.begin_at.Goals as goal
 

@@ -1,5 +1,5 @@
 use Rattle.std.specs.Prelude.{ℕ}
-use Rattle.claims.specs.declared.certificate.Certificate.{Certificate}
+use Rattle.causal_order.specs.declared.certificate.Certificate.{Certificate}
 use Rattle.causal_order.specs.Journals.{Journals}
 use Rattle.attribution.specs.Acceptance.{IsPastPartner}
 use Rattle.auditor.proofs.Tiling.{HaveHeld}

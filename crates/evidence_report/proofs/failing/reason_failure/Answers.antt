@@ -1,7 +1,7 @@
 use Rattle.std.specs.Prelude.{◌≡◌, List, Some, slice_get}
 use Rattle.std.proofs.Common.{arith, ap, length, subst, refl}
 use Rattle.std.proofs.lemmas.Option.{slice_get_read}
-use Rattle.claims.specs.declared.certificate.Foreign.{Foreign}
+use Rattle.causal_order.specs.declared.certificate.Foreign.{Foreign}
 use Rattle.attribution.specs.Acceptance.{ReasonHolds}
 use Rattle.auditor.proofs.Tiling.{one_more, all_held}
 use Rattle.evidence_report.specs.declared.faults.Failure.TheVariants.{Reason}

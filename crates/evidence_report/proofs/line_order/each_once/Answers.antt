@@ -1,6 +1,6 @@
 use Rattle.std.specs.Prelude.{◌+◌, List}
 use Rattle.std.proofs.Common.{arith, sym, subst}
-use Rattle.claims.specs.declared.reference.Ref.{Ref}
+use Rattle.causal_order.specs.declared.reference.Ref.{Ref}
 use Rattle.evidence_report.proofs.Rising.{AreOnceSoFar, one_pushed, one_kept, all_once}
 use Rattle.evidence_report.proofs.line_order.each_once.Goals as goal
 use Rattle.evidence_report.proofs.line_order.each_once.Goals.{then-is_behind+in_ok-push, else-is_behind}

@@ -2,8 +2,8 @@ use Rattle.std.specs.Prelude.{List}
 use Rattle.std.specs.List.Sorted.{IsNonDecreasingBy}
 use Rattle.std.proofs.Common.{rules, sym, subst}
 use Rattle.std.proofs.lemmas.List.Sorted.{IsNonDecreasingBy-from_sort_by_key}
-use Rattle.claims.specs.declared.reference.Ref.{Ref}
-use Rattle.claims.specs.Order.{place_of}
+use Rattle.causal_order.specs.declared.reference.Ref.{Ref}
+use Rattle.causal_order.specs.WrittenOrder.{place_of}
 use Rattle.evidence_report.specs.Lines.{AreOnce}
 use Rattle.evidence_report.proofs.Rising.{once_of_sorted}
 use Rattle.evidence_report.proofs.line_order.in_order.Goals as goal

@@ -1,7 +1,7 @@
 use Rattle.std.specs.Prelude.{◌≡◌, ◌+◌, List, Some, slice_get}
 use Rattle.std.proofs.Common.{sym, subst, length, refl}
 use Rattle.std.proofs.lemmas.Option.{slice_get_read}
-use Rattle.claims.specs.declared.certificate.Foreign.{Foreign}
+use Rattle.causal_order.specs.declared.certificate.Foreign.{Foreign}
 use Rattle.evidence_report.specs.declared.foreign_report.ForeignReport.{ForeignReport}
 use Rattle.evidence_report.specs.Others.{IsForeignReport}
 use Rattle.evidence_report.proofs.Shown.{AreShownSoFar, one_shown}

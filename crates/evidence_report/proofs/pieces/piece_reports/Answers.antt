@@ -1,7 +1,7 @@
 use Rattle.std.specs.Prelude.{◌≡◌, ◌+◌, List, Some, slice_get}
 use Rattle.std.proofs.Common.{sym, subst, length, refl}
 use Rattle.std.proofs.lemmas.Option.{slice_get_read}
-use Rattle.claims.specs.declared.certificate.Piece.{Piece}
+use Rattle.causal_order.specs.declared.certificate.Piece.{Piece}
 use Rattle.evidence_report.specs.declared.piece_report.PieceReport.{PieceReport}
 use Rattle.evidence_report.specs.Pieces.{IsPieceReport}
 use Rattle.evidence_report.proofs.Shown.{AreShownSoFar, one_shown}

@@ -1,6 +1,6 @@
 use Rattle.std.specs.Prelude.{◌≡◌, List}
 use Rattle.std.proofs.Common.{sym, ap, subst, length, arith, get_or}
-use Rattle.claims.specs.declared.certificate.Clear.{Clear}
+use Rattle.causal_order.specs.declared.certificate.Clear.{Clear}
 use Rattle.evidence_report.proofs.Clearing.{none_names, named_entry, entry_there}
 use Rattle.evidence_report.proofs.releases.naming.Goals as goal
 

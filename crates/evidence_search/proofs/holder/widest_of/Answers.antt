@@ -1,5 +1,5 @@
 use Rattle.std.proofs.Common.{subst, ◌≡◌, ◌+◌, ℕ, IfOk}
-use Rattle.claims.specs.declared.certificate.Certificate.{Certificate}
+use Rattle.causal_order.specs.declared.certificate.Certificate.{Certificate}
 use Rattle.plain_search.specs.declared.query.Query.{Query}
 use Rattle.evidence_search.specs.Claim.{between, HasNoPlainEvidence, IsNotTold, IsTooLong}
 use Rattle.evidence_search.specs.Search.{IsShownRound}

@@ -1,5 +1,5 @@
 use Rattle.std.proofs.Common.{Ok, subst}
-use Rattle.folder_recovery.specs.Folder.{GoesOn}
+use Rattle.volume_store.specs.Folder.{GoesOn}
 use Rattle.folder_start.proofs.Done.{with_ok, starts_with}
 use Rattle.folder_start.proofs.starting.start_from.Goals as goal
 

@@ -1,5 +1,5 @@
 use Rattle.toml.proofs.Views.{table_get}
-use Rattle.settings_text.proofs.Found.{finds_mapped}
+use Rattle.server_settings.proofs.Found.{finds_mapped}
 use Rattle.manner_settings.proofs.values.value_at.Goals as goal
 
 pub returns : goal.returns

@@ -1,5 +1,5 @@
 use Rattle.std.proofs.Common.{List, arith, sym, subst}
-use Rattle.claims.specs.declared.reference.Ref.{Ref}
+use Rattle.causal_order.specs.declared.reference.Ref.{Ref}
 use Rattle.near_leases.specs.Near.{asked_of}
 use Rattle.near_leases.specs.Leases.{AreConcerning}
 use Rattle.near_leases.proofs.Listed.{all_near}

@@ -1,7 +1,7 @@
 use Rattle.std.proofs.Common.{sym, subst, List}
-use Rattle.claims.specs.declared.reference.Ref.{Ref}
-use Rattle.claims.specs.declared.order.Precedes.{Precedes}
-use Rattle.claims.specs.declared.certificate.Reason.TheVariants.{Released}
+use Rattle.causal_order.specs.declared.reference.Ref.{Ref}
+use Rattle.causal_order.specs.declared.order.Precedes.{Precedes}
+use Rattle.causal_order.specs.declared.certificate.Reason.TheVariants.{Released}
 use Rattle.plain_search.specs.Search.{IsAside, plain_order}
 use Rattle.plain_search.proofs.Reasons.{no_reason, released_holds}
 use Rattle.plain_search.proofs.foreign.reason_of.Goals as goal

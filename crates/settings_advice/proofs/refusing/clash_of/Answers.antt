@@ -1,7 +1,7 @@
 use Rattle.std.proofs.Common.{Err, subst}
 use Rattle.toml.specs.View.{table_view}
 use Rattle.server_settings.specs.declared.error.OpenError.{OpenError}
-use Rattle.settings_text.specs.Document.{named_in, AreRead}
+use Rattle.server_settings.specs.Document.{named_in, AreRead}
 use Rattle.settings_advice.proofs.Naming.{too_many}
 use Rattle.settings_advice.proofs.refusing.clash_of.Goals as goal
 

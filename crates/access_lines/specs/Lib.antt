@@ -1,4 +1,0 @@
-pub mod Pieces
-pub mod Indexing
-pub mod Sides
-pub mod Beside

@@ -1,0 +1,53 @@
+//! The line of a grant.
+
+ghost use Rattle.std.specs.Prelude.{◌≡◌, ◌↔◌, IsTrue, IfSome};
+ghost use Rattle.client_service.specs.Standing.{IsGranted, IsGrantedBy};
+
+use journal_lines::{Event, Lease, Line};
+use lead_time::Reading;
+
+/// A line that grants a lease: its number, its reading, and the lifetime in seconds.
+#[derive(Clone, Copy)]
+pub(crate) struct Granted {
+    pub number: u32,
+    pub reading: Reading,
+    pub valid: u32,
+}
+
+/// Returns whether two leases are of one client, identity association and prefix.
+fn is_same(one: &Lease, other: &Lease) -> bool
+    ensures { IsTrue result ↔ (one.now ≡ record other.now { valid = one.now.valid }) }
+{
+    one.client == other.client && one.iaid == other.iaid && one.prefix == other.prefix
+}
+
+/// What a line grants a lease's client, if it grants it this prefix.
+fn granted_by(line: &Line, lease: &Lease) -> Option<Granted>
+    ensures { IfSome result (λ g. IsGrantedBy line.now lease.now g.number g.reading g.valid) }
+{
+    match &line.event {
+        Event::Grant(granted) if is_same(granted, lease) => Some(Granted {
+            number: line.number,
+            reading: line.reading,
+            valid: granted.valid,
+        }),
+        _ => None,
+    }
+}
+
+/// A line at this reading, in milliseconds, by which a lease's client has its prefix. The lines' readings don't fall,
+/// so that a search finds it.
+pub(crate) fn granted_at(lines: &[Line], milliseconds: u64, lease: &Lease) -> Option<Granted>
+    ensures { IfSome result (λ g. IsGranted lines.now lease.now g.number g.reading g.valid) }
+{
+    let first = lines.partition_point(|line| line.reading.milliseconds() < milliseconds);
+    for index in first..lines.len() {
+        if lines[index].reading.milliseconds() > milliseconds {
+            return None;
+        }
+        if let Some(granted) = granted_by(&lines[index], lease) {
+            return Some(granted);
+        }
+    }
+    None
+}

@@ -1,0 +1,46 @@
+//! What remains of a grant.
+
+ghost use Rattle.std.specs.Prelude.{◌≡◌, IfSome};
+ghost use Rattle.client_service.specs.Standing.{remaining, MayTellAgain};
+
+use crate::grants::Granted;
+use crate::terms::RenewTerms;
+use lead_time::{Reading, own_end};
+
+/// The seconds that remain of a grant, whatever the clock did within the skew and however long the answer is under
+/// way within the transit.
+fn remaining(terms: &RenewTerms, granted: &Granted, now: Reading) -> u64
+    ensures { result ≡ remaining terms.now granted.now.reading granted.now.valid now }
+{
+    let end = own_end(granted.reading, granted.valid, terms.skew, terms.transit);
+    let margins = 4 * terms.skew.milliseconds() + 2 * terms.transit.milliseconds();
+    let left = end
+        .milliseconds()
+        .saturating_sub(now.milliseconds() + margins);
+    left / 1000
+}
+
+/// The seconds for which a grant may be told again. None where it is too old, or where less remains of it than half of
+/// what would be granted now.
+pub(crate) fn told_for(
+    terms: &RenewTerms,
+    granted: &Granted,
+    now: Reading,
+    anew: u32,
+) -> Option<u32>
+    ensures { IfSome result (MayTellAgain terms.now granted.now.reading granted.now.valid now anew) }
+{
+    let age = now
+        .milliseconds()
+        .saturating_sub(granted.reading.milliseconds());
+    if age >= 1000 * u64::from(terms.floor) {
+        return None;
+    }
+    let Ok(valid) = u32::try_from(remaining(terms, granted, now)) else {
+        return None;
+    };
+    if valid == 0 || u64::from(anew) > 2 * u64::from(valid) {
+        return None;
+    }
+    Some(valid)
+}

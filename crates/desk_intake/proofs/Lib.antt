@@ -1,5 +1,0 @@
-pub mod Lines
-pub mod EndLines
-pub mod Intakes
-pub mod Chunks
-pub mod Rereads

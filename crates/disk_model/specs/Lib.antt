@@ -1,0 +1,9 @@
+pub mod Disk
+pub mod Devices
+pub mod Laws
+pub mod Lines
+pub mod Open
+pub mod Later
+pub mod Names
+pub mod Volumes
+pub mod LastFiles

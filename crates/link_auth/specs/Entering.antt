@@ -1,0 +1,109 @@
+-- What an end makes of what comes over a connection until its other end counts as the partner.
+use Rattle.std.specs.Prelude.{⊤, ◌≡◌, ◌⊎◌, ℕ, ◌-◌, List, [], ◌∷◌, ◌++◌, length, drop, Option, Some, None}
+use Rattle.std.specs.Prelude.{Result, Ok, Err}
+use Rattle.binding_rules.specs.declared.role.Role.TheVariants.{Primary}
+use Rattle.failover_message.specs.Stream.{IsPartial, Splits, Breaks}
+use Rattle.failover_message.specs.declared.error.LinkError.{LinkError}
+use Rattle.failover_message.specs.declared.frame.Frame.{Frame}
+use Rattle.failover_message.specs.declared.frame.FrameKind.{FrameKind}
+use Rattle.failover_message.specs.declared.frame.FrameKind.TheVariants.{Connect}
+use Rattle.link_auth.specs.declared.side.Side.{Side}
+use Rattle.link_auth.specs.declared.side.Side.TheVariants.{Caller, Called}
+use Rattle.link_auth.specs.Handshake.{Opened}
+use Rattle.link_auth.specs.Opening.{Hears as OpeningHears}
+use Rattle.link_auth.specs.declared.handshake.Joined.{Joined as JoinedValue}
+use Rattle.link_auth.specs.declared.opening.Heard.TheVariants.{More, Joined}
+use Rattle.link_auth.specs.declared.fault.LinkFault.{LinkFault}
+use Rattle.link_auth.specs.declared.fault.LinkFault.TheVariants.{Forged as ForgedProof, Memory as NoMemory}
+use Rattle.link_auth.specs.Passing.{Takes}
+use Rattle.link_auth.specs.declared.passage.Passage.TheVariants.{Open, Records}
+use Rattle.link_auth.specs.declared.entry_fault.EntryFault.{EntryFault}
+use Rattle.link_auth.specs.declared.entry_fault.EntryFault.TheVariants.{Forged, Stranger, Memory}
+use Rattle.link_auth.specs.declared.waiting.Entrant.{Entrant}
+use Rattle.link_auth.specs.declared.waiting.Waiting.{Waiting}
+use Rattle.link_auth.specs.declared.waiting.Waiting.TheVariants.{Proof, Greeting, Callee}
+use Rattle.link_auth.specs.declared.waiting.Verdict.{Verdict}
+use Rattle.link_auth.specs.declared.waiting.Verdict.TheVariants.{Waits, Enters}
+
+-- the primary's first frame
+abbrev pub IsConnect : FrameKind → Type 0
+IsConnect (Connect Primary last) = ⊤
+IsConnect _ = ⊥
+
+-- ---- beginnings
+
+-- a connection begins, by the side and the key of an end and the nonce that was drawn for it
+abbrev pub Begins : Side → Option (List ℕ) → (nonce : List ℕ) → Waiting → Type 0
+Begins side (Some key) nonce waiting =
+    waiting ≡ Proof (record { party = record { key = key; side = side; nonce = nonce }; heard = [] })
+Begins Caller None nonce waiting = waiting ≡ Callee
+Begins Called None nonce (Greeting heard) = heard.items ≡ []
+Begins Called None nonce _ = ⊥
+
+-- what is sent first
+abbrev pub greeting_of : Waiting → Option (List ℕ)
+greeting_of (Proof o) = Some o.party.nonce
+greeting_of (Greeting heard) = None
+greeting_of Callee = None
+
+-- ---- with a key
+
+abbrev pub fault_of : LinkFault → EntryFault
+fault_of NoMemory = Memory
+fault_of _ = Forged
+
+-- The other end has the key, and what its records behind the proof say has come already.
+pub record IsProved (o : Opened) (chunk : List ℕ) (e : Entrant) : Type 0 where
+  pub joined : JoinedValue
+  pub behind : ℕ
+  pub proof : OpeningHears o chunk (Ok (Joined joined e.answer behind))
+  pub first : Takes (Records joined) (drop (length chunk - behind) chunk) e.ahead.items e.passage
+
+-- It hasn't: its proof is wrong, or a record behind that.
+abbrev pub IsForged : Opened → (chunk : List ℕ) → Type 0
+IsForged o chunk = OpeningHears o chunk (Err ForgedProof)
+    ⊎ ((joined : JoinedValue) × (answer : Option (List ℕ)) × (behind : ℕ)
+    × OpeningHears o chunk (Ok (Joined joined answer behind)))
+
+abbrev pub Proves : Opened → (chunk : List ℕ) → Result Verdict EntryFault → Type 0
+Proves o chunk (Ok (Waits (Proof more) answer)) = OpeningHears o chunk (Ok (More more answer))
+Proves o chunk (Ok (Enters e)) = IsProved o chunk e
+Proves o chunk (Err Forged) = IsForged o chunk
+Proves o chunk (Err Memory) = ⊤
+Proves o chunk _ = ⊥
+
+-- ---- without a key
+
+-- what has come begins with the primary's first frame, or with anything else
+abbrev pub IsGreeting : (come : List ℕ) → Type 0
+IsGreeting come = (frame : Frame) × (frames : List Frame) × (rest : List ℕ)
+    × Splits come (frame ∷ frames) rest × IsConnect frame.kind
+
+abbrev pub IsStrange : (come : List ℕ) → Type 0
+IsStrange come = ((fault : LinkError) × Breaks come fault)
+    ⊎ ((frame : Frame) × (frames : List Frame) × (rest : List ℕ)
+    × Splits come (frame ∷ frames) rest × (IsConnect frame.kind → ⊥))
+
+abbrev pub Greets : (come : List ℕ) → Result Verdict EntryFault → Type 0
+Greets come (Ok (Waits (Greeting heard) answer)) = IsPartial come × (heard.items ≡ come) × (answer ≡ None)
+Greets come (Ok (Enters e)) = IsGreeting come × (e.passage ≡ Open) × (e.ahead.items ≡ come) × (e.answer ≡ None)
+Greets come (Err Stranger) = IsStrange come
+Greets come (Err Memory) = ⊤
+Greets come _ = ⊥
+
+-- for bodies only: the same, where what has come begins with these frames
+abbrev pub Greeted : (come : List ℕ) → List Frame → Result Verdict EntryFault → Type 0
+Greeted come [] (Ok (Waits (Greeting heard) answer)) = (heard.items ≡ come) × (answer ≡ None)
+Greeted come (frame ∷ frames) (Ok (Enters e)) =
+    IsConnect frame.kind × (e.passage ≡ Open) × (e.ahead.items ≡ come) × (e.answer ≡ None)
+Greeted come (frame ∷ frames) (Err Stranger) = IsConnect frame.kind → ⊥
+Greeted come _ _ = ⊥
+
+-- ---- what a chunk leads to
+
+abbrev pub Hears : Waiting → (chunk : List ℕ) → Result Verdict EntryFault → Type 0
+Hears (Proof o) chunk result = Proves o chunk result
+Hears (Greeting heard) chunk result = Greets (heard.items ++ chunk) result
+Hears Callee chunk (Ok (Enters e)) = (e.passage ≡ Open) × (e.ahead.items ≡ chunk) × (e.answer ≡ None)
+Hears Callee chunk (Err Memory) = ⊤
+Hears Callee chunk _ = ⊥

@@ -1,0 +1,9 @@
+pub mod Hmac
+pub mod Key
+pub mod Records
+pub mod Parsing
+pub mod Handshake
+pub mod Opening
+pub mod Laws
+pub mod Entering
+pub mod Passing

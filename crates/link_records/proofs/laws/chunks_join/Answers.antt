@@ -1,5 +1,0 @@
-use Rattle.link_records.proofs.StreamLaws.{chunks_are_one}
-use Rattle.link_records.proofs.laws.chunks_join.Goals as goal
-
-pub returns : goal.returns
-returns c = chunks_are_one

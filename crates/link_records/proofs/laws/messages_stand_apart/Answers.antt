@@ -1,5 +1,0 @@
-use Rattle.link_records.proofs.MessageLaws.{messages_apart}
-use Rattle.link_records.proofs.laws.messages_stand_apart.Goals as goal
-
-pub returns : goal.returns
-returns c = messages_apart

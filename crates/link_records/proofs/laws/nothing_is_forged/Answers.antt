@@ -1,5 +1,0 @@
-use Rattle.link_records.proofs.StreamLaws.{read_is_beginning}
-use Rattle.link_records.proofs.laws.nothing_is_forged.Goals as goal
-
-pub returns : goal.returns
-returns c = read_is_beginning

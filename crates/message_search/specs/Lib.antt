@@ -1,2 +1,0 @@
-pub mod Passages
-pub mod Chains

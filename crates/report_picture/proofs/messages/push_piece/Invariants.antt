@@ -1,5 +1,0 @@
-use Rattle.report_picture.specs.Picture.{AreMessages}
-use Rattle.report_picture.proofs.messages.push_piece.Given as goal
-
-abbrev pub invariant-loop-release : goal.invariant-loop-release
-invariant-loop-release l = AreMessages l.dots l.arrows.items

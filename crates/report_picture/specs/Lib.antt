@@ -1,3 +1,0 @@
-pub mod Axis
-pub mod Picture
-pub mod Drawing

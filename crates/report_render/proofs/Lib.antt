@@ -1,0 +1,5 @@
+pub mod MoreWords
+pub mod MorePassages
+pub mod Harmless
+pub mod Places
+pub mod MoreArrows

@@ -1,0 +1,141 @@
+-- How it is drawn, in SVG.
+use Rattle.std.specs.Prelude.{◌≡◌, ℕ, ◌+◌, ◌-◌, ◌*◌, ◌%◌, nat_lt, if◌then◌else◌, List, [], ◌∷◌, ◌++◌, map, length}
+use Rattle.std.specs.Prelude.{codes}
+use Rattle.std.specs.Prelude.{Option, Some, None}
+use Rattle.std.specs.List.{flat_map}
+use Rattle.std.specs.List.Sorted.{IsNonDecreasing, IsPermutation}
+use Rattle.std.specs.Fmt.{decimal}
+use Rattle.binding_rules.specs.declared.role.Role.{Role}
+use Rattle.binding_rules.specs.declared.role.Role.TheVariants.{Primary, Secondary}
+use Rattle.causal_order.specs.declared.reference.Ref.{Ref}
+use Rattle.attribution.specs.VerdictText.{place_text}
+use Rattle.report_render.specs.declared.axis.TheConstants.{LEFT, WIDTH}
+use Rattle.report_render.specs.declared.styles.Style.{Style}
+use Rattle.report_render.specs.declared.styles.Style.TheVariants as style
+use Rattle.report_render.specs.declared.styles.TheConstants as text
+use Rattle.report_render.specs.declared.picture.Bar.{Bar}
+use Rattle.report_render.specs.declared.picture.Dot.{Dot}
+use Rattle.report_render.specs.declared.picture.Arrow.{Arrow}
+use Rattle.report_render.specs.declared.picture.Picture.{Picture}
+use Rattle.report_render.specs.Axis.{place}
+
+-- what of a drawing is always the same
+unfoldable pub style_text : Style → List ℕ
+style_text style.Head = text.HEAD.now
+style_text style.BehindHeight = text.BEHIND_HEIGHT.now
+style_text style.Height = text.HEIGHT.now
+style_text style.Asked = text.ASKED.now
+style_text style.Maybe = text.MAYBE.now
+style_text style.Sure = text.SURE.now
+style_text style.Label = text.LABEL.now
+style_text style.Lane = text.LANE.now
+style_text style.Beside = text.BESIDE.now
+style_text style.Circle = text.CIRCLE.now
+style_text style.CircleDown = text.CIRCLE_DOWN.now
+style_text style.Dot = text.DOT.now
+style_text style.Arrow = text.ARROW.now
+style_text style.Tail = text.TAIL.now
+
+abbrev pub attribute : List ℕ → ℕ → List ℕ
+attribute name value = name ++ (decimal value ++ codes "\"")
+
+unfoldable pub label_svg : (x y : ℕ) → Ref → List ℕ
+label_svg x y r =
+    codes "<text" ++ attribute (codes " x=\"") x ++ attribute (codes " y=\"") y ++ style_text style.Label
+    ++ place_text r.side r.number ++ codes "</text>\n"
+
+unfoldable pub rect_svg : (from to y : ℕ) → Style → List ℕ
+rect_svg from to y s =
+    codes "<rect" ++ attribute (codes " x=\"") from ++ attribute (codes " y=\"") y
+    ++ attribute (codes " width=\"") (to - from + 1) ++ style_text s
+
+-- what lasted for sure, if anything did
+abbrev pub sure_svg : List ℕ → (y : ℕ) → Option (ℕ × ℕ) → List ℕ
+sure_svg axis y None = []
+sure_svg axis y (Some sure) =
+    if nat_lt sure.0 sure.1 then rect_svg (place axis sure.0) (place axis sure.1) y style.Sure else []
+
+unfoldable pub bar_svg : List ℕ → (y : ℕ) → Bar → List ℕ
+bar_svg axis y b =
+    rect_svg (place axis b.earliest) (place axis b.latest) y style.Maybe ++ sure_svg axis y b.sure
+    ++ label_svg 8 (y + 11) b.at
+
+-- one under the other
+abbrev pub bars_svg : List ℕ → (row : ℕ) → List Bar → List ℕ
+bars_svg axis row [] = []
+bars_svg axis row (b ∷ bars) = bar_svg axis (50 + 22 * row) b ++ bars_svg axis (row + 1) bars
+
+-- the lines of both sides, under the bars
+abbrev pub first_lane : List Bar → ℕ
+first_lane bars = 90 + 22 * length bars
+
+abbrev pub lane_of : (first : ℕ) → Role → ℕ
+lane_of first Primary = first
+lane_of first Secondary = first + 90
+
+unfoldable pub lane_svg : (y : ℕ) → List ℕ
+lane_svg y =
+    codes "<line" ++ attribute (codes " x1=\"") LEFT ++ attribute (codes " y1=\"") y
+    ++ attribute (codes " x2=\"") (LEFT + WIDTH) ++ attribute (codes " y2=\"") y ++ style_text style.Lane
+
+unfoldable pub circle_svg : (x y : ℕ) → List ℕ
+circle_svg x y =
+    style_text style.Circle ++ decimal x ++ style_text style.CircleDown ++ decimal y ++ style_text style.Dot
+
+-- a line at its reading, its name in one of four rows under it
+unfoldable pub dot_svg : List ℕ → (first index : ℕ) → Dot → List ℕ
+dot_svg axis first index d =
+    circle_svg (place axis d.reading) (lane_of first d.at.side)
+    ++ label_svg (place axis d.reading) (lane_of first d.at.side + 18 + 12 * (index % 4)) d.at
+
+abbrev pub dots_svg : List ℕ → (first index : ℕ) → List Dot → List ℕ
+dots_svg axis first index [] = []
+dots_svg axis first index (d ∷ dots) = dot_svg axis first index d ++ dots_svg axis first (index + 1) dots
+
+unfoldable pub arrow_svg : List ℕ → (first : ℕ) → Arrow → List ℕ
+arrow_svg axis first a =
+    codes "<line" ++ attribute (codes " x1=\"") (place axis a.sent.reading)
+    ++ attribute (codes " y1=\"") (lane_of first a.sent.at.side)
+    ++ attribute (codes " x2=\"") (place axis a.taken.reading)
+    ++ attribute (codes " y2=\"") (lane_of first a.taken.at.side) ++ style_text style.Arrow
+
+-- the interval asked about, behind the bars
+unfoldable pub asked_svg : List ℕ → Picture → List ℕ
+asked_svg axis p =
+    rect_svg (place axis p.from) (place axis p.to) 10 style.Height ++ decimal (first_lane p.bars.items)
+    ++ style_text style.Asked ++ style_text style.Beside
+
+unfoldable pub back_svg : List ℕ → Picture → List ℕ
+back_svg axis p =
+    style_text style.Head ++ decimal (first_lane p.bars.items + 160) ++ style_text style.BehindHeight
+    ++ asked_svg axis p
+
+-- the lines of both sides, and the messages between them
+unfoldable pub lines_svg : List ℕ → (first : ℕ) → Picture → List ℕ
+lines_svg axis first p =
+    lane_svg first ++ lane_svg (first + 90) ++ flat_map (arrow_svg axis first) p.arrows.items
+    ++ dots_svg axis first 0 p.dots.items
+
+abbrev pub picture_svg : List ℕ → Picture → List ℕ
+picture_svg axis p =
+    back_svg axis p ++ bars_svg axis 0 p.bars.items ++ lines_svg axis (first_lane p.bars.items) p
+    ++ style_text style.Tail
+
+-- ---- the moments that stand in it
+
+abbrev pub moments_between : ℕ → Option (ℕ × ℕ) → ℕ → List ℕ
+moments_between earliest None latest = earliest ∷ latest ∷ []
+moments_between earliest (Some sure) latest = earliest ∷ sure.0 ∷ sure.1 ∷ latest ∷ []
+
+abbrev pub bar_moments : Bar → List ℕ
+bar_moments b = moments_between b.earliest b.sure b.latest
+
+abbrev pub moments_of : Picture → List ℕ
+moments_of p = (p.from ∷ p.to ∷ []) ++ flat_map bar_moments p.bars.items ++ map (λ d. d.reading) p.dots.items
+
+-- over these, in their order
+pub record IsSvg (p : Picture) (text : List ℕ) : Type 0 where
+  pub axis : List ℕ
+  pub sorted : IsNonDecreasing axis
+  pub whole : IsPermutation (moments_of p) axis
+  pub drawn : text ≡ picture_svg axis p

@@ -1,0 +1,100 @@
+//! What of a drawing is always the same.
+
+ghost use Rattle.std.specs.Prelude.{◌≡◌, ◌++◌, OnOk};
+ghost use Rattle.report_render.specs.Drawing.{style_text};
+
+use std::alloc::AllocError;
+
+/// A part of a drawing that is always the same.
+#[derive(Clone, Copy, Debug, PartialEq, Eq)]
+pub enum Style {
+    /// Up to the height.
+    Head,
+    /// Behind it.
+    BehindHeight,
+    /// Before the height of a bar.
+    Height,
+    /// The interval asked about, behind its height.
+    Asked,
+    /// A bar that may have lasted.
+    Maybe,
+    /// A bar that lasted for sure.
+    Sure,
+    /// A line's name.
+    Label,
+    /// The lane of a server, behind its height.
+    Lane,
+    /// What stands beside the interval.
+    Beside,
+    /// A dot, before its place from the left.
+    Circle,
+    /// Before its place from the top.
+    CircleDown,
+    /// Behind that.
+    Dot,
+    /// An arrow, behind its ends.
+    Arrow,
+    /// Behind all.
+    Tail,
+}
+
+/// The text of a part.
+#[tactic(auto, unfolding(crate::specs::Drawing::style_text))]
+fn style_text(style: Style) -> &'static str
+    ensures { result.now ≡ style_text style }
+{
+    match style {
+        Style::Head => HEAD,
+        Style::BehindHeight => BEHIND_HEIGHT,
+        Style::Height => HEIGHT,
+        Style::Asked => ASKED,
+        Style::Maybe => MAYBE,
+        Style::Sure => SURE,
+        Style::Label => LABEL,
+        Style::Lane => LANE,
+        Style::Beside => BESIDE,
+        Style::Circle => CIRCLE,
+        Style::CircleDown => CIRCLE_DOWN,
+        Style::Dot => DOT,
+        Style::Arrow => ARROW,
+        Style::Tail => TAIL,
+    }
+}
+
+/// Appends a part.
+pub(crate) fn push_style(out: &mut Vec<u8>, style: Style) -> Result<(), AllocError>
+    ensures { OnOk result (out.new.items ≡ out.old.items ++ style_text style) }
+{
+    out.extend_from_slice(style_text(style).as_bytes())
+}
+
+const HEAD: &str = "<svg viewBox=\"0 0 1000 ";
+
+const BEHIND_HEIGHT: &str =
+    "\" role=\"img\" aria-label=\"A time line of the leases and lines of this report\">\n\
+    <defs><marker id=\"tip\" viewBox=\"0 0 8 8\" refX=\"8\" refY=\"4\" markerWidth=\"8\" markerHeight=\"8\" \
+    orient=\"auto\"><path d=\"M0,0 L8,4 L0,8 z\"/></marker></defs>\n";
+
+const HEIGHT: &str = " height=\"";
+
+const ASKED: &str = "\" fill=\"#eee\" stroke=\"#000\" stroke-width=\"0.5\"/>\n";
+
+const MAYBE: &str = " height=\"14\" fill=\"none\" stroke=\"#000\" stroke-dasharray=\"4 3\"/>\n";
+
+const SURE: &str = " height=\"14\" fill=\"#777\" stroke=\"#000\"/>\n";
+
+const LABEL: &str = " font-size=\"12\" font-family=\"monospace\">";
+
+const LANE: &str = " stroke=\"#000\"/>\n";
+
+const BESIDE: &str = "<text x=\"8\" y=\"24\" font-size=\"12\" font-family=\"serif\">asked</text>\n";
+
+const CIRCLE: &str = "<circle cx=\"";
+
+const CIRCLE_DOWN: &str = "\" cy=\"";
+
+const DOT: &str = "\" r=\"4\"/>\n";
+
+const ARROW: &str = " stroke=\"#000\" marker-end=\"url(#tip)\"/>\n";
+
+const TAIL: &str = "</svg>\n";

@@ -1,0 +1,181 @@
+//! What of a report is drawn.
+
+ghost use Rattle.std.specs.Prelude.{◌≡◌, ◌++◌, map, OnOk, IfOk};
+ghost use Rattle.std.specs.List.{flat_map};
+ghost use Rattle.report_render.specs.Picture.{lease_bar, piece_bar, carried_until, foreign_end, foreign_bar, dot_of};
+ghost use Rattle.report_render.specs.Picture.{bars_of, report_bars, IsPicture};
+
+use crate::messages::messages_of;
+use crate::picture::{Bar, Dot, Picture};
+use attribution::Lasting;
+use causal_order::Ref;
+use evidence_report::{Cited, ForeignReport, Mark, Outside, PieceReport, Report, Told};
+use lead_time::{Skew, Transit};
+use std::alloc::{AllocError, Global};
+
+/// The lease of a grant that was written between two marks.
+fn lease_bar(
+    skew: Skew,
+    transit: Transit,
+    at: Ref,
+    valid: u32,
+    earliest: &Mark,
+    latest: &Mark,
+) -> Bar
+    ensures { result ≡ lease_bar skew transit at valid earliest.now latest.now }
+{
+    let lifetime = 1000 * u64::from(valid);
+    let begun = latest.reading.milliseconds() + skew.milliseconds() + transit.milliseconds();
+    let earliest = earliest.reading.milliseconds();
+    Bar {
+        at,
+        earliest: earliest.saturating_sub(skew.milliseconds()),
+        sure: Some((
+            begun,
+            (earliest + lifetime).saturating_sub(skew.milliseconds()),
+        )),
+        latest: begun + lifetime,
+    }
+}
+
+/// The lease of a piece, where the report shows what its grant grants and when.
+fn piece_bar(skew: Skew, transit: Transit, report: &PieceReport<'_>) -> Option<Bar>
+    ensures { result ≡ piece_bar skew transit report.now }
+{
+    match (&report.granted, &report.earliest, &report.latest) {
+        (Some(granted), Some(earliest), Some(latest)) => {
+            Some(lease_bar(
+                skew,
+                transit,
+                report.piece.grant,
+                granted.lease.valid,
+                earliest,
+                latest,
+            ))
+        }
+        _ => None,
+    }
+}
+
+/// By when what a line tells of had ended by itself.
+fn carried_until(skew: Skew, transit: Transit, told: &Told) -> u64
+    ensures { result ≡ carried_until skew transit told.now }
+{
+    let (skew, transit) = (skew.milliseconds(), transit.milliseconds());
+    match told.delegation.lasting {
+        Lasting::For(seconds) => {
+            told.reading.milliseconds() + skew + transit + 1000 * u64::from(seconds)
+        }
+        Lasting::Until(end) => end.milliseconds() + skew + transit,
+    }
+}
+
+/// By when it had ended at all events: it may have been given back.
+fn foreign_end(skew: Skew, transit: Transit, told: &Told, outside: &Outside<'_>) -> u64
+    ensures { result ≡ foreign_end skew transit told.now outside.now }
+{
+    match outside {
+        Outside::Released {
+            latest: Some(latest),
+            ..
+        } => latest.reading.milliseconds() + skew.milliseconds(),
+        _ => carried_until(skew, transit, told),
+    }
+}
+
+/// Another client's delegation, where the entry's line tells of one.
+fn foreign_bar(skew: Skew, transit: Transit, report: &ForeignReport<'_>) -> Option<Bar>
+    ensures { result ≡ foreign_bar skew transit report.now }
+{
+    match &report.told {
+        Some(told) => Some(Bar {
+            at: report.entry.grant,
+            earliest: told
+                .reading
+                .milliseconds()
+                .saturating_sub(skew.milliseconds()),
+            sure: None,
+            latest: foreign_end(skew, transit, told, &report.outside),
+        }),
+        None => None,
+    }
+}
+
+fn push_bar(bars: &mut Vec<Bar>, bar: &Option<Bar>) -> Result<(), AllocError>
+    ensures { OnOk result (bars.new.items ≡ bars.old.items ++ bars_of bar.now) }
+{
+    match bar {
+        Some(bar) => bars.extend_from_slice(&[*bar]),
+        None => Ok(()),
+    }
+}
+
+fn push_pieces(
+    bars: &mut Vec<Bar>,
+    skew: Skew,
+    transit: Transit,
+    pieces: &[PieceReport<'_>],
+) -> Result<(), AllocError>
+    ensures { OnOk result
+        (bars.new.items ≡ bars.old.items ++ flat_map (λ p. bars_of (piece_bar skew transit p)) pieces.now) }
+{
+    for piece in pieces {
+        push_bar(bars, &piece_bar(skew, transit, piece))?;
+    }
+    Ok(())
+}
+
+fn push_foreign(
+    bars: &mut Vec<Bar>,
+    skew: Skew,
+    transit: Transit,
+    foreign: &[ForeignReport<'_>],
+) -> Result<(), AllocError>
+    ensures { OnOk result
+        (bars.new.items ≡ bars.old.items ++ flat_map (λ f. bars_of (foreign_bar skew transit f)) foreign.now) }
+{
+    for entry in foreign {
+        push_bar(bars, &foreign_bar(skew, transit, entry))?;
+    }
+    Ok(())
+}
+
+fn dots_of(alloc: Global, cited: &[Cited]) -> Result<Vec<Dot>, AllocError>
+    ensures { IfOk result (λ dots. dots.items ≡ map dot_of cited.now) }
+{
+    let mut dots = Vec::new(alloc);
+    for line in cited {
+        dots.push(Dot {
+            at: line.at,
+            reading: line.line.reading.milliseconds(),
+        })?;
+    }
+    Ok(dots)
+}
+
+/// The bars of a report: the pieces' before other clients'.
+#[tactic(auto, unfolding(crate::specs::Picture::report_bars))]
+fn report_bars(alloc: Global, report: &Report<'_>) -> Result<Vec<Bar>, AllocError>
+    ensures { IfOk result (λ bars. bars.items ≡ report_bars report.now) }
+{
+    let mut bars = Vec::new(alloc);
+    push_pieces(&mut bars, report.skew, report.transit, &report.pieces)?;
+    push_foreign(&mut bars, report.skew, report.transit, &report.foreign)?;
+    Ok(bars)
+}
+
+/// What of a report is drawn. `AllocError` where a growth was refused.
+pub fn picture_of(alloc: Global, report: &Report<'_>) -> Result<Picture, AllocError>
+    ensures { IfOk result (IsPicture report.now) }
+{
+    let bars = report_bars(alloc, report)?;
+    let dots = dots_of(alloc, &report.cited)?;
+    let arrows = messages_of(alloc, &dots, report)?;
+    Ok(Picture {
+        from: report.certificate.from.milliseconds(),
+        to: report.certificate.to.milliseconds(),
+        bars,
+        dots,
+        arrows,
+    })
+}

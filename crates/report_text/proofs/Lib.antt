@@ -1,2 +1,0 @@
-pub mod MoreWords
-pub mod MorePassages

@@ -1,0 +1,15 @@
+pub mod Served
+pub mod Forgetting
+pub mod Live
+pub mod Going
+pub mod Terms
+pub mod Owing
+pub mod Saying
+pub mod Hearing
+pub mod Running
+pub mod Rolling
+pub mod Beginning
+pub mod Settling
+pub mod Servers
+pub mod Laws
+pub mod Starting

@@ -1,0 +1,55 @@
+//! A server that runs: what it hears, what it holds back, and that its volumes are one server's.
+//!
+//! A server's book with a receipt for each of its lines, as its one thread serves clients and its partner by it.
+//!
+//! A [`ServedBook`] is the book of the volume that is written now, the receipts of its lines, and before them those of
+//! lines of older volumes, as far as they are kept: what was sent to the partner and not taken yet is found in these.
+//! [`Served`] gives it orders, as a [`Service`](client_service::Service) for clients and as a
+//! [`PairBook`](link_talk::PairBook) for the talk with the partner: both see the same receipts.
+//!
+//! ```text
+//! let mut book = ServedBook::new(alloc, book, Vec::new(alloc))?;
+//! let told = answer_to(alloc, &Served, &mut book, &own, Partner::Up, &permits, now, &message, peer);
+//! talk.turn(&Served, &mut book, &settings, now, &came)?;
+//! for receipt in &book.receipts()[written..] { volume.append(&receipt.line)?; }
+//! ```
+//!
+//! A server that runs, without sockets, clocks or threads: what it hears, what it holds back, and what may leave.
+//!
+//! A [`Running`] server owns its book, the file of the open volume and the folder. Datagrams and the partner's octets
+//! are heard one after the other; their answers and frames are held back. [`Running::settle`] puts all new lines to the
+//! file by one write and one sync, and only then gives what may leave. So whatever was ever told stands in what any
+//! loss of power leaves.
+//!
+//! That the volumes of a server that runs are one server's, whatever it does and at whatever moment the power goes.
+//!
+//! A server's earlier volumes have ended in their files, and its open one stands in its file as far as it was put
+//! (`IsServers` of specs/Servers). Two laws: of a settle, which puts lines, and of a roll, which ends the open volume
+//! and begins the next one. Behind either the volumes are one server's again, and none of their lines has changed; and
+//! at each moment meanwhile a loss of power leaves contents of that server's folder
+//! (`volume_store::left_are_a_servers` says what a recovery makes of these).
+#![tactic(auto)]
+
+mod book;
+mod error;
+mod forgetting;
+mod heard;
+mod laws;
+mod leaving;
+mod link;
+mod live_volume;
+mod making;
+mod rolling;
+mod running;
+mod served;
+mod starting;
+
+pub use book::ServedBook;
+pub use error::{BeginFault, EndFault, RollFault, SettleError};
+pub use heard::Heard;
+pub use laws::{a_roll_keeps_a_servers, a_settle_keeps_a_servers, a_start_keeps_a_servers};
+pub use leaving::{HeldAnswer, Leaving};
+pub use live_volume::{LiveVolume, Unsettled};
+pub use running::{Running, Settled};
+pub use served::Served;
+pub use starting::{Beginning, end, first, follow, go_on, restarted, server_of};

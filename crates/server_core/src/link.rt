@@ -1,0 +1,117 @@
+//! The talk with the partner, over one connection after the other.
+
+ghost use Rattle.std.specs.Prelude.{◌≡◌, ◌≤◌, ◌↔◌, IsTrue, List};
+ghost use Rattle.server_core.specs.Served.{receipts_in};
+ghost use Rattle.server_core.specs.Saying.{sent_before};
+ghost use Rattle.locked_book.specs.declared.receipt.Receipt.{Receipt as ReceiptValue};
+ghost use Rattle.server_core.specs.Live.{Grows};
+
+use crate::live_volume::LiveVolume;
+use crate::running::Running;
+use binding_rules::Counter;
+use disk_model::{Device, Folder};
+use journal_lines::Event;
+use lead_time::Reading;
+use link_talk::{Came, Stage, Talk, TalkError};
+use locked_book::Receipt;
+use server_settings::Settings;
+
+/// The serial up to which these receipts don't say what was sent: 0 where they say all. The first message that one
+/// sends follows on it, or the base line of a volume tells it.
+fn sent_before(receipts: &[Receipt]) -> u64
+    ensures { result ≡ sent_before receipts.now }
+{
+    let mut rest = receipts;
+    while let [receipt, behind @ ..] = rest {
+        match &receipt.line.event {
+            Event::Base(numbers) => return numbers.serial.number(),
+            Event::Send(message) => return message.serial.number().saturating_sub(1),
+            _ => rest = behind,
+        }
+    }
+    0
+}
+
+/// Forgets receipts of older volumes, up to the message that the partner named.
+fn forget_by<D: Device>(volume: &mut LiveVolume<D>, stage: &Stage)
+    ensures journal { volume.new.served.journal ≡ volume.old.served.journal }
+    ensures file { (volume.new.kept ≡ volume.old.kept) × (volume.new.calls ≡ volume.old.calls) }
+{
+    match stage {
+        Stage::Joined { last } | Stage::Ended { named: Some(last) } => volume.forget(*last),
+        Stage::Greeting | Stage::Refused | Stage::Ended { named: None } => {}
+    }
+}
+
+impl<F: Folder + Drop, P: Drop> Running<F, P>
+where
+    F::File: Drop,
+{
+    /// A connection with the partner begins: the primary's greeting is held back.
+    pub fn meet(&mut self, settings: &Settings) -> Result<(), TalkError>
+        ensures { self.new ≡ record self.old { talk = self.new.talk } }
+    {
+        let mut talk = Talk::new(self.alloc);
+        match self.volume.greet(&mut talk, settings) {
+            Ok(()) => {
+                self.talk = Some(talk);
+                Ok(())
+            }
+            Err(error) => {
+                self.talk = Some(talk);
+                Err(error)
+            }
+        }
+    }
+
+    /// Takes what came over the connection, does what follows from it, and holds back what is to be said
+    /// (`link_talk::Talk::turn`). Where there is no connection, nothing is done. After an error the connection has to
+    /// be ended, once what was held back has left.
+    pub fn heed(
+        &mut self,
+        settings: &Settings,
+        read: Reading,
+        came: &Came<'_>,
+    ) -> Result<(), TalkError>
+        ensures grows { (added : List ReceiptValue) × Grows self.old.volume self.new.volume added }
+        ensures rest { self.new ≡ record self.old { volume = self.new.volume; talk = self.new.talk } }
+    {
+        match &mut self.talk {
+            Some(talk) => self.volume.turn(talk, settings, read, came),
+            None => Ok(()),
+        }
+    }
+
+    /// The connection has ended. What was held back for it isn't said. Where no answer is held back, receipts of older
+    /// volumes are forgotten, up to the message that the partner named as the last that it took.
+    pub fn part(&mut self)
+        ensures talk { self.new.talk ≡ None }
+        ensures journal { self.new.volume.served.journal ≡ self.old.volume.served.journal }
+        ensures file { (self.new.volume.kept ≡ self.old.volume.kept) × (self.new.volume.calls ≡ self.old.volume.calls) }
+        ensures rest { (self.new.own ≡ self.old.own) × (self.new.terms ≡ self.old.terms)
+            × (self.new.names ≡ self.old.names) × (self.new.held ≡ self.old.held) }
+    {
+        let stage = self.stage();
+        self.talk = None;
+        if !self.held.is_empty() {
+            return;
+        }
+        if let Some(stage) = &stage {
+            forget_by(&mut self.volume, stage);
+        }
+    }
+
+    /// Returns whether its receipts say all that was sent above a serial. A partner that took no more than one below
+    /// can't be told all again: of older volumes it had said before that it took them, or they weren't read at the
+    /// start.
+    pub fn has_all_above(&self, last: Counter) -> bool
+        ensures { IsTrue result ↔ (sent_before (receipts_in self.now.volume.served) ≤ last) }
+    {
+        sent_before(self.volume.served.receipts()) <= last.number()
+    }
+
+    /// How far the two ends of the connection have come; none where there is no connection.
+    pub fn stage(&self) -> Option<Stage> {
+        self.talk.as_ref().map(|talk| talk.stage())
+    }
+}

@@ -1,5 +1,0 @@
-mod Front
-mod Legal
-mod Moments
-mod Keeping
-mod Starting

@@ -1,4 +1,0 @@
-pub mod Settling
-pub mod Servers
-pub mod Laws
-pub mod Starting

@@ -1,3 +1,0 @@
-mod Kept
-mod Owed
-mod Said

@@ -1,9 +1,0 @@
-pub mod Live
-pub mod Going
-pub mod Terms
-pub mod Owing
-pub mod Saying
-pub mod Hearing
-pub mod Running
-pub mod Rolling
-pub mod Beginning

@@ -1,9 +1,0 @@
-use Rattle.std.proofs.Common.{◌≡◌, ◌++◌, drop}
-use Rattle.std.specs.Prelude.{option_map}
-use Rattle.toml.specs.View.{items_view}
-use Rattle.settings_text.specs.Document.{pools_of}
-use Rattle.settings_text.proofs.document.pools_of.Given as goal
-
-abbrev pub invariant-loop-value : goal.invariant-loop-value
-invariant-loop-value l = option_map (λ ps. l.pools.items ++ ps) (pools_of (items_view (drop l.value-index l.values)))
-    ≡ pools_of (items_view l.values)

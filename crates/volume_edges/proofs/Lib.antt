@@ -1,5 +1,0 @@
-mod SettingLines
-mod Edges
-mod LastLines
-pub mod Told
-mod ToldSettings

@@ -1,5 +1,0 @@
-pub mod Beginning
-pub mod End
-pub mod Outlining
-pub mod Settings
-pub mod Laws

@@ -1,9 +1,0 @@
--- A folder that was just opened.
-use Rattle.std.proofs.Common.{◌≡◌, ℕ, List, [], ◌∷◌, refl, sym, subst, ap, ◌∙◌}
-use Rattle.volume_folder.specs.Names.{NameCall, held, names_after, AreSettled}
-
-pub held_is_settled : (calls : List NameCall) (n : ℕ) → calls ≡ held n ∷ [] → AreSettled calls
-held_is_settled calls n is = subst AreSettled (sym is) (record { usable = refl; sure = refl; most = refl })
-
-pub held_none : (calls : List NameCall) (n : ℕ) → calls ≡ held n ∷ [] → n ≡ 0 → (names_after calls).files ≡ 0
-held_none calls n is none = ap (λ (cs : List NameCall). (names_after cs).files) is ∙ none
