@@ -6,7 +6,7 @@ use std::marker::Model;
 
 /// How often something happened at a server, as the changes of a unit, the messages sent, the restarts: at
 /// most 2^49.
-#[derive(Clone, Copy, Debug, PartialEq, Eq, PartialOrd, Ord, Hash)]
+#[derive(Clone, Copy, Debug, PartialEq, Eq, PartialOrd, Ord)]
 pub struct Counter(u64);
 
 impl Model for Counter {

@@ -4,7 +4,7 @@ use crate::counter::Counter;
 use crate::update::{BindReply, Update};
 
 /// What a numbered message says.
-#[derive(Clone, Copy, Debug, PartialEq, Eq, Hash)]
+#[derive(Clone, Copy, Debug, PartialEq, Eq)]
 pub enum Body {
     /// What a unit became.
     Update(Update),
@@ -16,7 +16,7 @@ pub enum Body {
 }
 
 /// A numbered message from one partner to the other.
-#[derive(Clone, Copy, Debug, PartialEq, Eq, Hash)]
+#[derive(Clone, Copy, Debug, PartialEq, Eq)]
 pub struct PartnerMessage {
     pub term: u32,
     /// The sender's messages are counted from 1.
@@ -25,7 +25,7 @@ pub struct PartnerMessage {
 }
 
 /// What a server takes its partner for (RFC 8156, section 8, whose names these are).
-#[derive(Clone, Copy, Debug, PartialEq, Eq, Hash)]
+#[derive(Clone, Copy, Debug, PartialEq, Eq)]
 pub enum ServerState {
     Normal,
     Interrupted,

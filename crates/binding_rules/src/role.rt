@@ -5,7 +5,7 @@ ghost use Rattle.binding_rules.specs.Role.{partner_of};
 
 /// What a server of the pair is (RFC 8156, section 4). It names the server's side in references too: the
 /// primary is side A, the secondary is side B.
-#[derive(Clone, Copy, Debug, PartialEq, Eq, PartialOrd, Ord, Hash)]
+#[derive(Clone, Copy, Debug, PartialEq, Eq, PartialOrd, Ord)]
 pub enum Role {
     Primary,
     Secondary,

@@ -13,7 +13,7 @@ use crate::update::{Acknowledgement, BindReply, Status, Update};
 use lead_time::Reading;
 
 /// What is made of an update.
-#[derive(Clone, Copy, Debug, PartialEq, Eq, Hash)]
+#[derive(Clone, Copy, Debug, PartialEq, Eq)]
 pub enum Outcome {
     Accept,
     Reject,

@@ -9,14 +9,14 @@ use client_id::{Duid, Iaid};
 use lead_time::End;
 
 /// Whose a delegation is: a client's identity association (RFC 8415, section 6.3).
-#[derive(Clone, Copy, Debug, PartialEq, Eq, Hash)]
+#[derive(Clone, Copy, Debug, PartialEq, Eq)]
 pub struct Binding {
     pub client: Duid,
     pub iaid: Iaid,
 }
 
 /// What a unit is, and whose (RFC 8156, section 7.2, whose names these are).
-#[derive(Clone, Copy, Debug, PartialEq, Eq, Hash)]
+#[derive(Clone, Copy, Debug, PartialEq, Eq)]
 pub enum UnitStatus {
     /// The primary's to give.
     Free,
@@ -46,7 +46,7 @@ impl UnitStatus {
 }
 
 /// What a server knows of a unit.
-#[derive(Clone, Copy, Debug, PartialEq, Eq, Hash)]
+#[derive(Clone, Copy, Debug, PartialEq, Eq)]
 pub struct Unit {
     pub status: UnitStatus,
     /// This server's changes of the unit, counted.

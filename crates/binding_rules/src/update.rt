@@ -9,7 +9,7 @@ use lead_time::End;
 use prefix_range::Prefix;
 
 /// What a unit is (RFC 8156, section 7.2, whose names these are).
-#[derive(Clone, Copy, Debug, PartialEq, Eq, Hash)]
+#[derive(Clone, Copy, Debug, PartialEq, Eq)]
 pub enum Status {
     /// Delegated to a client.
     Active,
@@ -49,7 +49,7 @@ impl Status {
 }
 
 /// A binding update (RFC 8156, section 5: BNDUPD): what a unit became at the sender.
-#[derive(Clone, Copy, Debug, PartialEq, Eq, Hash)]
+#[derive(Clone, Copy, Debug, PartialEq, Eq)]
 pub struct Update {
     pub status: Status,
     pub prefix: Prefix,
@@ -66,14 +66,14 @@ pub struct Update {
 }
 
 /// What a partner makes of an update.
-#[derive(Clone, Copy, Debug, PartialEq, Eq, Hash)]
+#[derive(Clone, Copy, Debug, PartialEq, Eq)]
 pub enum Acknowledgement {
     Accept,
     Reject,
 }
 
 /// A binding reply (RFC 8156, section 5: BNDREPLY).
-#[derive(Clone, Copy, Debug, PartialEq, Eq, Hash)]
+#[derive(Clone, Copy, Debug, PartialEq, Eq)]
 pub struct BindReply {
     pub acknowledgement: Acknowledgement,
     pub prefix: Prefix,

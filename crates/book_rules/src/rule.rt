@@ -8,7 +8,7 @@ use std::fmt::Write;
 
 /// A rule of a server's journal. They are numbered from 1 to 20, and a line that breaks several is refused by the one
 /// with the least number. specs/Rules says what each asks.
-#[derive(Clone, Copy, Debug, PartialEq, Eq, Hash)]
+#[derive(Clone, Copy, Debug, PartialEq, Eq)]
 pub enum Rule {
     /// 1: lines are numbered on, their readings never fall, and nothing follows a close line.
     Sequence,

@@ -4,8 +4,7 @@ ghost use Rattle.std.specs.Prelude.{◌≡◌, ◌%◌, ◌≤◌, ◌↔◌, �
 ghost use Rattle.std.specs.Prelude.{IfOk, IfErr};
 ghost use Rattle.std.specs.Prelude.{IsErrOf, string_bytes};
 ghost use Rattle.std.specs.Str.{bytes_eq};
-ghost use Rattle.std.specs.Hash as fed;
-ghost use Rattle.std.specs.Cmp.Rules.{comparing, hashing};
+ghost use Rattle.std.specs.Cmp.Rules.{comparing};
 ghost use Rattle.std.proofs.Common.{rules};
 ghost use Rattle.text_fields.specs.Octets.{hex, octets_of};
 ghost use Rattle.text_fields.specs.Parsing.{Finds};
@@ -14,7 +13,6 @@ ghost use Rattle.client_id.specs.Duid.{IsDuid, IsHex, duid_in, duid_of, duid_wor
 
 use crate::error::ClientIdError;
 use std::alloc::Global;
-use std::hash::{Hash, Hasher};
 use std::marker::Model;
 use text_fields::{is_hex, octets_of};
 
@@ -58,16 +56,6 @@ impl PartialEq for Duid {
 
 impl Eq for Duid {
     ghost laws = { Prim.search (comparing, rules) };
-}
-
-impl Hash for Duid {
-    ghost hash_input = { λ d. fed.slice fed.u8 d };
-
-    ghost respects_eq = { Prim.search (hashing, rules) };
-
-    fn hash<H: Hasher>(&self, state: &mut H) {
-        self.as_bytes().hash(state);
-    }
 }
 
 #[tactic(auto, using(crate::proofs::Filling::filled_zeros))]

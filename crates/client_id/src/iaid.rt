@@ -10,7 +10,7 @@ use text_fields::octets_of;
 
 /// The identifier of an identity association (RFC 8415, section 12): a client's own number for one of its
 /// delegations. Contracts see the number.
-#[derive(Clone, Copy, Debug, PartialEq, Eq, PartialOrd, Ord, Hash)]
+#[derive(Clone, Copy, Debug, PartialEq, Eq, PartialOrd, Ord)]
 pub struct Iaid(pub u32);
 
 impl Model for Iaid {

@@ -1,13 +1,7 @@
 //! Vectors from outside for what no command of the desk shows.
 //!
-//! Vectors from outside for what no command of the desk shows: lines that break rules, sources of lines, searches over
-//! these, and texts written as they were read.
-//!
-//! Vectors from outside for audits by many workers: the answers of one, and two at a time.
-//!
-//! Archives of volumes, and files of journals that are still being written.
-//!
-//! Access records as their text spells them, and what is said of an answer's pieces.
+//! Lines that break rules, sources of lines, searches over these, and texts written as they were read; audits by many
+//! workers; archives of volumes, and files of journals that are still being written; access records; local times.
 #![tactic(auto)]
 
 #[cfg(test)]
@@ -54,3 +48,5 @@ mod verdicts;
 mod volume_inputs;
 #[cfg(test)]
 mod volumes;
+#[cfg(test)]
+mod zones;

@@ -1,24 +1,33 @@
 //! The commands, as clap is told of them.
 
-ghost use Rattle.std.specs.Prelude.{◌≡◌, codes, IfOk, false};
-ghost use Rattle.clap.specs.Words.{app_of};
+ghost use Rattle.std.specs.Prelude.{◌≡◌, codes, IfOk, true, false};
+ghost use Rattle.clap.specs.Words.{app_of, new_app, with_rule, with_subcommand};
 ghost use Rattle.clap.specs.declared.builder.command.Command.TheViews.{out-Command};
 ghost use Rattle.desk_words.specs.Words.{claim_app, with_telling, audit_app, explain_app, batch_app, asking_app};
 ghost use Rattle.desk_words.specs.Words.{find_app, moment_app, who_app, timeline_app, judging_app, claims_app};
-ghost use Rattle.desk_words.specs.Words.{join_app, searching_app, showing_app, desk};
+ghost use Rattle.desk_words.specs.Words.{join_app, searching_app, showing_app, desk, bare};
+ghost use Rattle.desk_words.specs.Words.{option_rule, flag_rule};
 
 use crate::arguments::{over_journals, with_flag, with_journals, with_option};
 use clap::Command as ClapCommand;
 use std::alloc::{AllocError, Global};
+
+/// `NAME --skew-ms N [--transit-ms N] ..`: a command that believes clocks as far as said.
+fn bounded_command<'a>(alloc: Global, name: &'a str) -> Result<ClapCommand<'a>, AllocError>
+    ensures app { IfOk result (λ c. app_of c ≡ with_rule (with_rule (new_app name.entry.now)
+        (option_rule (codes "skew-ms") true)) (option_rule (codes "transit-ms") false)) }
+    ensures local { IfOk result (λ c. (out-Command c).has_globals ≡ false) }
+{
+    let claim = with_option(alloc, ClapCommand::new(alloc, name), "skew-ms", true)?;
+    with_option(alloc, claim, "transit-ms", false)
+}
 
 /// `NAME --skew-ms N [--transit-ms N] [--journals PATH].. [--certificate PATH]`: a command over one certificate.
 fn claim_command<'a>(alloc: Global, name: &'a str) -> Result<ClapCommand<'a>, AllocError>
     ensures app { IfOk result (λ c. app_of c ≡ claim_app name.entry.now) }
     ensures local { IfOk result (λ c. (out-Command c).has_globals ≡ false) }
 {
-    let claim = with_option(alloc, ClapCommand::new(alloc, name), "skew-ms", true)?;
-    let claim = with_option(alloc, claim, "transit-ms", false)?;
-    let claim = with_journals(alloc, claim)?;
+    let claim = with_journals(alloc, bounded_command(alloc, name)?)?;
     with_option(alloc, claim, "certificate", false)
 }
 
@@ -49,14 +58,22 @@ fn explain_command<'a>(alloc: Global) -> Result<ClapCommand<'a>, AllocError>
     with_telling(alloc, claim_command(alloc, "explain")?)
 }
 
+/// `batch --skew-ms N --workers N ..`.
+fn working_command<'a>(alloc: Global) -> Result<ClapCommand<'a>, AllocError>
+    ensures app { IfOk result (λ c. app_of c ≡ with_rule (with_rule (new_app (codes "batch"))
+        (option_rule (codes "skew-ms") true)) (option_rule (codes "workers") true)) }
+    ensures local { IfOk result (λ c. (out-Command c).has_globals ≡ false) }
+{
+    let batch = with_option(alloc, ClapCommand::new(alloc, "batch"), "skew-ms", true)?;
+    with_option(alloc, batch, "workers", true)
+}
+
 /// `batch --skew-ms N --workers N [--transit-ms N] ..`.
 fn batch_command<'a>(alloc: Global) -> Result<ClapCommand<'a>, AllocError>
     ensures app { IfOk result (λ c. app_of c ≡ batch_app) }
     ensures local { IfOk result (λ c. (out-Command c).has_globals ≡ false) }
 {
-    let batch = with_option(alloc, ClapCommand::new(alloc, "batch"), "skew-ms", true)?;
-    let batch = with_option(alloc, batch, "workers", true)?;
-    let batch = with_option(alloc, batch, "transit-ms", false)?;
+    let batch = with_option(alloc, working_command(alloc)?, "transit-ms", false)?;
     let batch = with_journals(alloc, batch)?;
     with_option(alloc, batch, "certificate", false)
 }
@@ -71,14 +88,22 @@ fn asking_command<'a>(alloc: Global) -> Result<ClapCommand<'a>, AllocError>
     with_option(alloc, find, "prefix", true)
 }
 
+/// `find .. --from M --to M ..`: and in which interval.
+fn interval_command<'a>(alloc: Global) -> Result<ClapCommand<'a>, AllocError>
+    ensures app { IfOk result (λ c. app_of c ≡ with_rule (with_rule asking_app
+        (option_rule (codes "from") true)) (option_rule (codes "to") true)) }
+    ensures local { IfOk result (λ c. (out-Command c).has_globals ≡ false) }
+{
+    let find = with_option(alloc, asking_command(alloc)?, "from", true)?;
+    with_option(alloc, find, "to", true)
+}
+
 /// `find .. --from M --to M [--transit-ms N] [--journals PATH].. [--json]`.
 fn find_command<'a>(alloc: Global) -> Result<ClapCommand<'a>, AllocError>
     ensures app { IfOk result (λ c. app_of c ≡ find_app) }
     ensures local { IfOk result (λ c. (out-Command c).has_globals ≡ false) }
 {
-    let find = with_option(alloc, asking_command(alloc)?, "from", true)?;
-    let find = with_option(alloc, find, "to", true)?;
-    let find = with_option(alloc, find, "transit-ms", false)?;
+    let find = with_option(alloc, interval_command(alloc)?, "transit-ms", false)?;
     let find = with_journals(alloc, find)?;
     with_flag(alloc, find, "json")
 }
@@ -93,14 +118,22 @@ fn moment_command<'a>(alloc: Global) -> Result<ClapCommand<'a>, AllocError>
     with_option(alloc, who, "at", true)
 }
 
+/// `who .. [--transit-ms N] [--settings-differ] ..`: and by which bounds.
+fn bounds_command<'a>(alloc: Global) -> Result<ClapCommand<'a>, AllocError>
+    ensures app { IfOk result (λ c. app_of c ≡ with_rule (with_rule moment_app
+        (option_rule (codes "transit-ms") false)) (flag_rule (codes "settings-differ"))) }
+    ensures local { IfOk result (λ c. (out-Command c).has_globals ≡ false) }
+{
+    let who = with_option(alloc, moment_command(alloc)?, "transit-ms", false)?;
+    with_flag(alloc, who, "settings-differ")
+}
+
 /// `who .. [--transit-ms N] [--settings-differ] [--journals PATH].. [--explain] ..`.
 fn who_command<'a>(alloc: Global) -> Result<ClapCommand<'a>, AllocError>
     ensures app { IfOk result (λ c. app_of c ≡ who_app) }
     ensures local { IfOk result (λ c. (out-Command c).has_globals ≡ false) }
 {
-    let who = with_option(alloc, moment_command(alloc)?, "transit-ms", false)?;
-    let who = with_flag(alloc, who, "settings-differ")?;
-    let who = with_journals(alloc, who)?;
+    let who = with_journals(alloc, bounds_command(alloc)?)?;
     with_telling(alloc, with_flag(alloc, who, "explain")?)
 }
 
@@ -123,17 +156,29 @@ fn join_command<'a>(alloc: Global) -> Result<ClapCommand<'a>, AllocError>
     with_option(alloc, join, "to", false)
 }
 
+/// The desk, which does nothing without a command.
+fn bare_command<'a>(alloc: Global) -> ClapCommand<'a>
+    ensures { app_of result ≡ bare }
+{
+    ClapCommand::new(alloc, "desk_cli")
+        .subcommand_required(true)
+        .disable_help_subcommand(true)
+}
+
+/// The command that audits.
+fn auditing_command<'a>(alloc: Global) -> Result<ClapCommand<'a>, AllocError>
+    ensures { IfOk result (λ c. app_of c ≡ with_subcommand bare audit_app.top) }
+{
+    let audit = audit_command(alloc)?;
+    bare_command(alloc).subcommand(audit)
+}
+
 /// The commands that judge certificates.
 fn judging_command<'a>(alloc: Global) -> Result<ClapCommand<'a>, AllocError>
     ensures { IfOk result (λ c. app_of c ≡ judging_app) }
 {
-    let audit = audit_command(alloc)?;
     let batch = batch_command(alloc)?;
-    ClapCommand::new(alloc, "desk_cli")
-        .subcommand_required(true)
-        .disable_help_subcommand(true)
-        .subcommand(audit)?
-        .subcommand(batch)
+    auditing_command(alloc)?.subcommand(batch)
 }
 
 /// Those and the one that explains.
@@ -145,24 +190,35 @@ fn claims_command<'a>(alloc: Global) -> Result<ClapCommand<'a>, AllocError>
     judging.subcommand(explain)
 }
 
+/// Those and the one that finds.
+fn finding_command<'a>(alloc: Global) -> Result<ClapCommand<'a>, AllocError>
+    ensures { IfOk result (λ c. app_of c ≡ with_subcommand claims_app find_app.top) }
+{
+    let find = find_command(alloc)?;
+    claims_command(alloc)?.subcommand(find)
+}
+
 /// Those and the commands that search.
 fn searching_command<'a>(alloc: Global) -> Result<ClapCommand<'a>, AllocError>
     ensures { IfOk result (λ c. app_of c ≡ searching_app) }
 {
-    let claims = claims_command(alloc)?;
-    let find = find_command(alloc)?;
     let who = who_command(alloc)?;
-    claims.subcommand(find)?.subcommand(who)
+    finding_command(alloc)?.subcommand(who)
+}
+
+/// Those and the one that shows two journals as one.
+fn merging_command<'a>(alloc: Global) -> Result<ClapCommand<'a>, AllocError>
+    ensures { IfOk result (λ c. app_of c ≡ with_subcommand searching_app timeline_app.top) }
+{
+    let timeline = timeline_command(alloc)?;
+    searching_command(alloc)?.subcommand(timeline)
 }
 
 /// Those and the commands that show two journals.
 fn showing_command<'a>(alloc: Global) -> Result<ClapCommand<'a>, AllocError>
     ensures { IfOk result (λ c. app_of c ≡ showing_app) }
 {
-    let timeline = timeline_command(alloc)?;
-    searching_command(alloc)?
-        .subcommand(timeline)?
-        .subcommand(ClapCommand::new(alloc, "clocks"))
+    merging_command(alloc)?.subcommand(ClapCommand::new(alloc, "clocks"))
 }
 
 /// All commands.

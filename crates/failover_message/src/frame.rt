@@ -12,7 +12,7 @@ pub const MAX_LENGTH: u32 = 512;
 pub const MAX_OCTETS: usize = 516;
 
 /// What a frame says. The names are those of RFC 8156, section 5.
-#[derive(Clone, Copy, Debug, PartialEq, Eq, Hash)]
+#[derive(Clone, Copy, Debug, PartialEq, Eq)]
 pub enum FrameKind {
     /// BNDUPD: what a unit became.
     BindingUpdate(Update),
@@ -42,7 +42,7 @@ pub enum FrameKind {
 }
 
 /// A frame of the link.
-#[derive(Clone, Copy, Debug, PartialEq, Eq, Hash)]
+#[derive(Clone, Copy, Debug, PartialEq, Eq)]
 pub struct Frame {
     pub term: u32,
     /// The sender's binding updates, binding replies and contacts are counted from 1, as in its journal. The

@@ -6,7 +6,7 @@ use crate::error::LeadTimeError;
 use std::marker::Model;
 
 /// When a lease ends by a server's clock, in whole milliseconds since 1970 UTC: at most 2^49.
-#[derive(Clone, Copy, Debug, PartialEq, Eq, PartialOrd, Ord, Hash)]
+#[derive(Clone, Copy, Debug, PartialEq, Eq, PartialOrd, Ord)]
 pub struct End(u64);
 
 impl Model for End {

@@ -6,7 +6,7 @@ use crate::error::LeadTimeError;
 use std::marker::Model;
 
 /// What a server's clock showed, in whole milliseconds since 1970 UTC: at most 2^48.
-#[derive(Clone, Copy, Debug, PartialEq, Eq, PartialOrd, Ord, Hash)]
+#[derive(Clone, Copy, Debug, PartialEq, Eq, PartialOrd, Ord)]
 pub struct Reading(u64);
 
 impl Model for Reading {

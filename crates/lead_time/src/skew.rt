@@ -6,7 +6,7 @@ use crate::error::LeadTimeError;
 use std::marker::Model;
 
 /// The most by which a reading and true time differ, in milliseconds: at most a day.
-#[derive(Clone, Copy, Debug, PartialEq, Eq, PartialOrd, Ord, Hash)]
+#[derive(Clone, Copy, Debug, PartialEq, Eq, PartialOrd, Ord)]
 pub struct Skew(u64);
 
 impl Model for Skew {

@@ -6,7 +6,7 @@ use crate::error::LeadTimeError;
 use std::marker::Model;
 
 /// The most by which an answer may reach its client after its grant was written, in milliseconds: at most an hour.
-#[derive(Clone, Copy, Debug, PartialEq, Eq, PartialOrd, Ord, Hash)]
+#[derive(Clone, Copy, Debug, PartialEq, Eq, PartialOrd, Ord)]
 pub struct Transit(u64);
 
 impl Model for Transit {

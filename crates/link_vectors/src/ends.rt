@@ -1,6 +1,6 @@
 //! Two ends that share a key.
 
-use link_auth::{Heard, Joined, LinkKey, Opening, Side};
+use link_auth::{Heard, Joined, LinkKey, Opening, Reader, Side, Writer};
 use std::alloc::Global;
 use std::test::Fail;
 
@@ -64,36 +64,81 @@ pub(crate) fn pair(alloc: Global) -> Result<Option<(Joined, Joined)>, Fail> {
     Ok(Some((caller, called)))
 }
 
+/// Both ends, where they meet.
+pub(crate) fn both(alloc: Global) -> Result<(Joined, Joined), Fail> {
+    match pair(alloc)? {
+        Some(ends) => Ok(ends),
+        None => Err(Fail::from("no pair")),
+    }
+}
+
+/// Returns whether octets have these digits.
+fn is_spelled(alloc: Global, octets: &[u8], digits: &str) -> Result<bool, Fail> {
+    let found = hex::encode(alloc, octets)?;
+    Ok(found.as_str() == digits)
+}
+
+/// What the end that calls proves.
+fn proof(alloc: Global) -> Result<Option<[u8; 32]>, Fail> {
+    let heard = opening(alloc, Side::Caller, CALLER)?.hear(&CALLED)?;
+    Ok(answer(&heard))
+}
+
+/// Returns whether the end that calls proves what another program does.
+fn is_proved(alloc: Global) -> Result<bool, Fail> {
+    match proof(alloc)? {
+        Some(proof) => is_spelled(
+            alloc,
+            &proof,
+            "b180e3e97b24cde45585bfb9d8662df10d4ec5127cf68918a3576c04def43d20",
+        ),
+        None => Ok(false),
+    }
+}
+
+/// Two records, one behind the other.
+fn records(alloc: Global, writer: &mut Writer, one: &[u8], other: &[u8]) -> Result<Vec<u8>, Fail> {
+    let mut stream = Vec::new(alloc);
+    stream.extend_from_slice(&writer.write(one)?)?;
+    stream.extend_from_slice(&writer.write(other)?)?;
+    Ok(stream)
+}
+
+/// What a stream says, read octet by octet.
+fn said(alloc: Global, reader: &mut Reader, stream: &[u8]) -> Result<Vec<u8>, Fail> {
+    let mut octets = Vec::new(alloc);
+    for octet in stream {
+        octets.extend_from_slice(&reader.feed(&[*octet])?)?;
+    }
+    Ok(octets)
+}
+
+/// Returns whether the records of one end are another program's, and the other end reads them.
+fn are_read(alloc: Global, caller: &mut Joined, called: &mut Joined) -> Result<bool, Fail> {
+    let stream = records(alloc, &mut caller.writer, b"abc", b"defgh")?;
+    let is_same = is_spelled(
+        alloc,
+        &stream,
+        "000361626324e1318ddaf1b7504a8bef4a622b5009\
+00056465666768fa3bddedd2b760daeba16ef0b3044ff5",
+    )?;
+    let octets = said(alloc, &mut called.reader, &stream)?;
+    Ok(is_same && octets.as_slice() == b"abcdefgh".as_slice())
+}
+
+/// Returns whether the other end's record of the same octets is another.
+fn is_answered(alloc: Global, called: &mut Joined) -> Result<bool, Fail> {
+    let back = called.writer.write(b"abc")?;
+    is_spelled(alloc, &back, "000361626311ff4d813cc229d066fd2d7938c692c4")
+}
+
 /// The proofs and the records of a program that others wrote.
 #[test]
 fn send_what_others_make_of_the_same(rt: HostRuntime) -> Result<(), Fail> {
     let alloc = rt.alloc();
-    let caller = opening(alloc, Side::Caller, CALLER)?.hear(&CALLED)?;
-    let Some(proof) = answer(&caller) else {
-        return Err(Fail::new(format_args!("no proof")));
-    };
-    let proof = hex::encode(alloc, proof)?;
-    assert_eq!(rt;
-        proof.as_str(),
-        "b180e3e97b24cde45585bfb9d8662df10d4ec5127cf68918a3576c04def43d20"
-    );
-    let Some((mut caller, mut called)) = pair(alloc)? else {
-        return Err(Fail::new(format_args!("no pair")));
-    };
-    let mut stream = caller.writer.write(b"abc")?;
-    stream.extend_from_slice(&caller.writer.write(b"defgh")?)?;
-    let text = hex::encode(alloc, &stream)?;
-    assert_eq!(rt;
-        text.as_str(),
-        "000361626324e1318ddaf1b7504a8bef4a622b5009\
-00056465666768fa3bddedd2b760daeba16ef0b3044ff5"
-    );
-    let mut octets = Vec::new(alloc);
-    for octet in &stream {
-        octets.extend_from_slice(&called.reader.feed(&[*octet])?)?;
-    }
-    assert_eq!(rt; octets.as_slice(), b"abcdefgh".as_slice());
-    let back = hex::encode(alloc, called.writer.write(b"abc")?)?;
-    assert_eq!(rt; back.as_str(), "000361626311ff4d813cc229d066fd2d7938c692c4");
+    assert!(&rt; is_proved(alloc)?);
+    let (mut caller, mut called) = both(alloc)?;
+    assert!(&rt; are_read(alloc, &mut caller, &mut called)?);
+    assert!(&rt; is_answered(alloc, &mut called)?);
     Ok(())
 }

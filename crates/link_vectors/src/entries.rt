@@ -16,11 +16,49 @@ fn waits(verdict: Verdict) -> Option<(Waiting, Option<[u8; 32]>)> {
 }
 
 /// Who was let in.
-fn entered(verdict: Verdict) -> Option<Entrant> {
+fn entered(verdict: Verdict) -> Result<Entrant, Fail> {
     match verdict {
-        Verdict::Waits { .. } => None,
-        Verdict::Enters(entrant) => Some(entrant),
+        Verdict::Waits { .. } => Err(Fail::from("it isn't let in")),
+        Verdict::Enters(entrant) => Ok(entrant),
     }
+}
+
+/// Who is let in with a chunk.
+fn let_in(alloc: Global, waiting: Waiting, chunk: &[u8]) -> Result<Entrant, Fail> {
+    entered(waiting.hear(alloc, chunk)?)
+}
+
+/// What waits, and the proof that it sends.
+fn proving(verdict: Verdict) -> Result<(Waiting, [u8; 32]), Fail> {
+    let Some((waiting, proof)) = waits(verdict) else {
+        return Err(Fail::from("it doesn't wait"));
+    };
+    match proof {
+        Some(proof) => Ok((waiting, proof)),
+        None => Err(Fail::from("it sends no proof")),
+    }
+}
+
+/// An end with the key that has heard the other's nonce.
+fn greeted(
+    alloc: Global,
+    side: Side,
+    own: [u8; 32],
+    other: &[u8; 32],
+) -> Result<(Waiting, [u8; 32]), Fail> {
+    let keeper = Keeper {
+        side,
+        key: Some(LinkKey::from_text(KEY)?),
+    };
+    proving(keeper.begin(alloc, own).hear(alloc, other)?)
+}
+
+/// A proof, and what is put behind it.
+fn proof_and(alloc: Global, entrant: &mut Entrant, proof: &[u8; 32]) -> Result<Vec<u8>, Fail> {
+    let mut octets = Vec::new(alloc);
+    octets.extend_from_slice(proof)?;
+    octets.extend_from_slice(&entrant.passage.put(alloc, b"grant")?)?;
+    Ok(octets)
 }
 
 /// The octets of a frame that has no line in a journal.
@@ -39,35 +77,11 @@ fn octets_of(alloc: Global, kind: FrameKind) -> Result<Vec<u8>, Fail> {
 #[test]
 fn let_in_who_has_the_key(rt: HostRuntime) -> Result<(), Fail> {
     let alloc = rt.alloc();
-    let key = Some(LinkKey::from_text(KEY)?);
-    let caller = Keeper {
-        side: Side::Caller,
-        key,
-    };
-    let caller = caller.begin(alloc, CALLER).hear(alloc, &CALLED)?;
-    let called = Keeper {
-        side: Side::Called,
-        key: Some(LinkKey::from_text(KEY)?),
-    };
-    let called = called.begin(alloc, CALLED).hear(alloc, &CALLER)?;
-    let Some((caller, one)) = waits(caller) else {
-        return Err(Fail::new(format_args!("the caller doesn't wait")));
-    };
-    let Some((called, other)) = waits(called) else {
-        return Err(Fail::new(format_args!("the called doesn't wait")));
-    };
-    let (Some(one), Some(other)) = (one, other) else {
-        return Err(Fail::new(format_args!("no proofs")));
-    };
-    let Some(mut caller) = entered(caller.hear(alloc, &other)?) else {
-        return Err(Fail::new(format_args!("the caller isn't let in")));
-    };
-    let mut last = Vec::new(alloc);
-    last.extend_from_slice(&one)?;
-    last.extend_from_slice(&caller.passage.put(alloc, b"grant")?)?;
-    let Some(called) = entered(called.hear(alloc, &last)?) else {
-        return Err(Fail::new(format_args!("the called isn't let in")));
-    };
+    let (caller, one) = greeted(alloc, Side::Caller, CALLER, &CALLED)?;
+    let (called, other) = greeted(alloc, Side::Called, CALLED, &CALLER)?;
+    let mut caller = let_in(alloc, caller, &other)?;
+    let last = proof_and(alloc, &mut caller, &one)?;
+    let called = let_in(alloc, called, &last)?;
     assert_eq!(rt; called.ahead.as_slice(), b"grant".as_slice());
     Ok(())
 }
@@ -91,9 +105,7 @@ fn let_in_who_says_connect(rt: HostRuntime) -> Result<(), Fail> {
     let Some((waiting, None)) = waits(keeper.begin(alloc, CALLED).hear(alloc, front)?) else {
         return Err(Fail::new(format_args!("it doesn't wait")));
     };
-    let Some(entrant) = entered(waiting.hear(alloc, back)?) else {
-        return Err(Fail::new(format_args!("it isn't let in")));
-    };
+    let entrant = let_in(alloc, waiting, back)?;
     assert_eq!(rt; entrant.ahead.as_slice(), connect.as_slice());
     let goodbye = octets_of(alloc, FrameKind::Disconnect)?;
     let fault = keeper.begin(alloc, CALLED).hear(alloc, &goodbye).err();

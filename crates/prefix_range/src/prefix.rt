@@ -8,7 +8,7 @@ use std::marker::Model;
 
 /// The addresses that share their first `len` bits (RFC 4291, section 2.3). Contracts see a record of the
 /// address, whose other bits are zero, and the length.
-#[derive(Clone, Copy, Debug, PartialEq, Eq, Hash)]
+#[derive(Clone, Copy, Debug, PartialEq, Eq)]
 pub struct Prefix {
     address: u128,
     length: u8,

@@ -18,8 +18,6 @@ mod limits;
 mod protection;
 mod quotas;
 mod settings;
-#[cfg(test)]
-mod tests;
 
 pub use error::ServeSettingsError;
 pub use protection::LinkProtection;

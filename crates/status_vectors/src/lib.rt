@@ -1,6 +1,9 @@
-//! A server's status in its three forms, the words of its control socket, and its last syncs.
+//! What a daemon is told and what it says: its settings, the words of its control socket, its status in three forms,
+//! and its last syncs.
 #![tactic(auto)]
 
+#[cfg(test)]
+mod documents;
 #[cfg(test)]
 mod forms;
 #[cfg(test)]

@@ -11,8 +11,6 @@
 
 mod error;
 mod local;
-#[cfg(test)]
-mod tests;
 mod zone;
 
 pub use error::ZoneError;

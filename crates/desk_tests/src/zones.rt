@@ -1,10 +1,10 @@
 //! Zones written out here octet by octet; what clocks show in them is what Python's zoneinfo says.
 
-use crate::{ZoneError, ZoneFile, push_local};
 use lead_time::Reading;
 use std::alloc::Global;
 use std::process::Abort;
 use std::test::Fail;
+use zone_times::{ZoneError, ZoneFile, push_local};
 
 /// A zone without transitions, up to the first type's offset: version 2, one type and four octets of names.
 const HEADER: &[u8] =

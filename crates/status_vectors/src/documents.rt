@@ -1,8 +1,7 @@
 //! Documents, and what they are read as or refused by.
 
-use crate::error::ServeSettingsError;
-use crate::settings::ServeSettings;
 use client_limits::{Limits, PortRule};
+use serve_settings::{ServeSettings, ServeSettingsError};
 use server_settings::OpenError;
 use server_upkeep::Upkeep;
 use std::alloc::{AllocError, Global};
