@@ -61,7 +61,7 @@ def crates():
 def notices():
     """A sentence for each line of a running server's that the page on it doesn't have."""
     page = (ROOT / "docs/operating/watching.md").read_text()
-    for line in SAYS.findall((ROOT / "crates/server_notices/src/happening.rt").read_text()):
+    for line in SAYS.findall((ROOT / "crates/server_log/src/log_event.rt").read_text()):
         if (begin := line.partition(":")[0].strip()) and f"`{begin}" not in page:
             yield f"watching.md: {line} isn't there"
 

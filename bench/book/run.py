@@ -17,7 +17,7 @@ import time
 HERE = pathlib.Path(__file__).resolve().parent
 ROOT = HERE.parent.parent
 CRATES = ["text_fields", "prefix_range", "client_id", "lead_time", "binding_rules", "journal_lines", "book_state",
-          "book_rules", "dhcp6_pd", "unit_finder", "server_settings", "order_book", "server_book"]
+          "book_rules", "dhcp6_pd", "unit_index", "server_settings", "order_book", "server_book"]
 COUNTS = {"orders": 60_000, "replay": 12}
 ORDERS_A_ROUND = 7
 

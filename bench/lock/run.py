@@ -15,7 +15,7 @@ import tempfile
 HERE = pathlib.Path(__file__).resolve().parent
 ROOT = HERE.parent.parent
 CRATES = ["text_fields", "prefix_range", "client_id", "lead_time", "binding_rules", "journal_lines", "book_state",
-          "book_rules", "dhcp6_pd", "unit_finder", "server_settings", "order_book", "server_book", "locked_book"]
+          "book_rules", "dhcp6_pd", "unit_index", "server_settings", "order_book", "server_book", "locked_book"]
 REQUESTS = 400_000
 MOST_LINES = 2**20 - 1
 

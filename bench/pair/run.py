@@ -1,6 +1,6 @@
 #!/usr/bin/env python3
 """run.py [EVENTS [LENGTH [FOLDER]]]: lets EVENTS random events (1,000,000 if not said) happen in worlds of LENGTH events each (500 if
-not said), by the generator of pair_vectors, over a pool of four units and three clients.
+not said), by the generator of pair_tests, over a pool of four units and three clients.
 
 Behind each event that is done no unit may be held by two clients; at the end of each world both journals, closed, must keep the
 rules, and the auditor must find an order of both. Makes a workspace in FOLDER (a temporary one if not said) of the crates and a
@@ -47,7 +47,7 @@ def workspace(folder):
         (driver / part).mkdir(parents=True, exist_ok=True)
     shutil.copy(HERE / "driver.txt", driver / "src" / "main.rt")
     for name in FILES:
-        shutil.copy(ROOT / "crates" / "pair_vectors" / "src" / name, driver / "src" / name)
+        shutil.copy(ROOT / "crates" / "pair_tests" / "src" / name, driver / "src" / name)
     (driver / "specs" / "Lib.antt").write_text("")
     return driver
 

@@ -12,22 +12,22 @@ use Rattle.causal_order.specs.declared.certificate.Certificate.{Certificate as C
 use Rattle.causal_order.specs.declared.fault.CertificateFault.{CertificateFault}
 use Rattle.certificate.specs.Faults.{certificate_of}
 use Rattle.attribution.specs.declared.verdict.Verdict.TheVariants.{Certificate as CertificateVerdict}
-use Rattle.pair_ruling.specs.declared.ruling.Ruling.{Ruling}
-use Rattle.pair_ruling.specs.declared.ruling.Ruling.TheVariants.{Verdict}
-use Rattle.journal_archive.specs.declared.pair.ShownPair.{ShownPair}
+use Rattle.pair_judgement.specs.declared.judging.Judgement.{Judgement}
+use Rattle.pair_judgement.specs.declared.judging.Judgement.TheVariants.{Verdict}
+use Rattle.journal_archive.specs.declared.pair.PairJournals.{PairJournals}
 use Rattle.journal_archive.specs.Shown.{read_of, ShownAreSnapshots}
-use Rattle.attribution_desk.specs.declared.certificates.Claim.{Claim}
+use Rattle.attribution_desk.specs.declared.certificates.CertificateText.{CertificateText}
 use Rattle.attribution_desk.specs.Claims.{texts_of}
 use Rattle.attribution_desk.specs.Batch.{AreRuled}
-use Rattle.attribution_desk.specs.Rulings.{IsRulingOfJournals, IsRulingOfParsed}
+use Rattle.attribution_desk.specs.Judgements.{IsJudgementOfJournals, IsJudgementOfParsed}
 use Rattle.attribution_desk.specs.Laws.{AcceptedRulingsAreTrue}
-use Rattle.journal_archive.specs.declared.answer.Pair.{Pair}
+use Rattle.journal_archive.specs.declared.pair_lookup.VolumePair.{VolumePair}
 use Rattle.journal_archive.specs.declared.archive.Archive.{Archive}
-use Rattle.archive_files.specs.Showing.{IsShown, AreClosed}
-use Rattle.archive_desk.specs.declared.judging.Judged.TheVariants.{Ruled, Faulty, Lacking}
-use Rattle.archive_desk.specs.declared.waiting.Pending.{Pending}
-use Rattle.archive_desk.specs.declared.waiting.Pending.TheVariants.{Shown, Judged}
-use Rattle.archive_desk.specs.declared.waiting.Waiting.{Waiting}
+use Rattle.archive_files.specs.Showing.{AreShownBy, AreClosed}
+use Rattle.archive_desk.specs.declared.judging.ArchiveJudgement.TheVariants.{Ruled, Faulty, Lacking}
+use Rattle.archive_desk.specs.declared.waiting.PendingState.{PendingState}
+use Rattle.archive_desk.specs.declared.waiting.PendingState.TheVariants.{Shown, Judged}
+use Rattle.archive_desk.specs.declared.waiting.PendingCertificate.{PendingCertificate}
 use Rattle.archive_desk.specs.declared.waiting.Member.{Member}
 use Rattle.archive_desk.specs.Judging.{AreRuledOver}
 use Rattle.archive_desk.specs.Waiting.{IsPlaced, ArePlaced, texts_waiting, AreMembers, texts_among, IsPending}
@@ -54,31 +54,31 @@ length_more (y ∷ ys) x = ap suc (length_more ys x)
 
 -- ---- before any file is read
 
-pub texts_more : (claims : List Claim) (i : ℕ) (c : Claim) (ws new : List Waiting) (w : Waiting)
+pub texts_more : (claims : List CertificateText) (i : ℕ) (c : CertificateText) (ws new : List PendingCertificate) (w : PendingCertificate)
     → i < length claims → c ≡ get_or claims i c → w.text ≡ c.text → new ≡ ws ++ w ∷ []
     → texts_waiting ws ++ texts_of (drop i claims) ≡ texts_of claims
     → texts_waiting new ++ texts_of (drop (i + 1) claims) ≡ texts_of claims
 texts_more claims i c ws new w lt at same is h =
     let rest = texts_of (drop (i + 1) claims) in
-    ap (λ (xs : List Waiting). texts_waiting xs ++ rest) is
-    ∙ (ap (λ (t : List (List ℕ)). t ++ rest) (map-append (λ (x : Waiting). x.text.now) ws (w ∷ []))
+    ap (λ (xs : List PendingCertificate). texts_waiting xs ++ rest) is
+    ∙ (ap (λ (t : List (List ℕ)). t ++ rest) (map-append (λ (x : PendingCertificate). x.text.now) ws (w ∷ []))
     ∙ (append_assoc (texts_waiting ws) (w.text.now ∷ []) rest
     ∙ (ap (λ t. texts_waiting ws ++ (t.now ∷ rest)) same
-    ∙ (sym (ap (λ (cs : List Claim). texts_waiting ws ++ texts_of cs) (drop_more claims i c lt at)) ∙ h))))
+    ∙ (sym (ap (λ (cs : List CertificateText). texts_waiting ws ++ texts_of cs) (drop_more claims i c lt at)) ∙ h))))
 
-pub texts_all : (claims : List Claim) (i : ℕ) (ws : List Waiting) → length claims ≤ i
+pub texts_all : (claims : List CertificateText) (i : ℕ) (ws : List PendingCertificate) → length claims ≤ i
     → texts_waiting ws ++ texts_of (drop i claims) ≡ texts_of claims → texts_waiting ws ≡ texts_of claims
 texts_all claims i ws le h =
     sym (append-nil (texts_waiting ws))
-    ∙ (sym (ap (λ (cs : List Claim). texts_waiting ws ++ texts_of cs) (drop_end claims i le)) ∙ h)
+    ∙ (sym (ap (λ (cs : List CertificateText). texts_waiting ws ++ texts_of cs) (drop_end claims i le)) ∙ h)
 
-pub placed_more : (archive : Archive) (skew transit : ℕ) (ws new : List Waiting) (w : Waiting) → new ≡ ws ++ w ∷ []
+pub placed_more : (archive : Archive) (skew transit : ℕ) (ws new : List PendingCertificate) (w : PendingCertificate) → new ≡ ws ++ w ∷ []
     → IsPlaced archive skew transit (certificate_of w.text.now) w.pending → ArePlaced archive skew transit ws
     → ArePlaced archive skew transit new
 placed_more archive skew transit ws new w is placed are k v at =
-    elim (at_or ws w v k (subst (λ (xs : List Waiting). slice_get xs k ≡ Some v) is at)) [
+    elim (at_or ws w v k (subst (λ (xs : List PendingCertificate). slice_get xs k ≡ Some v) is at)) [
       | inl old ↦ are k v old
-      | inr e ↦ subst (λ (x : Waiting). IsPlaced archive skew transit (certificate_of x.text.now) x.pending) e.1 placed
+      | inr e ↦ subst (λ (x : PendingCertificate). IsPlaced archive skew transit (certificate_of x.text.now) x.pending) e.1 placed
     ]
 
 -- ---- those of one pair of volumes
@@ -88,45 +88,45 @@ pub item_at : {X : Type 0} (xs : List X) (i : ℕ) (x : X) → i < length xs →
     → slice_get xs i ≡ Some x
 item_at {X} xs i x lt is = slice_get-get_or xs i x lt ∙ ap (λ (y : X). Some y) (sym is)
 
-pub no_members : (ws : List Waiting) (pair : Pair) (ms : List Member) → ms ≡ [] → AreMembers ws pair ms
+pub no_members : (ws : List PendingCertificate) (pair : VolumePair) (ms : List Member) → ms ≡ [] → AreMembers ws pair ms
 no_members ws pair [] none i m at = absurd (cc)
 no_members ws pair (x ∷ ms) none i m at = absurd (cc)
 
-pub member_more : (ws : List Waiting) (pair : Pair) (ms new : List Member) (m : Member) (w : Waiting)
+pub member_more : (ws : List PendingCertificate) (pair : VolumePair) (ms new : List Member) (m : Member) (w : PendingCertificate)
     → slice_get ws m.place ≡ Some w → w.text ≡ m.text → w.pending ≡ Shown pair → new ≡ ms ++ m ∷ []
     → AreMembers ws pair ms → AreMembers ws pair new
 member_more ws pair ms new m w at same shown is are i n has =
     elim (at_or ms m n i (subst (λ (xs : List Member). slice_get xs i ≡ Some n) is has)) [
       | inl old ↦ are i n old
-      | inr e ↦ subst (λ (x : Member). (v : Waiting) × (slice_get ws x.place ≡ Some v) × (v.text.now ≡ x.text.now)
+      | inr e ↦ subst (λ (x : Member). (v : PendingCertificate) × (slice_get ws x.place ≡ Some v) × (v.text.now ≡ x.text.now)
           × (v.pending ≡ Shown pair)) e.1 (w, at, ap (λ t. t.now) same, shown)
     ]
 
-pub claims_more : (ms : List Member) (i : ℕ) (m : Member) (cs new : List Claim) (c : Claim)
+pub claims_more : (ms : List Member) (i : ℕ) (m : Member) (cs new : List CertificateText) (c : CertificateText)
     → i < length ms → m ≡ get_or ms i m → c.text ≡ m.text → new ≡ cs ++ c ∷ []
     → texts_of cs ++ texts_among (drop i ms) ≡ texts_among ms
     → texts_of new ++ texts_among (drop (i + 1) ms) ≡ texts_among ms
 claims_more ms i m cs new c lt at same is h =
     let rest = texts_among (drop (i + 1) ms) in
-    ap (λ (xs : List Claim). texts_of xs ++ rest) is
-    ∙ (ap (λ (t : List (List ℕ)). t ++ rest) (map-append (λ (x : Claim). x.text.now) cs (c ∷ []))
+    ap (λ (xs : List CertificateText). texts_of xs ++ rest) is
+    ∙ (ap (λ (t : List (List ℕ)). t ++ rest) (map-append (λ (x : CertificateText). x.text.now) cs (c ∷ []))
     ∙ (append_assoc (texts_of cs) (c.text.now ∷ []) rest
     ∙ (ap (λ t. texts_of cs ++ (t.now ∷ rest)) same
     ∙ (sym (ap (λ (xs : List Member). texts_of cs ++ texts_among xs) (drop_more ms i m lt at)) ∙ h))))
 
-pub claims_all : (ms : List Member) (i : ℕ) (cs : List Claim) → length ms ≤ i
+pub claims_all : (ms : List Member) (i : ℕ) (cs : List CertificateText) → length ms ≤ i
     → texts_of cs ++ texts_among (drop i ms) ≡ texts_among ms → texts_of cs ≡ texts_among ms
 claims_all ms i cs le h =
     sym (append-nil (texts_of cs))
     ∙ (sym (ap (λ (xs : List Member). texts_of cs ++ texts_among xs) (drop_end ms i le)) ∙ h)
 
 -- what was placed waits
-pub placed_wait : (had : ℕ → List ℕ → Type 0) (archive : Archive) (skew transit : ℕ) (ws : List Waiting)
+pub placed_wait : (had : ℕ → List ℕ → Type 0) (archive : Archive) (skew transit : ℕ) (ws : List PendingCertificate)
     → ArePlaced archive skew transit ws → AreWaiting had archive skew transit ws
 placed_wait had archive skew transit ws placed k w at =
     by (certificate_of w.text.now) w.pending (placed k w at)
   where
-    by : (certificate : Result Claimed CertificateFault) (p : Pending) → IsPlaced archive skew transit certificate p
+    by : (certificate : Result Claimed CertificateFault) (p : PendingState) → IsPlaced archive skew transit certificate p
         → IsPending had archive skew transit certificate p
     by certificate (Shown pair) h = h
     by (Ok claim) (Judged (Lacking side lack)) h = (h, λ none. absurd none)
@@ -138,7 +138,7 @@ placed_wait had archive skew transit ws placed k w at =
 
 -- ---- one that is judged
 
-set_at : (ws : List Waiting) (p k : ℕ) (x v : Waiting) → slice_get (set ws p x) k ≡ Some v
+set_at : (ws : List PendingCertificate) (p k : ℕ) (x v : PendingCertificate) → slice_get (set ws p x) k ≡ Some v
     → (slice_get ws k ≡ Some v) ⊎ (x ≡ v)
 set_at [] p k x v h = inl h
 set_at (w ∷ ws) zero zero x v h = inr cc
@@ -146,21 +146,21 @@ set_at (w ∷ ws) zero (suc k) x v h = inl h
 set_at (w ∷ ws) (suc p) zero x v h = inl h
 set_at (w ∷ ws) (suc p) (suc k) x v h = set_at ws p k x v h
 
-texts_set : (ws : List Waiting) (p : ℕ) (x u : Waiting) → slice_get ws p ≡ Some u → x.text ≡ u.text
+texts_set : (ws : List PendingCertificate) (p : ℕ) (x u : PendingCertificate) → slice_get ws p ≡ Some u → x.text ≡ u.text
     → texts_waiting (set ws p x) ≡ texts_waiting ws
 texts_set [] p x u at same = refl
 texts_set (w ∷ ws) zero x u at same =
     let is : w ≡ u = cc in
-    ap (λ t. t.now ∷ texts_waiting ws) (same ∙ ap (λ (y : Waiting). y.text) (sym is))
+    ap (λ t. t.now ∷ texts_waiting ws) (same ∙ ap (λ (y : PendingCertificate). y.text) (sym is))
 texts_set (w ∷ ws) (suc p) x u at same = ap (λ (ts : List (List ℕ)). w.text.now ∷ ts) (texts_set ws p x u at same)
 
-text_at : (ws : List Waiting) (p : ℕ) (u : Waiting) → slice_get ws p ≡ Some u
+text_at : (ws : List PendingCertificate) (p : ℕ) (u : PendingCertificate) → slice_get ws p ≡ Some u
     → slice_get (texts_waiting ws) p ≡ Some u.text.now
 text_at [] p u at = absurd (cc)
-text_at (w ∷ ws) zero u at = let is : w ≡ u = cc in ap (λ (y : Waiting). Some y.text.now) is
+text_at (w ∷ ws) zero u at = let is : w ≡ u = cc in ap (λ (y : PendingCertificate). Some y.text.now) is
 text_at (w ∷ ws) (suc p) u at = text_at ws p u at
 
-pub same_length : (ws vs : List Waiting) → texts_waiting ws ≡ texts_waiting vs → length ws ≡ length vs
+pub same_length : (ws vs : List PendingCertificate) → texts_waiting ws ≡ texts_waiting vs → length ws ≡ length vs
 same_length [] [] e = refl
 same_length [] (v ∷ vs) e = absurd (cc)
 same_length (w ∷ ws) [] e = absurd (cc)
@@ -178,52 +178,52 @@ among_length : (ms : List Member) → length (texts_among ms) ≡ length ms
 among_length [] = refl
 among_length (m ∷ ms) = ap suc (among_length ms)
 
-count_of : (a b : Result Journal JournalFault) (skew transit : ℕ) (texts : List (List ℕ)) (rs : List Ruling)
+count_of : (a b : Result Journal JournalFault) (skew transit : ℕ) (texts : List (List ℕ)) (rs : List Judgement)
     → AreRuled a b skew transit texts rs → length rs ≡ length texts
 count_of a b skew transit [] [] h = refl
 count_of a b skew transit (text ∷ texts) (r ∷ rs) h = ap suc (count_of a b skew transit texts rs h.1)
 count_of a b skew transit [] (r ∷ rs) h = absurd h
 count_of a b skew transit (text ∷ texts) [] h = absurd h
 
-ruled_at : (a b : Result Journal JournalFault) (skew transit : ℕ) (texts : List (List ℕ)) (rs : List Ruling) (i : ℕ)
-    (text : List ℕ) (r : Ruling) → AreRuled a b skew transit texts rs → slice_get texts i ≡ Some text
-    → slice_get rs i ≡ Some r → IsRulingOfParsed a b skew transit (certificate_of text) r
+ruled_at : (a b : Result Journal JournalFault) (skew transit : ℕ) (texts : List (List ℕ)) (rs : List Judgement) (i : ℕ)
+    (text : List ℕ) (r : Judgement) → AreRuled a b skew transit texts rs → slice_get texts i ≡ Some text
+    → slice_get rs i ≡ Some r → IsJudgementOfParsed a b skew transit (certificate_of text) r
 ruled_at a b skew transit [] rs i text r h x y = absurd (cc)
 ruled_at a b skew transit (t ∷ texts) [] i text r h x y = absurd h
 ruled_at a b skew transit (t ∷ texts) (s ∷ rs) zero text r h x y =
     let one : t ≡ text = cc in
     let other : s ≡ r = cc in
-    subst (λ z. IsRulingOfParsed a b skew transit (certificate_of z) r) one
-    (subst (λ z. IsRulingOfParsed a b skew transit (certificate_of t) z) other h.0)
+    subst (λ z. IsJudgementOfParsed a b skew transit (certificate_of z) r) one
+    (subst (λ z. IsJudgementOfParsed a b skew transit (certificate_of t) z) other h.0)
 ruled_at a b skew transit (t ∷ texts) (s ∷ rs) (suc i) text r h x y =
     ruled_at a b skew transit texts rs i text r h.1 x y
 
 -- a ruling over the journals that a pair of volumes shows
-module _ (had : ℕ → List ℕ → Type 0) (archive : Archive) (skew transit : ℕ) (pair : Pair)
+module _ (had : ℕ → List ℕ → Type 0) (archive : Archive) (skew transit : ℕ) (pair : VolumePair)
     (law : AcceptedRulingsAreTrue) (snaps : ShownAreSnapshots) where
-  ruling_stands : (shown : ShownPair) → IsShown had pair shown → AreClosed shown
-      → (certificate : Result Claimed CertificateFault) (r : Ruling)
+  ruling_stands : (shown : PairJournals) → AreShownBy had pair shown → AreClosed shown
+      → (certificate : Result Claimed CertificateFault) (r : Judgement)
       → IsPlaced archive skew transit certificate (Shown pair)
-      → IsRulingOfParsed (Ok shown.primary) (Ok shown.secondary) skew transit certificate r
+      → IsJudgementOfParsed (Ok shown.primary) (Ok shown.secondary) skew transit certificate r
       → IsPending had archive skew transit certificate (Judged (Ruled pair r))
   ruling_stands shown is closed (Ok claim) r placed ruled = (
     (shown, (placed, is, closed), ruled),
     λ accepted. (
         let v = is.0 in
         let w = is.1 in
-        let read = ap (λ (s : ShownPair). journals_of s.primary s.secondary) is.4 ∙ snaps v.journal w.journal in (
+        let read = ap (λ (s : PairJournals). journals_of s.primary s.secondary) is.4 ∙ snaps v.journal w.journal in (
           v,
           w,
           is.2,
           is.3,
           law shown.primary shown.secondary skew transit claim
-              (subst (λ z. IsRulingOfJournals shown.primary shown.secondary skew transit claim z) accepted ruled)
+              (subst (λ z. IsJudgementOfJournals shown.primary shown.secondary skew transit claim z) accepted ruled)
               (read_of v.journal w.journal) read,
         )),
   )
   ruling_stands shown is closed (Err fault) r placed ruled = absurd (cc)
 
-  module _ (old : List Waiting) (ms : List Member) (claims : List Claim) (rulings : List Ruling)
+  module _ (old : List PendingCertificate) (ms : List Member) (claims : List CertificateText) (rulings : List Judgement)
       (members : AreMembers old pair ms) (texts : texts_of claims ≡ texts_among ms)
       (waits : AreWaiting had archive skew transit old)
       (over : AreRuledOver had pair skew transit (texts_of claims) rulings) where
@@ -237,9 +237,9 @@ module _ (had : ℕ → List ℕ → Type 0) (archive : Archive) (skew transit :
         let c = among_length ms in
         omega arith
 
-    module _ (ws : List Waiting) (same : texts_waiting ws ≡ texts_waiting old) (i : ℕ) (m : Member)
+    module _ (ws : List PendingCertificate) (same : texts_waiting ws ≡ texts_waiting old) (i : ℕ) (m : Member)
         (at : slice_get ms i ≡ Some m) where
-      own : (w : Waiting) × (slice_get old m.place ≡ Some w) × (w.text.now ≡ m.text.now) × (w.pending ≡ Shown pair)
+      own : (w : PendingCertificate) × (slice_get old m.place ≡ Some w) × (w.text.now ≡ m.text.now) × (w.pending ≡ Shown pair)
       own = members i m at
 
       -- it stands among them
@@ -251,14 +251,14 @@ module _ (had : ℕ → List ℕ → Type 0) (archive : Archive) (skew transit :
           (subst (IsPending had archive skew transit (certificate_of own.0.text.now)) own.3
           (waits m.place own.0 own.1))
 
-      text_is : (u : Waiting) → slice_get ws m.place ≡ Some u → u.text.now ≡ m.text.now
+      text_is : (u : PendingCertificate) → slice_get ws m.place ≡ Some u → u.text.now ≡ m.text.now
       text_is u here =
           let one : Some u.text.now ≡ Some own.0.text.now = sym (text_at ws m.place u here)
           ∙ (ap (λ (ts : List (List ℕ)). slice_get ts m.place) same ∙ text_at old m.place own.0 own.1) in
           let is : u.text.now ≡ own.0.text.now = cc in
           is ∙ own.2
 
-      pub one_judged : (r : Ruling) → slice_get rulings i ≡ Some r → (x d : Waiting)
+      pub one_judged : (r : Judgement) → slice_get rulings i ≡ Some r → (x d : PendingCertificate)
           → x.text ≡ (get_or ws m.place d).text → x.pending ≡ Judged (Ruled pair r)
           → AreWaiting had archive skew transit ws
           → (texts_waiting (set ws m.place x) ≡ texts_waiting old)
@@ -276,7 +276,7 @@ module _ (had : ℕ → List ℕ → Type 0) (archive : Archive) (skew transit :
             texts_set ws m.place x u here text ∙ same,
             λ k v h. elim (set_at ws m.place k x v h) [
               | inl there ↦ are k v there
-              | inr e ↦ subst (λ (y : Waiting). IsPending had archive skew transit (certificate_of y.text.now) y.pending)
+              | inr e ↦ subst (λ (y : PendingCertificate). IsPending had archive skew transit (certificate_of y.text.now) y.pending)
                   e good
             ],
           )

@@ -3,7 +3,7 @@ use Rattle.std.specs.Prelude.{◌≡◌, ℕ, List, [], ◌∷◌, ◌++◌, cod
 use Rattle.std.specs.declared.path.buf.PathBuf.{PathBuf}
 use Rattle.journal_archive.specs.declared.error.ArchiveError.{ArchiveError}
 use Rattle.journal_archive.specs.declared.error.ArchiveError.TheVariants.{NoVolume, Differ, OutOfOrder, Memory}
-use Rattle.archive_desk.specs.declared.telling.Told.{Told}
+use Rattle.archive_desk.specs.declared.command_output.CommandOutput.{CommandOutput}
 use Rattle.archive_desk.specs.Names.{name_at}
 
 -- a blank and the name of a file
@@ -27,7 +27,7 @@ other_pair_line names first second =
     codes "refused V4 OtherPair" ++ (file_word names first ++ (file_word names second ++ 10 ∷ []))
 
 -- standard output says this line, and nothing else is said
-pub record IsRefusal (line : List ℕ) (told : Told) : Type 0 where
+pub record IsRefusal (line : List ℕ) (told : CommandOutput) : Type 0 where
   pub text : told.text.items ≡ line
   pub status : told.status ≡ 1
   pub quiet : told.notes.items ≡ []

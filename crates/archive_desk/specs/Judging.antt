@@ -6,65 +6,65 @@ use Rattle.open_volume.specs.declared.volume.VolumeSoFar.{VolumeSoFar}
 use Rattle.book_rules.specs.NextHead.{AreLegal}
 use Rattle.attribution.specs.declared.verdict.Verdict.TheVariants.{Accepted, Certificate}
 use Rattle.attribution.specs.Snapshot.{IsTrueInRunsThatBeginSo}
-use Rattle.pair_ruling.specs.declared.ruling.Ruling.{Ruling}
-use Rattle.pair_ruling.specs.declared.ruling.Ruling.TheVariants.{Verdict}
-use Rattle.journal_archive.specs.declared.answer.Pair.{Pair}
+use Rattle.pair_judgement.specs.declared.judging.Judgement.{Judgement}
+use Rattle.pair_judgement.specs.declared.judging.Judgement.TheVariants.{Verdict}
+use Rattle.journal_archive.specs.declared.pair_lookup.VolumePair.{VolumePair}
 use Rattle.journal_archive.specs.declared.archive.Archive.{Archive}
-use Rattle.journal_archive.specs.declared.pair.ShownPair.{ShownPair}
+use Rattle.journal_archive.specs.declared.pair.PairJournals.{PairJournals}
 use Rattle.journal_archive.specs.Shown.{read_of}
-use Rattle.archive_files.specs.Showing.{IsCopyOf, IsShown, IsShownAt, AreClosed}
-use Rattle.archive_files.specs.declared.showing.Shown.TheVariants.{Journals as ShownJournals, Lacking as ShownLacking}
-use Rattle.attribution_desk.specs.Rulings.{IsRulingOfJournals}
+use Rattle.archive_files.specs.Showing.{IsCopyOf, AreShownBy, IsShownAt, AreClosed}
+use Rattle.archive_files.specs.declared.showing.ShownJournals.TheVariants.{Journals as ShownJournals, Lacking as ShownLacking}
+use Rattle.attribution_desk.specs.Judgements.{IsJudgementOfJournals}
 use Rattle.attribution_desk.specs.Batch.{AreRuled}
-use Rattle.archive_desk.specs.declared.judging.Judged.{Judged}
-use Rattle.archive_desk.specs.declared.judging.Judged.TheVariants.{Ruled, Faulty, Lacking}
+use Rattle.archive_desk.specs.declared.judging.ArchiveJudgement.{ArchiveJudgement}
+use Rattle.archive_desk.specs.declared.judging.ArchiveJudgement.TheVariants.{Ruled, Faulty, Lacking}
 
 -- The desk's ruling over the journals that the pair of volumes shows which shows where the interval begins; or which
 -- side lacks that, and why.
-abbrev pub IsJudgedAt : (had : ℕ → List ℕ → Type 0) → Archive → (skew transit : ℕ) → Claim → Judged → Type 0
+abbrev pub IsJudgedAt : (had : ℕ → List ℕ → Type 0) → Archive → (skew transit : ℕ) → Claim → ArchiveJudgement → Type 0
 IsJudgedAt had archive skew transit claim (Ruled pair ruling) =
-    (shown : ShownPair) × IsShownAt had archive skew transit claim.from (ShownJournals pair shown)
-    × IsRulingOfJournals shown.primary shown.secondary skew transit claim ruling
+    (shown : PairJournals) × IsShownAt had archive skew transit claim.from (ShownJournals pair shown)
+    × IsJudgementOfJournals shown.primary shown.secondary skew transit claim ruling
 IsJudgedAt had archive skew transit claim (Lacking side lack) =
     IsShownAt had archive skew transit claim.from (ShownLacking side lack)
 IsJudgedAt had archive skew transit claim (Faulty ruling) = ⊥
 
 -- a fault of its text before that
 abbrev pub IsJudged : (had : ℕ → List ℕ → Type 0) → Archive → (skew transit : ℕ) → Result Claim CertificateFault
-    → Judged → Type 0
+    → ArchiveJudgement → Type 0
 IsJudged had archive skew transit (Ok claim) judged = IsJudgedAt had archive skew transit claim judged
 IsJudged had archive skew transit (Err fault) judged = judged ≡ Faulty (Verdict (Certificate fault))
 
 -- true in every run in which each of the two volumes begins with what its file had of it
-abbrev pub IsTrueOfFiles : (had : ℕ → List ℕ → Type 0) → (skew transit : ℕ) → Claim → Judged → Type 0
+abbrev pub IsTrueOfFiles : (had : ℕ → List ℕ → Type 0) → (skew transit : ℕ) → Claim → ArchiveJudgement → Type 0
 IsTrueOfFiles had skew transit claim (Ruled pair ruling) =
     (v : VolumeSoFar) × (w : VolumeSoFar) × IsCopyOf (had pair.primary.file) pair.primary v
     × IsCopyOf (had pair.secondary.file) pair.secondary w
     × IsTrueInRunsThatBeginSo AreLegal (read_of v.journal w.journal) skew transit claim
 IsTrueOfFiles had skew transit claim _ = ⊥
 
-abbrev pub Accepts : Judged → Type 0
+abbrev pub Accepts : ArchiveJudgement → Type 0
 Accepts (Ruled pair ruling) = ruling ≡ Verdict Accepted
 Accepts _ = ⊥
 
 -- what is accepted is
-abbrev pub AcceptedIsTrue : (had : ℕ → List ℕ → Type 0) → (skew transit : ℕ) → Claim → Judged → Type 0
+abbrev pub AcceptedIsTrue : (had : ℕ → List ℕ → Type 0) → (skew transit : ℕ) → Claim → ArchiveJudgement → Type 0
 AcceptedIsTrue had skew transit claim judged = Accepts judged → IsTrueOfFiles had skew transit claim judged
 
 abbrev pub AcceptedClaimIsTrue : (had : ℕ → List ℕ → Type 0) → (skew transit : ℕ) → Result Claim CertificateFault
-    → Judged → Type 0
+    → ArchiveJudgement → Type 0
 AcceptedClaimIsTrue had skew transit (Ok claim) judged = AcceptedIsTrue had skew transit claim judged
 AcceptedClaimIsTrue had skew transit (Err fault) judged = ⊤
 
 -- ---- many certificates over one pair of volumes
 
 -- on each of their texts its ruling, over two journals
-abbrev pub IsRuledByShown : ShownPair → (skew transit : ℕ) → List (List ℕ) → List Ruling → Type 0
+abbrev pub IsRuledByShown : PairJournals → (skew transit : ℕ) → List (List ℕ) → List Judgement → Type 0
 IsRuledByShown shown skew transit texts rulings =
     AreRuled (Ok shown.primary) (Ok shown.secondary) skew transit texts rulings
 
 -- over the journals that the two volumes show
-abbrev pub AreRuledOver : (had : ℕ → List ℕ → Type 0) → Pair → (skew transit : ℕ) → List (List ℕ) → List Ruling
+abbrev pub AreRuledOver : (had : ℕ → List ℕ → Type 0) → VolumePair → (skew transit : ℕ) → List (List ℕ) → List Judgement
     → Type 0
 AreRuledOver had pair skew transit texts rulings =
-    (shown : ShownPair) × IsShown had pair shown × AreClosed shown × IsRuledByShown shown skew transit texts rulings
+    (shown : PairJournals) × AreShownBy had pair shown × AreClosed shown × IsRuledByShown shown skew transit texts rulings

@@ -1,7 +1,7 @@
 pub mod Names
-pub mod Lacks
+pub mod CoverageGaps
 pub mod Asking
-pub mod Telling
+pub mod CommandOutputs
 pub mod Who
 pub mod Stretches
 pub mod Newest

@@ -3,9 +3,9 @@ use Rattle.std.specs.Prelude.{◌≡◌, ℕ, List, [], ◌∷◌, ◌++◌, Som
 use Rattle.std.specs.Path.{path_extension}
 use Rattle.std.specs.declared.path.buf.PathBuf.{PathBuf}
 use Rattle.archive_files.specs.Catalogues.{IsIn}
-use Rattle.archive_files.specs.declared.cataloguing.PassedOver.{PassedOver}
-use Rattle.archive_files.specs.declared.found.Found.TheVariants.{Unreadable}
-use Rattle.archive_desk.specs.declared.telling.Told.{Told}
+use Rattle.archive_files.specs.declared.cataloguing.SkippedFile.{SkippedFile}
+use Rattle.archive_files.specs.declared.file_content.FileContent.TheVariants.{Unreadable}
+use Rattle.archive_desk.specs.declared.command_output.CommandOutput.{CommandOutput}
 use Rattle.archive_desk.specs.Names.{name_at}
 use Rattle.archive_desk.specs.Failing.{file_word}
 
@@ -14,19 +14,19 @@ abbrev pub IsNamedAsVolume : {A : Type 0} → List (PathBuf A) → ℕ → Type 
 IsNamedAsVolume names file = path_extension (name_at names file) ≡ Some (codes "journal")
 
 -- a file by the name of a volume's that can't be read: what stands in it isn't known
-pub record IsUnread {A : Type 0} (names : List (PathBuf A)) (p : PassedOver) : Type 0 where
+pub record IsUnread {A : Type 0} (names : List (PathBuf A)) (p : SkippedFile) : Type 0 where
   pub found : p.found ≡ Unreadable
   pub named : IsNamedAsVolume names p.file
 
 -- none of the files that are passed over is one
-abbrev pub AllRead : {A : Type 0} → List (PathBuf A) → List PassedOver → Type 0
-AllRead names passed = (p : PassedOver) → IsIn passed p → IsUnread names p → ⊥
+abbrev pub AllRead : {A : Type 0} → List (PathBuf A) → List SkippedFile → Type 0
+AllRead names passed = (p : SkippedFile) → IsIn passed p → IsUnread names p → ⊥
 
 abbrev pub unread_line : {A : Type 0} → List (PathBuf A) → ℕ → List ℕ
 unread_line names file = codes "fault Path" ++ (file_word names file ++ 10 ∷ [])
 
 -- standard error says this line, and nothing is answered
-pub record IsFault (line : List ℕ) (told : Told) : Type 0 where
+pub record IsFault (line : List ℕ) (told : CommandOutput) : Type 0 where
   pub silent : told.text.items ≡ []
   pub status : told.status ≡ 2
   pub notes : told.notes.items ≡ line

@@ -4,30 +4,30 @@ use Rattle.causal_order.specs.declared.certificate.Certificate.{Certificate as C
 use Rattle.causal_order.specs.declared.fault.CertificateFault.{CertificateFault}
 use Rattle.certificate.specs.Faults.{certificate_of}
 use Rattle.attribution.specs.declared.verdict.Verdict.TheVariants.{Certificate}
-use Rattle.pair_ruling.specs.declared.ruling.Ruling.TheVariants.{Verdict}
-use Rattle.journal_archive.specs.declared.answer.Pair.{Pair}
-use Rattle.journal_archive.specs.declared.answer.Answer.TheVariants.{Shown as IsPair, Lacking as IsLacking}
-use Rattle.journal_archive.specs.Answers.{IsAnswer}
+use Rattle.pair_judgement.specs.declared.judging.Judgement.TheVariants.{Verdict}
+use Rattle.journal_archive.specs.declared.pair_lookup.VolumePair.{VolumePair}
+use Rattle.journal_archive.specs.declared.pair_lookup.PairLookup.TheVariants.{Shown as IsPair, Lacking as IsLacking}
+use Rattle.journal_archive.specs.PairLookups.{IsPairLookup}
 use Rattle.journal_archive.specs.declared.archive.Archive.{Archive}
-use Rattle.archive_desk.specs.declared.judging.Judged.TheVariants.{Faulty, Lacking}
-use Rattle.archive_desk.specs.declared.waiting.Pending.{Pending}
-use Rattle.archive_desk.specs.declared.waiting.Pending.TheVariants.{Shown, Judged}
-use Rattle.archive_desk.specs.declared.waiting.Waiting.{Waiting as WaitingValue}
+use Rattle.archive_desk.specs.declared.judging.ArchiveJudgement.TheVariants.{Faulty, Lacking}
+use Rattle.archive_desk.specs.declared.waiting.PendingState.{PendingState}
+use Rattle.archive_desk.specs.declared.waiting.PendingState.TheVariants.{Shown, Judged}
+use Rattle.archive_desk.specs.declared.waiting.PendingCertificate.{PendingCertificate as WaitingValue}
 use Rattle.archive_desk.specs.declared.waiting.Member.{Member}
 use Rattle.archive_desk.specs.Judging.{IsJudged, AcceptedClaimIsTrue}
 
 -- ---- before any file is read
 
 -- the pair of volumes that shows the moment, or what is lacking
-abbrev pub IsPlacedAt : Archive → (skew transit moment : ℕ) → Pending → Type 0
+abbrev pub IsPlacedAt : Archive → (skew transit moment : ℕ) → PendingState → Type 0
 IsPlacedAt archive skew transit moment (Shown pair) =
-    IsAnswer archive.primary archive.secondary skew transit moment (IsPair pair)
+    IsPairLookup archive.primary archive.secondary skew transit moment (IsPair pair)
 IsPlacedAt archive skew transit moment (Judged (Lacking side lack)) =
-    IsAnswer archive.primary archive.secondary skew transit moment (IsLacking side lack)
+    IsPairLookup archive.primary archive.secondary skew transit moment (IsLacking side lack)
 IsPlacedAt archive skew transit moment (Judged _) = ⊥
 
 -- of the moment where a certificate's interval begins; or the fault of its text
-abbrev pub IsPlaced : Archive → (skew transit : ℕ) → Result Claim CertificateFault → Pending → Type 0
+abbrev pub IsPlaced : Archive → (skew transit : ℕ) → Result Claim CertificateFault → PendingState → Type 0
 IsPlaced archive skew transit (Ok claim) pending = IsPlacedAt archive skew transit claim.from pending
 IsPlaced archive skew transit (Err fault) pending = pending ≡ Judged (Faulty (Verdict (Certificate fault)))
 
@@ -39,7 +39,7 @@ abbrev pub texts_waiting : List WaitingValue → List (List ℕ)
 texts_waiting ws = map (λ w. w.text.now) ws
 
 -- where some stand that the pair of volumes shows, and their texts
-abbrev pub AreMembers : List WaitingValue → Pair → List Member → Type 0
+abbrev pub AreMembers : List WaitingValue → VolumePair → List Member → Type 0
 AreMembers ws pair ms = (i : ℕ) (m : Member) → slice_get ms i ≡ Some m
     → (w : WaitingValue) × (slice_get ws m.place ≡ Some w) × (w.text.now ≡ m.text.now) × (w.pending ≡ Shown pair)
 
@@ -50,7 +50,7 @@ texts_among ms = map (λ m. m.text.now) ms
 
 -- the pair of volumes that shows where its interval begins; or it's judged, and what is accepted is true
 abbrev pub IsPending : (had : ℕ → List ℕ → Type 0) → Archive → (skew transit : ℕ) → Result Claim CertificateFault
-    → Pending → Type 0
+    → PendingState → Type 0
 IsPending had archive skew transit certificate (Shown pair) = IsPlaced archive skew transit certificate (Shown pair)
 IsPending had archive skew transit certificate (Judged judged) =
     IsJudged had archive skew transit certificate judged × AcceptedClaimIsTrue had skew transit certificate judged

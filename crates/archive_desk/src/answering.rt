@@ -1,19 +1,19 @@
 //! Answering a question over files.
 
 ghost use Rattle.std.specs.Prelude.{◌≡◌, ◌++◌, IfOk};
-ghost use Rattle.archive_desk.specs.Answering.{agreement_for, agreement_of, IsAnswerOver, IsAnswer};
+ghost use Rattle.archive_desk.specs.Answering.{agreement_for, agreement_of, IsAnswerOver, IsArchiveAnswer};
 
 use crate::certificates::{audit, batch};
+use crate::command_output::CommandOutput;
+use crate::coverage_gaps::TimingBounds;
 use crate::holding::who;
-use crate::lacks::Bounds;
 use crate::newest::timeline;
 use crate::passing::passed_over;
 use crate::stretches::find;
-use crate::telling::Told;
 use crate::unread::expect_read;
-use access_records::AccessBeside;
-use archive_files::{Agreement, FilesError, JournalFiles, catalogue_of};
-use desk_words::{Settings, Workers};
+use access_records::AccessTexts;
+use archive_files::{FilesError, JournalFiles, SettingsScope, catalogue_of};
+use desk_args::{SettingsCheck, Workers};
 use evidence_search::{HolderQuery, Query};
 use journal_archive::Archive;
 use lead_time::{Skew, Transit};
@@ -24,9 +24,9 @@ use std::thread::Threads;
 
 /// What is asked over files.
 #[derive(Clone, Copy, Debug)]
-pub enum Question<'a> {
+pub enum ArchiveQuestion<'a> {
     /// Who held a prefix at a moment; where the settings must agree, over journals that they tie together.
-    Who(HolderQuery, Settings),
+    Who(HolderQuery, SettingsCheck),
     /// The evidence that a client held a prefix over an interval.
     Find(Query),
     /// The lines of the newest pair of volumes.
@@ -38,50 +38,52 @@ pub enum Question<'a> {
 }
 
 /// A name is given where the settings of all volumes agree, unless whoever asks knows that the two servers' differ.
-fn agreement_for(settings: Settings) -> Agreement
+fn agreement_for(settings: SettingsCheck) -> SettingsScope
     ensures { result ≡ agreement_for settings }
 {
     match settings {
-        Settings::MustAgree => Agreement::OfBoth,
-        Settings::MayDiffer => Agreement::OfEach,
+        SettingsCheck::MustAgree => SettingsScope::OfBoth,
+        SettingsCheck::MayDiffer => SettingsScope::OfEach,
     }
 }
 
 /// Which volumes' settings must agree before a question is asked. Where evidence is asked for, a warning tells whether
 /// the two servers' do (K2).
-fn agreement_of(question: &Question) -> Agreement
+fn agreement_of(question: &ArchiveQuestion) -> SettingsScope
     ensures { result ≡ agreement_of question.now }
 {
     match question {
-        Question::Who(_, settings) => agreement_for(*settings),
-        _ => Agreement::OfEach,
+        ArchiveQuestion::Who(_, settings) => agreement_for(*settings),
+        _ => SettingsScope::OfEach,
     }
 }
 
 /// The answer over the volumes of an archive.
-fn answer_over<F: JournalFiles + AccessBeside>(
+fn answer_over<F: JournalFiles + AccessTexts>(
     rt: &(impl Threads + Wait + Sync),
     alloc: Global,
     files: &F,
     names: &[PathBuf],
     archive: &Archive,
-    question: &Question,
-) -> Result<Told, FilesError>
+    question: &ArchiveQuestion,
+) -> Result<CommandOutput, FilesError>
     ensures { IfOk result (IsAnswerOver (F.had files.now) (F.says files.now) names.now archive.now question.now) }
 {
     match question {
-        Question::Who(query, settings) => who(rt, alloc, files, names, archive, query, *settings),
-        Question::Find(query) => find(rt, alloc, files, names, archive, query),
-        Question::Timeline => timeline(alloc, files, names, archive),
-        Question::Audit(text, skew, transit) => {
-            let bounds = Bounds {
+        ArchiveQuestion::Who(query, settings) => who(
+            rt, alloc, files, names, archive, query, *settings,
+        ),
+        ArchiveQuestion::Find(query) => find(rt, alloc, files, names, archive, query),
+        ArchiveQuestion::Timeline => timeline(alloc, files, names, archive),
+        ArchiveQuestion::Audit(text, skew, transit) => {
+            let bounds = TimingBounds {
                 skew: *skew,
                 transit: *transit,
             };
             audit(rt, alloc, files, names, archive, text, &bounds)
         }
-        Question::Batch(texts, skew, transit, workers) => {
-            let bounds = Bounds {
+        ArchiveQuestion::Batch(texts, skew, transit, workers) => {
+            let bounds = TimingBounds {
                 skew: *skew,
                 transit: *transit,
             };
@@ -94,21 +96,21 @@ fn answer_over<F: JournalFiles + AccessBeside>(
 /// `OtherPair` or `Archive` where the volumes can't be of one pair of servers, `Unread` where a file by the name of a
 /// volume's can't be read, `Changed` or `Faulty` where a file isn't
 /// any longer what it was when it was looked at, `Memory` where a growth was refused.
-pub fn answer<F: JournalFiles + AccessBeside>(
+pub fn answer<F: JournalFiles + AccessTexts>(
     rt: &(impl Threads + Wait + Sync),
     alloc: Global,
     files: &F,
     names: &[PathBuf],
-    question: &Question,
-) -> Result<Told, FilesError>
-    ensures { IfOk result (IsAnswer (F.had files.now) (F.says files.now) (F.files files.now) names.now question.now) }
+    question: &ArchiveQuestion,
+) -> Result<CommandOutput, FilesError>
+    ensures { IfOk result (IsArchiveAnswer (F.had files.now) (F.says files.now) (F.files files.now) names.now question.now) }
 {
     let catalogue = catalogue_of(alloc, files, agreement_of(question))?;
     expect_read(names, &catalogue.passed_over)?;
     let mut notes = passed_over(alloc, names, &catalogue.passed_over)?;
     let told = answer_over(rt, alloc, files, names, &catalogue.archive, question)?;
     notes.extend_from_slice(&told.notes)?;
-    Ok(Told {
+    Ok(CommandOutput {
         text: told.text,
         status: told.status,
         notes,

@@ -5,22 +5,22 @@ ghost use Rattle.archive_files.specs.Showing.{AreClosed};
 ghost use Rattle.attribution_desk.specs.Searching.{skew_of, transit_of};
 ghost use Rattle.archive_desk.specs.Asking.{IsReplyOver, IsReplyAt};
 
-use archive_files::{FilesError, JournalFiles, Shown, shown_at, shown_until};
-use attribution_desk::{ReadPair, Search, Searched, search_pair};
+use archive_files::{FilesError, JournalFiles, ShownJournals, shown_at, shown_until};
+use attribution_desk::{ReadPair, Search, SearchAnswer, search_pair};
 use binding_rules::Role;
-use journal_archive::{Archive, Lack, Pair, ShownPair};
+use journal_archive::{Archive, CoverageGap, PairJournals, VolumePair};
 use journal_lines::Journal;
 use std::alloc::Global;
 use std::thread::Threads;
 
 /// What files answer to a question of a moment.
 #[derive(Debug, Drop)]
-pub enum Reply {
+pub enum ArchiveReply {
     /// What the desk answers over the journals that these two volumes show, and the first moment of which those can't
     /// tell, in milliseconds of true time.
-    Answered(Pair, Searched, Option<u64>),
+    Answered(VolumePair, SearchAnswer, Option<u64>),
     /// No volume of this side shows the moment, and why.
-    Lacking(Role, Lack),
+    Lacking(Role, CoverageGap),
 }
 
 pub(crate) fn has_lines(journal: &Journal) -> bool
@@ -30,7 +30,7 @@ pub(crate) fn has_lines(journal: &Journal) -> bool
 }
 
 /// The journals that two files show, as the desk reads two texts.
-pub(crate) fn pair_of(shown: ShownPair) -> ReadPair
+pub(crate) fn pair_of(shown: PairJournals) -> ReadPair
     ensures primary { result.primary ≡ Ok shown.primary }
     ensures secondary { result.secondary ≡ Ok shown.secondary }
 {
@@ -44,10 +44,10 @@ pub(crate) fn pair_of(shown: ShownPair) -> ReadPair
 pub(crate) fn reply_over(
     rt: &(impl Threads + Sync),
     alloc: Global,
-    pair: &Pair,
-    shown: ShownPair,
+    pair: &VolumePair,
+    shown: PairJournals,
     search: &Search,
-) -> Result<Reply, FilesError>
+) -> Result<ArchiveReply, FilesError>
     requires { AreClosed shown }
     ensures { IfOk result (IsReplyOver pair.now shown search.now) }
 {
@@ -64,7 +64,7 @@ pub(crate) fn reply_over(
     let until = shown_until(&shown, search.skew());
     let read = pair_of(shown);
     match search_pair(rt, alloc, &read, search) {
-        Ok(found) => Ok(Reply::Answered(*pair, found, until)),
+        Ok(found) => Ok(ArchiveReply::Answered(*pair, found, until)),
         Err(_) => Err(FilesError::Memory),
     }
 }
@@ -78,7 +78,7 @@ pub fn ask_at<F: JournalFiles>(
     archive: &Archive,
     moment: u64,
     search: &Search,
-) -> Result<Reply, FilesError>
+) -> Result<ArchiveReply, FilesError>
     ensures { IfOk result (IsReplyAt (F.had files.now) archive.now moment search.now) }
 {
     match shown_at(
@@ -89,7 +89,7 @@ pub fn ask_at<F: JournalFiles>(
         search.skew(),
         search.transit(),
     )? {
-        Shown::Journals(pair, shown) => reply_over(rt, alloc, &pair, shown, search),
-        Shown::Lacking(side, lack) => Ok(Reply::Lacking(side, lack)),
+        ShownJournals::Journals(pair, shown) => reply_over(rt, alloc, &pair, shown, search),
+        ShownJournals::Lacking(side, lack) => Ok(ArchiveReply::Lacking(side, lack)),
     }
 }

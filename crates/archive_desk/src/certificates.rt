@@ -5,31 +5,33 @@ ghost use Rattle.attribution_desk.specs.Claims.{texts_of};
 ghost use Rattle.archive_desk.specs.Certificates.{line_of, status_of, IsNotedOf, IsJudgedMore, AreSaid};
 ghost use Rattle.archive_desk.specs.Certificates.{AreJudgedBehindWarnings};
 ghost use Rattle.archive_desk.specs.Certificates.{IsAuditTold, IsBatchTold};
-ghost use Rattle.archive_desk.specs.Telling.{said_of, noted_first};
+ghost use Rattle.archive_desk.specs.CommandOutputs.{said_of, noted_first};
 
-use crate::judging::{Judged, judge_all};
-use crate::lacks::{Bounds, lack_line, push_lack};
+use crate::command_output::CommandOutput;
+use crate::coverage_gaps::{TimingBounds, gap_line, push_gap_name};
+use crate::judging::{ArchiveJudgement, judge_all};
 use crate::names::push_journals;
-use crate::telling::Told;
-use crate::waiting::{Pending, Waiting};
+use crate::waiting::{PendingCertificate, PendingState};
 use archive_files::{FilesError, JournalFiles};
-use attribution_desk::{Claim, texts_in};
-use desk_words::Workers;
+use attribution_desk::{CertificateText, texts_in};
+use desk_args::Workers;
 use journal_archive::Archive;
-use pair_ruling::{ruling_line, status_of};
+use pair_judgement::{judgement_line, status_of};
 use std::alloc::{AllocError, Global};
 use std::path::PathBuf;
 use std::sync::Wait;
 use std::thread::Threads;
 
-impl Judged {
+impl ArchiveJudgement {
     /// 0 where the certificate is accepted, else 1.
     fn status(&self) -> u8
         ensures { result ≡ status_of self.now }
     {
         match self {
-            Judged::Ruled(_, ruling) | Judged::Faulty(ruling) => status_of(ruling),
-            Judged::Lacking(_, _) => 1,
+            ArchiveJudgement::Ruled(_, ruling) | ArchiveJudgement::Faulty(ruling) => status_of(
+                ruling,
+            ),
+            ArchiveJudgement::Lacking(_, _) => 1,
         }
     }
 
@@ -38,11 +40,11 @@ impl Judged {
         ensures { OnOk result (out.new.items ≡ out.old.items ++ line_of self.now) }
     {
         match self {
-            Judged::Ruled(_, ruling) | Judged::Faulty(ruling) => {
-                out.extend_from_slice(&ruling_line(alloc, ruling)?)
+            ArchiveJudgement::Ruled(_, ruling) | ArchiveJudgement::Faulty(ruling) => {
+                out.extend_from_slice(&judgement_line(alloc, ruling)?)
             }
-            Judged::Lacking(side, lack) => {
-                push_lack(out, *side, lack)?;
+            ArchiveJudgement::Lacking(side, lack) => {
+                push_gap_name(out, *side, lack)?;
                 out.push(b'\n')?;
                 Ok(())
             }
@@ -54,30 +56,30 @@ impl Judged {
         &self,
         alloc: Global,
         names: &[PathBuf],
-        bounds: &Bounds,
+        bounds: &TimingBounds,
     ) -> Result<Vec<u8>, AllocError>
         ensures { IfOk result (λ notes. IsNotedOf names.now self.now notes.items) }
     {
         match self {
-            Judged::Ruled(pair, _) => {
+            ArchiveJudgement::Ruled(pair, _) => {
                 let mut notes = Vec::new(alloc);
                 push_journals(&mut notes, names, pair)?;
                 Ok(notes)
             }
-            Judged::Faulty(_) => Ok(Vec::new(alloc)),
-            Judged::Lacking(side, lack) => lack_line(alloc, names, *side, lack, bounds),
+            ArchiveJudgement::Faulty(_) => Ok(Vec::new(alloc)),
+            ArchiveJudgement::Lacking(side, lack) => gap_line(alloc, names, *side, lack, bounds),
         }
     }
 }
 
-impl Told {
+impl CommandOutput {
     /// Tells of one certificate more.
     fn tell_judged(
         &mut self,
         alloc: Global,
         names: &[PathBuf],
-        judged: &Judged,
-        bounds: &Bounds,
+        judged: &ArchiveJudgement,
+        bounds: &TimingBounds,
     ) -> Result<(), FilesError>
         ensures { OnOk result (IsJudgedMore names.now judged.now (said_of self.old) (said_of self.new)) }
     {
@@ -96,16 +98,16 @@ fn told_of(
     alloc: Global,
     names: &[PathBuf],
     warnings: &[u8],
-    waiting: &[Waiting],
-    bounds: &Bounds,
-) -> Result<Told, FilesError>
+    waiting: &[PendingCertificate],
+    bounds: &TimingBounds,
+) -> Result<CommandOutput, FilesError>
     ensures { IfOk result (λ told. AreSaid names.now waiting.now (noted_first warnings.now) (said_of told)) }
 {
-    let mut told = Told::nothing(alloc);
+    let mut told = CommandOutput::nothing(alloc);
     told.notes.extend_from_slice(warnings)?;
     for one in waiting {
         // (none waits any longer)
-        let Pending::Judged(judged) = &one.pending else {
+        let PendingState::Judged(judged) = &one.pending else {
             return Err(FilesError::Memory);
         };
         told.tell_judged(alloc, names, judged, bounds)?;
@@ -120,10 +122,10 @@ fn judged_told<F: JournalFiles>(
     files: &F,
     names: &[PathBuf],
     archive: &Archive,
-    claims: &[Claim],
-    bounds: &Bounds,
+    claims: &[CertificateText],
+    bounds: &TimingBounds,
     workers: Workers,
-) -> Result<Told, FilesError>
+) -> Result<CommandOutput, FilesError>
     ensures { IfOk result (λ told. AreJudgedBehindWarnings (F.had files.now) names.now archive.now bounds.now.skew
         bounds.now.transit (texts_of claims.now) (said_of told)) }
 {
@@ -141,8 +143,8 @@ pub(crate) fn audit<F: JournalFiles>(
     names: &[PathBuf],
     archive: &Archive,
     text: &[u8],
-    bounds: &Bounds,
-) -> Result<Told, FilesError>
+    bounds: &TimingBounds,
+) -> Result<CommandOutput, FilesError>
     ensures { IfOk result
         (IsAuditTold (F.had files.now) names.now archive.now text.now bounds.now.skew bounds.now.transit) }
 {
@@ -150,7 +152,7 @@ pub(crate) fn audit<F: JournalFiles>(
     let Some(alone) = Workers::new(1) else {
         return Err(FilesError::Memory);
     };
-    let claims = [Claim { text, parsed: None }];
+    let claims = [CertificateText { text, parsed: None }];
     let told = judged_told(rt, alloc, files, names, archive, &claims, bounds, alone)?;
     Ok(told)
 }
@@ -163,9 +165,9 @@ pub(crate) fn batch<F: JournalFiles>(
     names: &[PathBuf],
     archive: &Archive,
     texts: &[u8],
-    bounds: &Bounds,
+    bounds: &TimingBounds,
     workers: Workers,
-) -> Result<Told, FilesError>
+) -> Result<CommandOutput, FilesError>
     ensures { IfOk result
         (IsBatchTold (F.had files.now) names.now archive.now texts.now bounds.now.skew bounds.now.transit) }
 {

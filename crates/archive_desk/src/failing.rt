@@ -4,8 +4,8 @@ ghost use Rattle.std.specs.Prelude.{◌≡◌, ◌++◌, OnOk, IfOk};
 ghost use Rattle.archive_desk.specs.Failing.{file_word, refusal_line, other_pair_line, IsRefusal};
 ghost use Rattle.archive_desk.specs.Unread.{unread_line, IsFault};
 
+use crate::command_output::CommandOutput;
 use crate::names::name_of;
-use crate::telling::Told;
 use archive_files::FilesError;
 use journal_archive::ArchiveError;
 use std::alloc::{AllocError, Global};
@@ -50,12 +50,16 @@ fn push_refusal(
 }
 
 /// What is told where files can't be of one pair of servers: standard output says why, by name, and the status is 1.
-fn refused(alloc: Global, names: &[PathBuf], error: &ArchiveError) -> Result<Told, AllocError>
+fn refused(
+    alloc: Global,
+    names: &[PathBuf],
+    error: &ArchiveError,
+) -> Result<CommandOutput, AllocError>
     ensures { IfOk result (IsRefusal (refusal_line names.now error.now)) }
 {
     let mut text = Vec::new(alloc);
     push_refusal(&mut text, names, error)?;
-    Ok(Told {
+    Ok(CommandOutput {
         text,
         status: 1,
         notes: Vec::new(alloc),
@@ -68,7 +72,7 @@ fn of_two_pairs(
     names: &[PathBuf],
     first: usize,
     second: usize,
-) -> Result<Told, AllocError>
+) -> Result<CommandOutput, AllocError>
     ensures { IfOk result (IsRefusal (other_pair_line names.now first second)) }
 {
     let mut text = Vec::new(alloc);
@@ -76,7 +80,7 @@ fn of_two_pairs(
     push_file(&mut text, names, first)?;
     push_file(&mut text, names, second)?;
     text.push(b'\n')?;
-    Ok(Told {
+    Ok(CommandOutput {
         text,
         status: 1,
         notes: Vec::new(alloc),
@@ -84,14 +88,14 @@ fn of_two_pairs(
 }
 
 /// What is told where a file by the name of a volume's can't be read.
-fn unread(alloc: Global, names: &[PathBuf], file: usize) -> Result<Told, AllocError>
+fn unread(alloc: Global, names: &[PathBuf], file: usize) -> Result<CommandOutput, AllocError>
     ensures { IfOk result (IsFault (unread_line names.now file)) }
 {
     let mut notes = Vec::new(alloc);
     notes.extend_from_slice(b"fault Path")?;
     push_file(&mut notes, names, file)?;
     notes.push(b'\n')?;
-    Ok(Told {
+    Ok(CommandOutput {
         text: Vec::new(alloc),
         status: 2,
         notes,
@@ -99,7 +103,11 @@ fn unread(alloc: Global, names: &[PathBuf], file: usize) -> Result<Told, AllocEr
 }
 
 /// What is told of another fault: standard error says which, and the status is 2.
-fn faulty(alloc: Global, names: &[PathBuf], error: &FilesError) -> Result<Told, AllocError> {
+fn faulty(
+    alloc: Global,
+    names: &[PathBuf],
+    error: &FilesError,
+) -> Result<CommandOutput, AllocError> {
     let mut notes = Vec::new(alloc);
     match error {
         FilesError::Changed { file } => {
@@ -118,7 +126,7 @@ fn faulty(alloc: Global, names: &[PathBuf], error: &FilesError) -> Result<Told, 
         | FilesError::Memory => { notes.extend_from_slice(b"fault Memory")? }
     }
     notes.push(b'\n')?;
-    Ok(Told {
+    Ok(CommandOutput {
         text: Vec::new(alloc),
         status: 2,
         notes,
@@ -127,7 +135,11 @@ fn faulty(alloc: Global, names: &[PathBuf], error: &FilesError) -> Result<Told, 
 
 /// What is told where files answer nothing: status 1 where their volumes can't be of one pair of servers, which
 /// standard output says by name; else 2, and standard error says why. `AllocError` where a growth was refused.
-pub fn failure(alloc: Global, names: &[PathBuf], error: &FilesError) -> Result<Told, AllocError> {
+pub fn failure(
+    alloc: Global,
+    names: &[PathBuf],
+    error: &FilesError,
+) -> Result<CommandOutput, AllocError> {
     match error {
         FilesError::Archive(ArchiveError::Memory) => faulty(alloc, names, error),
         FilesError::Archive(refusal) => refused(alloc, names, refusal),

@@ -8,15 +8,15 @@ ghost use Rattle.archive_desk.specs.Judging.{IsRuledByShown, AreRuledOver};
 ghost use Rattle.archive_desk.specs.Warnings.{IsWarnedOver, warned, AreWarnings};
 
 use crate::asking::has_lines;
-use crate::lacks::Bounds;
+use crate::coverage_gaps::TimingBounds;
 use crate::names::push_journals;
-use crate::waiting::{Pending, Waiting, claims_of, members_of, waiting_of};
+use crate::waiting::{PendingCertificate, PendingState, claims_of, members_of, waiting_of};
 use archive_files::{FilesError, JournalFiles, shown_by};
-use attribution_desk::{Claim, accepted_rulings_are_true, rulings_on_claims};
+use attribution_desk::{CertificateText, accepted_rulings_are_true, judge_certificates};
 use binding_rules::Role;
-use desk_words::Workers;
-use journal_archive::{Archive, Lack, Pair, ShownPair, shown_pairs_are_snapshots};
-use pair_ruling::{Ruling, warnings};
+use desk_args::Workers;
+use journal_archive::{Archive, CoverageGap, PairJournals, VolumePair, shown_pairs_are_snapshots};
+use pair_judgement::{Judgement, warnings};
 use std::alloc::{AllocError, Global};
 use std::path::PathBuf;
 use std::sync::Wait;
@@ -24,25 +24,25 @@ use std::thread::Threads;
 
 /// What files answer to a certificate.
 #[derive(Clone, Copy, Debug)]
-pub enum Judged {
+pub enum ArchiveJudgement {
     /// The ruling on it over the journals that these two volumes show.
-    Ruled(Pair, Ruling),
+    Ruled(VolumePair, Judgement),
     /// The ruling on its text, which is at fault.
-    Faulty(Ruling),
+    Faulty(Judgement),
     /// No volume of this side shows where its interval begins, and why.
-    Lacking(Role, Lack),
+    Lacking(Role, CoverageGap),
 }
 
 /// The rulings over the journals that two volumes show. `Changed` where one of them has no line any longer.
 fn rulings_by(
     rt: &(impl Threads + Wait + Sync),
     alloc: Global,
-    pair: &Pair,
-    shown: &ShownPair,
-    claims: Vec<Claim>,
-    bounds: &Bounds,
+    pair: &VolumePair,
+    shown: &PairJournals,
+    claims: Vec<CertificateText>,
+    bounds: &TimingBounds,
     workers: Workers,
-) -> Result<Vec<Ruling>, FilesError>
+) -> Result<Vec<Judgement>, FilesError>
     requires { AreClosed shown.now }
     ensures { IfOk result (λ rs. IsRuledByShown shown.now bounds.now.skew bounds.now.transit
         (texts_of claims.entry.items) rs.items) }
@@ -57,7 +57,7 @@ fn rulings_by(
             file: pair.secondary.file,
         });
     }
-    match rulings_on_claims(
+    match judge_certificates(
         rt,
         alloc,
         &shown.primary,
@@ -74,8 +74,8 @@ fn rulings_by(
 
 /// What certificates over one pair of volumes come to.
 #[derive(Drop)]
-struct Ruled {
-    rulings: Vec<Ruling>,
+struct JudgedCertificates {
+    rulings: Vec<Judgement>,
     /// The warnings on the two journals (K2, K3).
     warnings: Vec<u8>,
 }
@@ -85,11 +85,11 @@ fn rulings_over<F: JournalFiles>(
     rt: &(impl Threads + Wait + Sync),
     alloc: Global,
     files: &F,
-    pair: &Pair,
-    claims: Vec<Claim>,
-    bounds: &Bounds,
+    pair: &VolumePair,
+    claims: Vec<CertificateText>,
+    bounds: &TimingBounds,
     workers: Workers,
-) -> Result<Ruled, FilesError>
+) -> Result<JudgedCertificates, FilesError>
     ensures rulings { IfOk result (λ ruled. AreRuledOver (F.had files.now) pair.now bounds.now.skew bounds.now.transit
         (texts_of claims.entry.items) ruled.rulings.items) }
     ensures warnings { IfOk result (λ ruled. IsWarnedOver (F.had files.now) pair.now bounds.now.skew bounds.now.transit
@@ -104,7 +104,7 @@ fn rulings_over<F: JournalFiles>(
         bounds.transit,
     )?;
     let rulings = rulings_by(rt, alloc, pair, &shown, claims, bounds, workers)?;
-    Ok(Ruled { rulings, warnings })
+    Ok(JudgedCertificates { rulings, warnings })
 }
 
 /// Judges those of the certificates that a pair of volumes shows, which is read once, and returns the warnings on it.
@@ -113,9 +113,9 @@ fn judge_shown<F: JournalFiles>(
     alloc: Global,
     files: &F,
     archive: &Archive,
-    waiting: &mut [Waiting],
-    pair: &Pair,
-    bounds: &Bounds,
+    waiting: &mut [PendingCertificate],
+    pair: &VolumePair,
+    bounds: &TimingBounds,
     workers: Workers,
 ) -> Result<Vec<u8>, FilesError>
     requires { AreWaiting (F.had files.now) archive.now bounds.now.skew bounds.now.transit waiting.old }
@@ -131,8 +131,8 @@ fn judge_shown<F: JournalFiles>(
     let ruled = rulings_over(rt, alloc, files, pair, claims, bounds, workers)?;
     for i in 0..members.len() {
         let place = members[i].place;
-        let judged = Judged::Ruled(*pair, ruled.rulings[i]);
-        waiting[place].pending = Pending::Judged(judged);
+        let judged = ArchiveJudgement::Ruled(*pair, ruled.rulings[i]);
+        waiting[place].pending = PendingState::Judged(judged);
     }
     Ok(ruled.warnings)
 }
@@ -141,7 +141,7 @@ fn judge_shown<F: JournalFiles>(
 fn push_warnings(
     out: &mut Vec<u8>,
     names: &[PathBuf],
-    pair: &Pair,
+    pair: &VolumePair,
     warnings: &[u8],
 ) -> Result<(), AllocError>
     ensures { OnOk result (out.new.items ≡ out.old.items ++ warned names.now pair.now warnings.now) }
@@ -161,8 +161,8 @@ fn judge_each<F: JournalFiles>(
     files: &F,
     names: &[PathBuf],
     archive: &Archive,
-    waiting: &mut [Waiting],
-    bounds: &Bounds,
+    waiting: &mut [PendingCertificate],
+    bounds: &TimingBounds,
     workers: Workers,
 ) -> Result<Vec<u8>, FilesError>
     requires { AreWaiting (F.had files.now) archive.now bounds.now.skew bounds.now.transit waiting.old }
@@ -173,7 +173,7 @@ fn judge_each<F: JournalFiles>(
 {
     let mut warnings = Vec::new(alloc);
     for place in 0..waiting.len() {
-        if let Pending::Shown(pair) = waiting[place].pending {
+        if let PendingState::Shown(pair) = waiting[place].pending {
             let more = judge_shown(rt, alloc, files, archive, waiting, &pair, bounds, workers)?;
             push_warnings(&mut warnings, names, &pair, &more)?;
         }
@@ -183,8 +183,8 @@ fn judge_each<F: JournalFiles>(
 
 /// Certificates that are judged, and the warnings on the pairs of volumes that were read for them.
 #[derive(Drop)]
-pub(crate) struct Judgement<'a> {
-    pub(crate) waiting: Vec<Waiting<'a>>,
+pub(crate) struct AuditBatch<'a> {
+    pub(crate) waiting: Vec<PendingCertificate<'a>>,
     pub(crate) warnings: Vec<u8>,
 }
 
@@ -197,10 +197,10 @@ pub(crate) fn judge_all<'a, F: JournalFiles>(
     files: &F,
     names: &[PathBuf],
     archive: &Archive,
-    claims: &[Claim<'a>],
-    bounds: &Bounds,
+    claims: &[CertificateText<'a>],
+    bounds: &TimingBounds,
     workers: Workers,
-) -> Result<Judgement<'a>, FilesError>
+) -> Result<AuditBatch<'a>, FilesError>
     ensures texts { IfOk result (λ j. texts_waiting j.waiting.items ≡ texts_of claims.now) }
     ensures waiting { IfOk result
         (λ j. AreWaiting (F.had files.now) archive.now bounds.now.skew bounds.now.transit j.waiting.items) }
@@ -218,5 +218,5 @@ pub(crate) fn judge_all<'a, F: JournalFiles>(
         bounds,
         workers,
     )?;
-    Ok(Judgement { waiting, warnings })
+    Ok(AuditBatch { waiting, warnings })
 }

@@ -3,10 +3,10 @@
 //! `answer` says which of the files are volumes of the two servers, finds the pair of volumes that shows what is asked
 //! of, and answers what the desk answers over the journals that these two show (`attribution_desk`); where no pair
 //! does it says what is lacking. What is told names the files by `names`, one for each file. specs/Asking, Judging and
-//! Newest say what is answered, specs/Telling, Stretches and Certificates how it is told.
+//! Newest say what is answered, specs/CommandOutputs, Stretches and Certificates how it is told.
 //!
 //! ```text
-//! let told = answer(rt, alloc, &files, names, &Question::Who(query, settings))?;
+//! let told = answer(rt, alloc, &files, names, &ArchiveQuestion::Who(query, settings))?;
 //! writer.write_all(&told.text)?; // as over standard input; standard error gets told.notes
 //! ```
 #![tactic(auto)]
@@ -14,24 +14,24 @@
 mod answering;
 mod asking;
 mod certificates;
+mod command_output;
+mod coverage_gaps;
 mod failing;
 mod holding;
 mod judging;
-mod lacks;
 mod names;
 mod newest;
 mod passing;
 mod stretches;
-mod telling;
 mod unread;
 mod waiting;
 
-pub use answering::{Question, answer};
-pub use asking::{Reply, ask_at};
+pub use answering::{ArchiveQuestion, answer};
+pub use asking::{ArchiveReply, ask_at};
+pub use command_output::CommandOutput;
+pub use coverage_gaps::{TimingBounds, gap_line, push_gap_name};
 pub use failing::failure;
-pub use judging::Judged;
-pub use lacks::{Bounds, lack_line, push_lack};
+pub use judging::ArchiveJudgement;
 pub use names::{name_of, push_journals};
 pub use passing::passed_over;
-pub use telling::Told;
 pub use unread::expect_read;

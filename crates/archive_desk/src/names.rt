@@ -3,7 +3,7 @@
 ghost use Rattle.std.specs.Prelude.{◌≡◌, ◌++◌, OnOk};
 ghost use Rattle.archive_desk.specs.Names.{name_at, journals_line};
 
-use journal_archive::Pair;
+use journal_archive::VolumePair;
 use std::alloc::AllocError;
 use std::path::PathBuf;
 
@@ -18,7 +18,11 @@ pub fn name_of(names: &[PathBuf], file: usize) -> &str
 }
 
 /// Appends `journals FILE FILE`: the file of the primary's volume, and that of the secondary's.
-pub fn push_journals(out: &mut Vec<u8>, names: &[PathBuf], pair: &Pair) -> Result<(), AllocError>
+pub fn push_journals(
+    out: &mut Vec<u8>,
+    names: &[PathBuf],
+    pair: &VolumePair,
+) -> Result<(), AllocError>
     ensures { OnOk result (out.new.items ≡ out.old.items ++ journals_line names.now pair.now) }
 {
     out.extend_from_slice(b"journals ")?;

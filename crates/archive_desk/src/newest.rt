@@ -4,18 +4,18 @@ ghost use Rattle.std.specs.Prelude.{◌≡◌, IfOk};
 ghost use Rattle.archive_files.specs.Showing.{AreClosed};
 ghost use Rattle.archive_desk.specs.Newest.{last_of, last_moment, IsTimelineOver, IsTimelineAt, IsTimelineTold};
 
-use crate::asking::{Reply, has_lines, pair_of};
-use crate::lacks::Bounds;
-use crate::telling::Told;
-use archive_files::{FilesError, JournalFiles, Shown, shown_at};
-use attribution_desk::{Searched, timeline_of};
-use journal_archive::{Archive, Filed, Pair, ShownPair};
+use crate::asking::{ArchiveReply, has_lines, pair_of};
+use crate::command_output::CommandOutput;
+use crate::coverage_gaps::TimingBounds;
+use archive_files::{FilesError, JournalFiles, ShownJournals, shown_at};
+use attribution_desk::{SearchAnswer, timeline_of};
+use journal_archive::{Archive, FiledVolume, PairJournals, VolumePair};
 use lead_time::{Skew, Transit};
 use std::alloc::Global;
 use std::path::PathBuf;
 
 /// The last reading of a side's last volume, in milliseconds; 0 where it has none.
-fn last_of(volumes: &[Filed]) -> u64
+fn last_of(volumes: &[FiledVolume]) -> u64
     ensures { result ≡ last_of volumes.now }
 {
     match volumes.last() {
@@ -34,7 +34,11 @@ fn last_moment(archive: &Archive) -> u64
 }
 
 /// The lines of the journals that two volumes show. `Changed` where one of them has no line any longer.
-fn timeline_over(alloc: Global, pair: &Pair, shown: ShownPair) -> Result<Reply, FilesError>
+fn timeline_over(
+    alloc: Global,
+    pair: &VolumePair,
+    shown: PairJournals,
+) -> Result<ArchiveReply, FilesError>
     requires { AreClosed shown }
     ensures { IfOk result (IsTimelineOver pair.now shown) }
 {
@@ -50,12 +54,12 @@ fn timeline_over(alloc: Global, pair: &Pair, shown: ShownPair) -> Result<Reply, 
     }
     match timeline_of(alloc, &pair_of(shown)) {
         Ok(answer) => {
-            let found = Searched {
+            let found = SearchAnswer {
                 line: answer.line,
                 status: answer.status,
                 note: Vec::new(alloc),
             };
-            Ok(Reply::Answered(*pair, found, None))
+            Ok(ArchiveReply::Answered(*pair, found, None))
         }
         Err(_) => Err(FilesError::Memory),
     }
@@ -68,12 +72,12 @@ fn timeline_at<F: JournalFiles>(
     archive: &Archive,
     moment: u64,
     skew: Skew,
-) -> Result<Reply, FilesError>
+) -> Result<ArchiveReply, FilesError>
     ensures { IfOk result (IsTimelineAt (F.had files.now) archive.now moment skew) }
 {
     match shown_at(alloc, files, archive, moment, skew, Transit::ZERO)? {
-        Shown::Journals(pair, shown) => timeline_over(alloc, &pair, shown),
-        Shown::Lacking(side, lack) => Ok(Reply::Lacking(side, lack)),
+        ShownJournals::Journals(pair, shown) => timeline_over(alloc, &pair, shown),
+        ShownJournals::Lacking(side, lack) => Ok(ArchiveReply::Lacking(side, lack)),
     }
 }
 
@@ -85,20 +89,20 @@ pub(crate) fn timeline<F: JournalFiles>(
     files: &F,
     names: &[PathBuf],
     archive: &Archive,
-) -> Result<Told, FilesError>
+) -> Result<CommandOutput, FilesError>
     ensures { IfOk result (IsTimelineTold (F.had files.now) names.now archive.now) }
 {
     // (a skew of 0 is one)
     let Ok(skew) = Skew::new(0) else {
         return Err(FilesError::Memory);
     };
-    let bounds = Bounds {
+    let bounds = TimingBounds {
         skew,
         transit: Transit::ZERO,
     };
     let moment = last_moment(archive);
     let reply = timeline_at(alloc, files, archive, moment, skew)?;
-    let mut told = Told::nothing(alloc);
+    let mut told = CommandOutput::nothing(alloc);
     told.tell_more(alloc, names, &reply, &bounds, moment)?;
     Ok(told)
 }

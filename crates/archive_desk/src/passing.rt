@@ -1,19 +1,19 @@
 //! Files that are passed over, for a person.
 
 use crate::names::name_of;
-use archive_files::{Found, PassedOver};
+use archive_files::{FileContent, SkippedFile};
 use journal_archive::JournalFault;
 use std::alloc::{AllocError, Global};
 use std::path::PathBuf;
 
 /// Appends why a file is passed over.
-fn push_why(alloc: Global, out: &mut Vec<u8>, found: &Found) -> Result<(), AllocError> {
+fn push_why(alloc: Global, out: &mut Vec<u8>, found: &FileContent) -> Result<(), AllocError> {
     match found {
-        Found::Volume(_) => out.extend_from_slice(b"it's a journal"),
-        Found::NoJournal => out.extend_from_slice(b"it's no journal"),
-        Found::Unwritten => out.extend_from_slice(b"no line is written in it yet"),
-        Found::Faulty(fault) => push_fault(alloc, out, fault),
-        Found::Unreadable => out.extend_from_slice(b"it can't be read"),
+        FileContent::Volume(_) => out.extend_from_slice(b"it's a journal"),
+        FileContent::NoJournal => out.extend_from_slice(b"it's no journal"),
+        FileContent::Unwritten => out.extend_from_slice(b"no line is written in it yet"),
+        FileContent::Faulty(fault) => push_fault(alloc, out, fault),
+        FileContent::Unreadable => out.extend_from_slice(b"it can't be read"),
     }
 }
 
@@ -27,7 +27,7 @@ fn push_fault(alloc: Global, out: &mut Vec<u8>, fault: &JournalFault) -> Result<
 pub fn passed_over(
     alloc: Global,
     names: &[PathBuf],
-    passed: &[PassedOver],
+    passed: &[SkippedFile],
 ) -> Result<Vec<u8>, AllocError> {
     let mut out = Vec::new(alloc);
     for file in passed {

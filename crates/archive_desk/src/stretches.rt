@@ -3,15 +3,15 @@
 ghost use Rattle.std.specs.Prelude.{◌≡◌, ◌≤◌, ◌<◌, IfOk};
 ghost use Rattle.archive_desk.specs.Stretches.{reading_or, stretch_of, cut_at, IsFoundAt, IsFindTold};
 ghost use Rattle.archive_desk.specs.Stretches.{AreStretchesTold};
-ghost use Rattle.archive_desk.specs.Telling.{said_of, nothing};
+ghost use Rattle.archive_desk.specs.CommandOutputs.{said_of, nothing};
 
-use crate::asking::{Reply, ask_at, reply_over};
-use crate::lacks::Bounds;
-use crate::telling::Told;
-use archive_files::{FilesError, JournalFiles, Shown, shown_at, shown_until};
+use crate::asking::{ArchiveReply, ask_at, reply_over};
+use crate::command_output::CommandOutput;
+use crate::coverage_gaps::TimingBounds;
+use archive_files::{FilesError, JournalFiles, ShownJournals, shown_at, shown_until};
 use attribution_desk::Search;
 use evidence_search::Query;
-use journal_archive::{Archive, Span};
+use journal_archive::{Archive, CoverageSpan};
 use lead_time::Reading;
 use std::alloc::Global;
 use std::path::PathBuf;
@@ -28,7 +28,7 @@ fn reading_or(moment: u64, other: Reading) -> Reading
 }
 
 /// The same question of a stretch of its interval.
-fn stretch_of(query: &Query, span: &Span) -> Query
+fn stretch_of(query: &Query, span: &CoverageSpan) -> Query
     ensures { result ≡ stretch_of query.now span.now }
 {
     Query {
@@ -72,20 +72,20 @@ fn find_at<F: JournalFiles>(
     archive: &Archive,
     moment: u64,
     query: &Query,
-) -> Result<Reply, FilesError>
+) -> Result<ArchiveReply, FilesError>
     ensures { IfOk result (IsFoundAt (F.had files.now) archive.now moment query.now) }
 {
     match shown_at(alloc, files, archive, moment, query.skew, query.transit)? {
-        Shown::Journals(pair, shown) => {
+        ShownJournals::Journals(pair, shown) => {
             let cut = cut_at(query, &shown_until(&shown, query.skew));
             reply_over(rt, alloc, &pair, shown, &Search::Find(cut))
         }
-        Shown::Lacking(side, lack) => Ok(Reply::Lacking(side, lack)),
+        ShownJournals::Lacking(side, lack) => Ok(ArchiveReply::Lacking(side, lack)),
     }
 }
 
-fn bounds_of(query: &Query) -> Bounds {
-    Bounds {
+fn bounds_of(query: &Query) -> TimingBounds {
+    TimingBounds {
         skew: query.skew,
         transit: query.transit,
     }
@@ -99,13 +99,13 @@ fn told_over<F: JournalFiles>(
     names: &[PathBuf],
     archive: &Archive,
     query: &Query,
-    spans: &[Span],
-) -> Result<Told, FilesError>
+    spans: &[CoverageSpan],
+) -> Result<CommandOutput, FilesError>
     ensures { IfOk result (λ told. AreStretchesTold (F.had files.now) names.now archive.now query.now spans.now nothing
         (said_of told)) }
 {
     let bounds = bounds_of(query);
-    let mut told = Told::nothing(alloc);
+    let mut told = CommandOutput::nothing(alloc);
     for span in spans {
         let stretch = stretch_of(query, span);
         let reply = find_at(rt, alloc, files, archive, span.from, &stretch)?;
@@ -126,13 +126,13 @@ pub(crate) fn find<F: JournalFiles>(
     names: &[PathBuf],
     archive: &Archive,
     query: &Query,
-) -> Result<Told, FilesError>
+) -> Result<CommandOutput, FilesError>
     ensures { IfOk result (IsFindTold (F.had files.now) names.now archive.now query.now) }
 {
     let from = query.from.milliseconds();
     if from >= query.to.milliseconds() {
         let reply = ask_at(rt, alloc, files, archive, from, &Search::Find(*query))?;
-        let mut told = Told::nothing(alloc);
+        let mut told = CommandOutput::nothing(alloc);
         told.tell_more(alloc, names, &reply, &bounds_of(query), from)?;
         return Ok(told);
     }

@@ -1,13 +1,13 @@
 //! Files that can't be read, though they have the name of a volume's.
 
 ghost use Rattle.std.specs.Prelude.{◌≡◌, ◌↔◌, IsTrue, OnOk, IfErr};
-ghost use Rattle.archive_files.specs.declared.cataloguing.PassedOver.{PassedOver};
+ghost use Rattle.archive_files.specs.declared.cataloguing.SkippedFile.{SkippedFile};
 ghost use Rattle.archive_files.specs.declared.error.FilesError.TheVariants.{Unread};
 ghost use Rattle.archive_files.specs.Catalogues.{IsIn};
 ghost use Rattle.archive_desk.specs.Unread.{IsNamedAsVolume, IsUnread, AllRead};
 
 use crate::names::name_of;
-use archive_files::{FilesError, Found, PassedOver};
+use archive_files::{FileContent, FilesError, SkippedFile};
 use std::path::{Path, PathBuf};
 
 /// What the name of a volume's file ends with, behind a stop.
@@ -21,19 +21,19 @@ fn is_named_as_volume(names: &[PathBuf], file: usize) -> bool
 }
 
 /// Returns whether a file that is passed over has the name of a volume's, and can't be read.
-fn is_unread(names: &[PathBuf], passed: &PassedOver) -> bool
+fn is_unread(names: &[PathBuf], passed: &SkippedFile) -> bool
     ensures { IsTrue result ↔ IsUnread names.now passed.now }
 {
-    passed.found == Found::Unreadable && is_named_as_volume(names, passed.file)
+    passed.found == FileContent::Unreadable && is_named_as_volume(names, passed.file)
 }
 
 /// Sees that no file by the name of a volume's is passed over since it can't be read: `Unread` where one is. What
 /// stands in it isn't known, so what the others lack isn't either.
 #[tactic(auto, using(crate::proofs::NoneUnread::none_unread))]
-pub fn expect_read(names: &[PathBuf], passed: &[PassedOver]) -> Result<(), FilesError>
+pub fn expect_read(names: &[PathBuf], passed: &[SkippedFile]) -> Result<(), FilesError>
     ensures read { OnOk result (AllRead names.now passed.now) }
     ensures refused { IfErr result
-        (λ e. (p : PassedOver) × IsIn passed.now p × IsUnread names.now p × (e ≡ Unread p.file)) }
+        (λ e. (p : SkippedFile) × IsIn passed.now p × IsUnread names.now p × (e ≡ Unread p.file)) }
 {
     for each in passed {
         if is_unread(names, each) {

@@ -3,33 +3,33 @@
 ghost use Rattle.std.specs.Prelude.{◌≡◌, ◌↔◌, IsTrue, IfOk};
 ghost use Rattle.certificate.specs.Faults.{certificate_of};
 ghost use Rattle.attribution_desk.specs.Claims.{texts_of};
-ghost use Rattle.archive_desk.specs.declared.waiting.Pending.TheVariants.{Shown};
+ghost use Rattle.archive_desk.specs.declared.waiting.PendingState.TheVariants.{Shown};
 ghost use Rattle.archive_desk.specs.Waiting.{IsPlacedAt, IsPlaced, ArePlaced, texts_waiting, AreMembers, texts_among};
 
-use crate::judging::Judged;
-use crate::lacks::Bounds;
+use crate::coverage_gaps::TimingBounds;
+use crate::judging::ArchiveJudgement;
 use archive_files::FilesError;
 use attribution::Verdict;
-use attribution_desk::Claim;
+use attribution_desk::CertificateText;
 use certificate::CertificateError;
-use journal_archive::{Answer, Archive, Pair};
-use pair_ruling::Ruling;
+use journal_archive::{Archive, PairLookup, VolumePair};
+use pair_judgement::Judgement;
 use std::alloc::{AllocError, Global};
 
 /// What is known of a certificate so far.
 #[derive(Clone, Copy, Debug)]
-pub(crate) enum Pending {
+pub(crate) enum PendingState {
     /// These two volumes show where its interval begins.
-    Shown(Pair),
+    Shown(VolumePair),
     /// It's judged.
-    Judged(Judged),
+    Judged(ArchiveJudgement),
 }
 
 /// A certificate's text, and what is known of it so far.
 #[derive(Clone, Copy, Debug)]
-pub(crate) struct Waiting<'a> {
+pub(crate) struct PendingCertificate<'a> {
     pub(crate) text: &'a [u8],
-    pub(crate) pending: Pending,
+    pub(crate) pending: PendingState,
 }
 
 /// A certificate among others: where it stands, and its text.
@@ -39,12 +39,14 @@ pub(crate) struct Member<'a> {
     pub(crate) text: &'a [u8],
 }
 
-fn pending_at(archive: &Archive, moment: u64, bounds: &Bounds) -> Pending
+fn pending_at(archive: &Archive, moment: u64, bounds: &TimingBounds) -> PendingState
     ensures { IsPlacedAt archive.now bounds.now.skew bounds.now.transit moment result }
 {
     match archive.at(moment, bounds.skew, bounds.transit) {
-        Answer::Shown(pair) => Pending::Shown(pair),
-        Answer::Lacking(side, lack) => Pending::Judged(Judged::Lacking(side, lack)),
+        PairLookup::Shown(pair) => PendingState::Shown(pair),
+        PairLookup::Lacking(side, lack) => PendingState::Judged(ArchiveJudgement::Lacking(
+            side, lack,
+        )),
     }
 }
 
@@ -53,16 +55,16 @@ fn pending_of(
     alloc: Global,
     archive: &Archive,
     text: &[u8],
-    bounds: &Bounds,
-) -> Result<Pending, FilesError>
+    bounds: &TimingBounds,
+) -> Result<PendingState, FilesError>
     ensures { IfOk result
         (IsPlaced archive.now bounds.now.skew bounds.now.transit (certificate_of text.now)) }
 {
     match certificate::read(alloc, text) {
         Ok(claim) => Ok(pending_at(archive, claim.from.milliseconds(), bounds)),
-        Err(CertificateError::Fault(fault)) => Ok(Pending::Judged(Judged::Faulty(Ruling::Verdict(
-            Verdict::Certificate(fault),
-        )))),
+        Err(CertificateError::Fault(fault)) => Ok(PendingState::Judged(ArchiveJudgement::Faulty(
+            Judgement::Verdict(Verdict::Certificate(fault)),
+        ))),
         Err(CertificateError::Memory) => Err(FilesError::Memory),
     }
 }
@@ -71,9 +73,9 @@ fn pending_of(
 pub(crate) fn waiting_of<'a>(
     alloc: Global,
     archive: &Archive,
-    claims: &[Claim<'a>],
-    bounds: &Bounds,
-) -> Result<Vec<Waiting<'a>>, FilesError>
+    claims: &[CertificateText<'a>],
+    bounds: &TimingBounds,
+) -> Result<Vec<PendingCertificate<'a>>, FilesError>
     ensures texts { IfOk result (λ ws. texts_waiting ws.items ≡ texts_of claims.now) }
     ensures placed { IfOk result (λ ws. ArePlaced archive.now bounds.now.skew bounds.now.transit ws.items) }
 {
@@ -81,25 +83,25 @@ pub(crate) fn waiting_of<'a>(
     for claim in claims {
         let text = claim.text;
         let pending = pending_of(alloc, archive, text, bounds)?;
-        waiting.extend_from_slice(&[Waiting { text, pending }])?;
+        waiting.extend_from_slice(&[PendingCertificate { text, pending }])?;
     }
     Ok(waiting)
 }
 
-fn is_shown_by(pending: &Pending, pair: &Pair) -> bool
+fn is_shown_by(pending: &PendingState, pair: &VolumePair) -> bool
     ensures { IsTrue result ↔ (pending.now ≡ Shown pair.now) }
 {
     match pending {
-        Pending::Shown(by) => by == pair,
-        Pending::Judged(_) => false,
+        PendingState::Shown(by) => by == pair,
+        PendingState::Judged(_) => false,
     }
 }
 
 /// Those of the certificates that this pair of volumes shows.
 pub(crate) fn members_of<'a>(
     alloc: Global,
-    waiting: &[Waiting<'a>],
-    pair: &Pair,
+    waiting: &[PendingCertificate<'a>],
+    pair: &VolumePair,
 ) -> Result<Vec<Member<'a>>, AllocError>
     ensures { IfOk result (λ ms. AreMembers waiting.now pair.now ms.items) }
 {
@@ -117,13 +119,13 @@ pub(crate) fn members_of<'a>(
 pub(crate) fn claims_of<'a>(
     alloc: Global,
     members: &[Member<'a>],
-) -> Result<Vec<Claim<'a>>, AllocError>
+) -> Result<Vec<CertificateText<'a>>, AllocError>
     ensures { IfOk result (λ cs. texts_of cs.items ≡ texts_among members.now) }
 {
     let mut claims = Vec::new(alloc);
     for member in members {
         let text = member.text;
-        claims.push(Claim { text, parsed: None })?;
+        claims.push(CertificateText { text, parsed: None })?;
     }
     Ok(claims)
 }

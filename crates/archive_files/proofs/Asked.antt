@@ -11,7 +11,7 @@ use Rattle.journal_lines.specs.Close.{is_close}
 use Rattle.journal_text.specs.Closed.{IsClosed}
 use Rattle.causal_order.specs.Journals.{Journals, journal_of, volume_of}
 use Rattle.causal_order.specs.declared.certificate.Certificate.{Certificate}
-use Rattle.journal_archive.specs.declared.outline.Outline.{Outline}
+use Rattle.journal_archive.specs.declared.outline.VolumeOutline.{VolumeOutline}
 use Rattle.archive_files.specs.Laws.{IsOutlineOf, IsAskedOf, ShowsAll, ShowsWhatIsAsked}
 
 is_closing : (e : Event) → is_close e ≡ true → e ≡ Close
@@ -37,7 +37,7 @@ first_from : (number opened skew transit from : ℕ) (b : Bool) → nat_le numbe
 first_from number opened skew transit from true e h lt = let le = leb-true number 1 e in absurd (omega arith)
 first_from number opened skew transit from false e h lt = h
 
-module _ (js : Journals) (side : Role) (v : Outline) (skew transit : ℕ) (c : Certificate) (some : c.from < c.to)
+module _ (js : Journals) (side : Role) (v : VolumeOutline) (skew transit : ℕ) (c : Certificate) (some : c.from < c.to)
     (closed : IsClosed (journal_of js side)) (of : IsOutlineOf (volume_of js side) (journal_of js side) v) where
   asked : ShowsAll skew transit c v → IsAskedOf js skew transit c side
   asked shows =

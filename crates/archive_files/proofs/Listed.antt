@@ -4,10 +4,10 @@ use Rattle.std.proofs.Common.{zero, suc, arith, sym, ◌∙◌, subst, inl, inr,
 use Rattle.std.proofs.lemmas.Bool.{cases_lt}
 use Rattle.binding_rules.specs.declared.role.Role.{Role}
 use Rattle.binding_rules.specs.declared.role.Role.TheVariants.{Primary, Secondary}
-use Rattle.journal_archive.specs.declared.outline.Filed.{Filed}
-use Rattle.journal_archive.specs.Shelves.{IsShelfOf, AreTwo, AreDifferent}
-use Rattle.archive_files.specs.declared.found.Found.TheVariants.{Volume}
-use Rattle.archive_files.specs.declared.cataloguing.PassedOver.{PassedOver}
+use Rattle.journal_archive.specs.declared.outline.FiledVolume.{FiledVolume}
+use Rattle.journal_archive.specs.VolumeLists.{IsVolumeListOf, AreTwo, AreDifferent}
+use Rattle.archive_files.specs.declared.file_content.FileContent.TheVariants.{Volume}
+use Rattle.archive_files.specs.declared.cataloguing.SkippedFile.{SkippedFile}
 use Rattle.archive_files.specs.declared.cataloguing.Catalogue.{Catalogue}
 use Rattle.archive_files.specs.Found.{IsFound}
 use Rattle.archive_files.specs.Catalogues.{IsIn, AreFound, IsKept, IsCatalogue}
@@ -30,14 +30,14 @@ in_last [] x = refl
 in_last (z ∷ zs) x = in_last zs x
 
 -- a volume that was found in a file says which
-in_its_file : (had : ℕ → List ℕ → Type 0) (file : ℕ) (v : Filed) → IsFound (had file) file (Volume v)
+in_its_file : (had : ℕ → List ℕ → Type 0) (file : ℕ) (v : FiledVolume) → IsFound (had file) file (Volume v)
     → IsFound (had v.file) v.file (Volume v)
 in_its_file had file v found = subst (λ n. IsFound (had n) n (Volume v)) (sym found.0) found
 
 pub less_or : (count k : ℕ) → k < count + 1 → (k < count) ⊎ (k ≡ count)
 less_or count k lt = elim (cases_lt k count) [ inl a ↦ inl a | inr b ↦ inr (omega arith) ]
 
-pub none_told : (had : ℕ → List ℕ → Type 0) (vs : List Filed) (ps : List PassedOver) → vs ≡ [] → ps ≡ []
+pub none_told : (had : ℕ → List ℕ → Type 0) (vs : List FiledVolume) (ps : List SkippedFile) → vs ≡ [] → ps ≡ []
     → AreTold had 0 vs ps
 none_told had [] [] e f = record {
   found = λ v a. absurd (let h = a.1 in cc);
@@ -47,14 +47,14 @@ none_told had [] [] e f = record {
 none_told had (v ∷ vs) ps e f = absurd (cc)
 none_told had [] (p ∷ ps) e f = absurd (cc)
 
-module _ (had : ℕ → List ℕ → Type 0) (count : ℕ) (vs : List Filed) (ps : List PassedOver)
+module _ (had : ℕ → List ℕ → Type 0) (count : ℕ) (vs : List FiledVolume) (ps : List SkippedFile)
     (are : AreTold had count vs ps) where
-  pub more_volume : (new : List Filed) (x : Filed) → new ≡ vs ++ x ∷ [] → IsFound (had count) count (Volume x)
+  pub more_volume : (new : List FiledVolume) (x : FiledVolume) → new ≡ vs ++ x ∷ [] → IsFound (had count) count (Volume x)
       → AreTold had (count + 1) new ps
-  more_volume new x is found = subst (λ (zs : List Filed). AreTold had (count + 1) zs ps) (sym is) (record {
+  more_volume new x is found = subst (λ (zs : List FiledVolume). AreTold had (count + 1) zs ps) (sym is) (record {
     found = λ v a. elim (in_or vs x v a.0 a.1) [
       | inl h ↦ are.found v h
-      | inr e ↦ subst (λ (z : Filed). IsFound (had z.file) z.file (Volume z)) e (in_its_file had count x found)
+      | inr e ↦ subst (λ (z : FiledVolume). IsFound (had z.file) z.file (Volume z)) e (in_its_file had count x found)
     ];
     passed_over = are.passed_over;
     all = λ k lt. elim (less_or count k lt) [
@@ -66,13 +66,13 @@ module _ (had : ℕ → List ℕ → Type 0) (count : ℕ) (vs : List Filed) (ps
     ];
   })
 
-  pub more_passed : (new : List PassedOver) (x : PassedOver) → new ≡ ps ++ x ∷ [] → x.file ≡ count
+  pub more_passed : (new : List SkippedFile) (x : SkippedFile) → new ≡ ps ++ x ∷ [] → x.file ≡ count
       → IsFound (had x.file) x.file x.found → AreTold had (count + 1) vs new
-  more_passed new x is file found = subst (λ (zs : List PassedOver). AreTold had (count + 1) vs zs) (sym is) (record {
+  more_passed new x is file found = subst (λ (zs : List SkippedFile). AreTold had (count + 1) vs zs) (sym is) (record {
     found = are.found;
     passed_over = λ p a. elim (in_or ps x p a.0 a.1) [
       | inl h ↦ are.passed_over p h
-      | inr e ↦ subst (λ (z : PassedOver). IsFound (had z.file) z.file z.found) e found
+      | inr e ↦ subst (λ (z : SkippedFile). IsFound (had z.file) z.file z.found) e found
     ];
     all = λ k lt. elim (less_or count k lt) [
       | inl less ↦ elim (are.all k less) [
@@ -84,8 +84,8 @@ module _ (had : ℕ → List ℕ → Type 0) (count : ℕ) (vs : List Filed) (ps
   })
 
 -- a volume that was told of stands on its side's shelf
-kept_by : (had : ℕ → List ℕ → Type 0) (file : ℕ) (files primary secondary : List Filed) (v : Filed) (side : Role)
-    → v.outline.side ≡ side → IsShelfOf Primary files primary → IsShelfOf Secondary files secondary
+kept_by : (had : ℕ → List ℕ → Type 0) (file : ℕ) (files primary secondary : List FiledVolume) (v : FiledVolume) (side : Role)
+    → v.outline.side ≡ side → IsVolumeListOf Primary files primary → IsVolumeListOf Secondary files secondary
     → AreCopiesOf had primary files → AreCopiesOf had secondary files → IsIn files v
     → IsFound (had file) file (Volume v) → IsKept had primary secondary file
 kept_by had file files primary secondary v Primary of one other copies copied a found =
@@ -95,9 +95,9 @@ kept_by had file files primary secondary v Secondary of one other copies copied 
     let r = other.all v a of in
     (v, r.0, found, inr r.1, r.2, copied a.0 v a.1 r.1.0 r.0 r.1.1 r.2)
 
-pub catalogued : (had : ℕ → List ℕ → Type 0) (count : ℕ) (files : List Filed) (c : Catalogue)
-    → AreTold had count files c.passed_over.items → IsShelfOf Primary files c.archive.primary
-    → IsShelfOf Secondary files c.archive.secondary → AreCopiesOf had c.archive.primary files
+pub catalogued : (had : ℕ → List ℕ → Type 0) (count : ℕ) (files : List FiledVolume) (c : Catalogue)
+    → AreTold had count files c.passed_over.items → IsVolumeListOf Primary files c.archive.primary
+    → IsVolumeListOf Secondary files c.archive.secondary → AreCopiesOf had c.archive.primary files
     → AreCopiesOf had c.archive.secondary files → IsCatalogue had count c
 catalogued had count files c told one other copies copied = record {
   primary = λ v a. told.found v (one.each v a).0;
@@ -111,12 +111,12 @@ catalogued had count files c told one other copies copied = record {
 }
 
 -- a shelf's volumes were found in their files
-pub on_shelf_found : (had : ℕ → List ℕ → Type 0) (side : Role) (files vs : List Filed) → AreFound had files
-    → IsShelfOf side files vs → AreFound had vs
+pub on_shelf_found : (had : ℕ → List ℕ → Type 0) (side : Role) (files vs : List FiledVolume) → AreFound had files
+    → IsVolumeListOf side files vs → AreFound had vs
 on_shelf_found had side files vs found shelf v a = found v (shelf.each v a).0
 
 -- two files of which the edges say different things
-pub differ_told : (had : ℕ → List ℕ → Type 0) (files : List Filed) (first second : ℕ) → AreFound had files
+pub differ_told : (had : ℕ → List ℕ → Type 0) (files : List FiledVolume) (first second : ℕ) → AreFound had files
     → AreTwo files first second AreDifferent → AreUnlike had first second
 differ_told had files first second found two = record {
   one = two.first;

@@ -3,17 +3,17 @@ use Rattle.std.specs.Prelude.{◌≡◌, ◌≢◌, ℕ, ◌<◌, ◌≤◌, Lis
 use Rattle.std.proofs.Common.{arith, inl, refl, subst}
 use Rattle.binding_rules.specs.declared.role.Role.{Role}
 use Rattle.binding_rules.specs.declared.role.Role.TheVariants.{Primary, Secondary}
-use Rattle.journal_archive.specs.declared.outline.Filed.{Filed}
-use Rattle.journal_archive.specs.Shelves.{IsShelfOf}
+use Rattle.journal_archive.specs.declared.outline.FiledVolume.{FiledVolume}
+use Rattle.journal_archive.specs.VolumeLists.{IsVolumeListOf}
 use Rattle.journal_archive.proofs.Among.{within}
-use Rattle.journal_archive.specs.declared.settings.Setting.{Setting}
+use Rattle.journal_archive.specs.declared.settings.SettingLine.{SettingLine}
 use Rattle.archive_files.specs.declared.error.FilesError.TheVariants.{OtherPair}
-use Rattle.archive_files.specs.declared.ties.Agreement.{Agreement}
-use Rattle.archive_files.specs.declared.ties.Agreement.TheVariants.{OfBoth, OfEach}
+use Rattle.archive_files.specs.declared.settings_check.SettingsScope.{SettingsScope}
+use Rattle.archive_files.specs.declared.settings_check.SettingsScope.TheVariants.{OfBoth, OfEach}
 use Rattle.archive_files.specs.Ties.{IsSetUp, IsOfSide, AreSetUp, AreTied, AreTiedBy, AreOfTwoPairs}
 
 -- the two that differ are those that are named
-pub two_pairs : (had : ℕ → List ℕ → Type 0) (one other first second : ℕ) (settings said : List Setting)
+pub two_pairs : (had : ℕ → List ℕ → Type 0) (one other first second : ℕ) (settings said : List SettingLine)
     → OtherPair one other ≡ OtherPair first second → IsSetUp (had one) (Some settings)
     → IsSetUp (had other) (Some said) → settings ≢ said → AreOfTwoPairs had first second
 two_pairs had one other first second settings said e own has differ =
@@ -27,24 +27,24 @@ two_pairs had one other first second settings said e own has differ =
     )
 
 -- none of them says settings yet
-pub none_says : (had : ℕ → List ℕ → Type 0) (side : Option Role) (vs : List Filed) (count : ℕ) → length vs ≤ count
-    → ((k : ℕ) (v : Filed) → k < count → slice_get vs k ≡ Some v → IsOfSide side v → IsSetUp (had v.file) None)
+pub none_says : (had : ℕ → List ℕ → Type 0) (side : Option Role) (vs : List FiledVolume) (count : ℕ) → length vs ≤ count
+    → ((k : ℕ) (v : FiledVolume) → k < count → slice_get vs k ≡ Some v → IsOfSide side v → IsSetUp (had v.file) None)
     → AreSetUp had side vs []
 none_says had side vs count le all v a of =
     let lt = within vs v a.0 a.1 in
     (None, all a.0 v (omega arith) a.1 of, inl refl)
 
 -- what is so of files is so of the shelves of their volumes
-on_shelf : (had : ℕ → List ℕ → Type 0) (side : Role) (whose : Option Role) (files vs : List Filed)
-    (settings : List Setting) → IsShelfOf side files vs
-    → ((v : Filed) → v.outline.side ≡ side → IsOfSide whose v) → AreSetUp had whose files settings
+on_shelf : (had : ℕ → List ℕ → Type 0) (side : Role) (whose : Option Role) (files vs : List FiledVolume)
+    (settings : List SettingLine) → IsVolumeListOf side files vs
+    → ((v : FiledVolume) → v.outline.side ≡ side → IsOfSide whose v) → AreSetUp had whose files settings
     → AreSetUp had None vs settings
 on_shelf had side whose files vs settings shelf of are v a any =
     let r = shelf.each v a in
     are v r.0 (of v r.1)
 
-pub shelves_tied : (had : ℕ → List ℕ → Type 0) (agreement : Agreement) (files primary secondary : List Filed)
-    → IsShelfOf Primary files primary → IsShelfOf Secondary files secondary → AreTiedBy had agreement files
+pub shelves_tied : (had : ℕ → List ℕ → Type 0) (agreement : SettingsScope) (files primary secondary : List FiledVolume)
+    → IsVolumeListOf Primary files primary → IsVolumeListOf Secondary files secondary → AreTiedBy had agreement files
     → AreTied had agreement primary secondary
 shelves_tied had OfBoth files primary secondary one other tied = (
   tied.0,

@@ -3,7 +3,7 @@
 ghost use Rattle.std.specs.Prelude.{◌≡◌, ℕ, IfOk, IfErr};
 ghost use Rattle.binding_rules.specs.declared.role.Role.TheVariants.{Primary as A, Secondary as B};
 ghost use Rattle.journal_archive.specs.declared.error.ArchiveError.TheVariants.{Differ};
-ghost use Rattle.journal_archive.specs.Shelves.{IsShelfOf, AreTwo, AreDifferent};
+ghost use Rattle.journal_archive.specs.VolumeLists.{IsVolumeListOf, AreTwo, AreDifferent};
 ghost use Rattle.archive_files.specs.declared.error.FilesError.TheVariants.{OtherPair, Archive as IsArchives};
 ghost use Rattle.archive_files.specs.Alike.{AreCopiesOf, DifferTruly, IsNoTies};
 ghost use Rattle.archive_files.specs.Catalogues.{AreFound, IsCatalogue};
@@ -12,47 +12,47 @@ ghost use Rattle.archive_files.specs.Ties.{AreTied, AreOfTwoPairs};
 
 use crate::copies::expect_copies;
 use crate::error::FilesError;
+use crate::file_content::{FileContent, classify};
 use crate::files::JournalFiles;
-use crate::found::{Found, look_at};
-use crate::ties::{Agreement, tie};
-use journal_archive::{Archive, ArchiveError, Filed};
+use crate::settings_check::{SettingsScope, check_settings};
+use journal_archive::{Archive, ArchiveError, FiledVolume};
 use std::alloc::{AllocError, Global};
 
 /// A file that is no volume for the archive, and what it is.
 #[derive(Clone, Copy, Debug, PartialEq, Eq)]
-pub struct PassedOver {
+pub struct SkippedFile {
     pub file: usize,
-    pub found: Found,
+    pub found: FileContent,
 }
 
 /// The archive of the files that are volumes, and the others.
 #[derive(Debug, Drop)]
 pub struct Catalogue {
     pub archive: Archive,
-    pub passed_over: Vec<PassedOver>,
+    pub passed_over: Vec<SkippedFile>,
 }
 
 /// What files are: the volumes, and the others.
 #[derive(Debug, Drop)]
-struct Told {
-    volumes: Vec<Filed>,
-    passed_over: Vec<PassedOver>,
+struct ClassifiedFiles {
+    volumes: Vec<FiledVolume>,
+    passed_over: Vec<SkippedFile>,
 }
 
 /// Looks at each file.
-fn look_at_all<F: JournalFiles>(alloc: Global, files: &F) -> Result<Told, AllocError>
+fn classify_all<F: JournalFiles>(alloc: Global, files: &F) -> Result<ClassifiedFiles, AllocError>
     ensures { IfOk result (λ told.
         AreTold (F.had files.now) (F.files files.now) told.volumes.items told.passed_over.items) }
 {
     let mut volumes = Vec::new(alloc);
     let mut passed_over = Vec::new(alloc);
     for file in 0..files.count() {
-        match look_at(alloc, files, file)? {
-            Found::Volume(volume) => volumes.extend_from_slice(&[volume])?,
-            other => passed_over.extend_from_slice(&[PassedOver { file, found: other }])?,
+        match classify(alloc, files, file)? {
+            FileContent::Volume(volume) => volumes.extend_from_slice(&[volume])?,
+            other => passed_over.extend_from_slice(&[SkippedFile { file, found: other }])?,
         }
     }
-    Ok(Told {
+    Ok(ClassifiedFiles {
         volumes,
         passed_over,
     })
@@ -60,9 +60,9 @@ fn look_at_all<F: JournalFiles>(alloc: Global, files: &F) -> Result<Told, AllocE
 
 /// The archive of volumes by what their edges say. `Archive` where they can't be of one pair of servers, `Memory` where
 /// a growth was refused.
-fn archive_by_edges(alloc: Global, volumes: &[Filed]) -> Result<Archive, FilesError>
-    ensures primary { IfOk result (λ archive. IsShelfOf A volumes.now archive.primary) }
-    ensures secondary { IfOk result (λ archive. IsShelfOf B volumes.now archive.secondary) }
+fn archive_by_edges(alloc: Global, volumes: &[FiledVolume]) -> Result<Archive, FilesError>
+    ensures primary { IfOk result (λ archive. IsVolumeListOf A volumes.now archive.primary) }
+    ensures secondary { IfOk result (λ archive. IsVolumeListOf B volumes.now archive.secondary) }
     ensures differ { IfErr result (λ e. (first second : ℕ) → e ≡ IsArchives (Differ first second)
         → AreTwo volumes.now first second AreDifferent) }
     ensures others { IfErr result IsNoTies }
@@ -79,11 +79,11 @@ fn archive_by_edges(alloc: Global, volumes: &[Filed]) -> Result<Archive, FilesEr
 fn archive_of<F: JournalFiles>(
     alloc: Global,
     files: &F,
-    volumes: &[Filed],
+    volumes: &[FiledVolume],
 ) -> Result<Archive, FilesError>
     requires { AreFound (F.had files.now) volumes.now }
-    ensures primary { IfOk result (λ archive. IsShelfOf A volumes.now archive.primary) }
-    ensures secondary { IfOk result (λ archive. IsShelfOf B volumes.now archive.secondary) }
+    ensures primary { IfOk result (λ archive. IsVolumeListOf A volumes.now archive.primary) }
+    ensures secondary { IfOk result (λ archive. IsVolumeListOf B volumes.now archive.secondary) }
     ensures copies { IfOk result (λ archive. AreCopiesOf (F.had files.now) archive.primary volumes.now) }
     ensures copied { IfOk result (λ archive. AreCopiesOf (F.had files.now) archive.secondary volumes.now) }
     ensures differ { IfErr result (DifferTruly (F.had files.now)) }
@@ -102,7 +102,7 @@ fn archive_of<F: JournalFiles>(
 pub fn catalogue_of<F: JournalFiles>(
     alloc: Global,
     files: &F,
-    agreement: Agreement,
+    agreement: SettingsScope,
 ) -> Result<Catalogue, FilesError>
     ensures catalogue { IfOk result (IsCatalogue (F.had files.now) (F.files files.now)) }
     ensures tied { IfOk result
@@ -111,11 +111,11 @@ pub fn catalogue_of<F: JournalFiles>(
         (λ e. (first second : ℕ) → e ≡ OtherPair first second → AreOfTwoPairs (F.had files.now) first second) }
     ensures differ { IfErr result (DifferTruly (F.had files.now)) }
 {
-    let Told {
+    let ClassifiedFiles {
         volumes,
         passed_over,
-    } = look_at_all(alloc, files)?;
-    tie(alloc, files, &volumes, agreement)?;
+    } = classify_all(alloc, files)?;
+    check_settings(alloc, files, &volumes, agreement)?;
     let archive = archive_of(alloc, files, &volumes)?;
     Ok(Catalogue {
         archive,

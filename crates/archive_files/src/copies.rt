@@ -1,7 +1,7 @@
 //! Whether files that count as one volume have the same octets.
 
 ghost use Rattle.std.specs.Prelude.{◌≡◌, ◌↔◌, IsTrue, IfOk, OnOk, IfErr};
-ghost use Rattle.archive_files.specs.declared.found.Found.TheVariants.{Volume};
+ghost use Rattle.archive_files.specs.declared.file_content.FileContent.TheVariants.{Volume};
 ghost use Rattle.archive_files.specs.Found.{IsFound};
 ghost use Rattle.archive_files.specs.Catalogues.{AreFound};
 ghost use Rattle.archive_files.specs.Alike.{AreSameUpTo, AreCopies, IsCopyOf, AreCopiesOf};
@@ -9,7 +9,7 @@ ghost use Rattle.archive_files.specs.Alike.{DifferTruly, IsNoArchives, IsNoTies}
 
 use crate::error::FilesError;
 use crate::files::{JournalFiles, Unreadable};
-use journal_archive::{ArchiveError, Filed};
+use journal_archive::{ArchiveError, FiledVolume};
 use std::alloc::Global;
 
 /// Returns whether the first so many octets are the same, as far as both have them.
@@ -39,8 +39,8 @@ fn octets_of<F: JournalFiles>(alloc: Global, files: &F, file: usize) -> Result<V
 fn expect_copy<F: JournalFiles>(
     alloc: Global,
     files: &F,
-    kept: &Filed,
-    volume: &Filed,
+    kept: &FiledVolume,
+    volume: &FiledVolume,
 ) -> Result<(), FilesError>
     requires kept { IsFound (F.had files.now kept.now.file) kept.now.file (Volume kept.now) }
     requires volume { IsFound (F.had files.now volume.now.file) volume.now.file (Volume volume.now) }
@@ -67,8 +67,8 @@ fn expect_copy<F: JournalFiles>(
 fn expect_copy_of<F: JournalFiles>(
     alloc: Global,
     files: &F,
-    shelf: &[Filed],
-    volume: &Filed,
+    shelf: &[FiledVolume],
+    volume: &FiledVolume,
 ) -> Result<(), FilesError>
     requires shelf { AreFound (F.had files.now) shelf.now }
     requires volume { IsFound (F.had files.now volume.now.file) volume.now.file (Volume volume.now) }
@@ -89,8 +89,8 @@ fn expect_copy_of<F: JournalFiles>(
 pub(crate) fn expect_copies<F: JournalFiles>(
     alloc: Global,
     files: &F,
-    shelf: &[Filed],
-    volumes: &[Filed],
+    shelf: &[FiledVolume],
+    volumes: &[FiledVolume],
 ) -> Result<(), FilesError>
     requires shelf { AreFound (F.had files.now) shelf.now }
     requires volumes { AreFound (F.had files.now) volumes.now }

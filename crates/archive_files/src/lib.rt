@@ -8,7 +8,7 @@
 //! others each time.
 //!
 //! All volumes of one server begin with the same settings, and so do its partner's where the two are set up alike:
-//! where they differ the files are of two pairs (`FilesError::OtherPair`). [`Agreement`] says whether the partner's are
+//! where they differ the files are of two pairs (`FilesError::OtherPair`). [`SettingsScope`] says whether the partner's are
 //! asked.
 //!
 //! Two files with one volume of a side count once where they are copies. Where their outlines differ (first and last
@@ -17,10 +17,10 @@
 //! where they differ nothing is answered either.
 //!
 //! ```text
-//! let catalogue = catalogue_of(alloc, &files, Agreement::OfBoth)?;
+//! let catalogue = catalogue_of(alloc, &files, SettingsScope::OfBoth)?;
 //! match shown_at(alloc, &files, &catalogue.archive, moment, skew, transit)? {
-//!     Shown::Journals(pair, shown) => .., // two closed journals, and which files they are of
-//!     Shown::Lacking(side, lack) => ..,
+//!     ShownJournals::Journals(pair, shown) => .., // two closed journals, and which files they are of
+//!     ShownJournals::Lacking(side, lack) => ..,
 //! }
 //! ```
 #![tactic(auto)]
@@ -28,19 +28,19 @@
 mod cataloguing;
 mod copies;
 mod error;
+mod file_content;
 mod files;
-mod found;
 mod laws;
 mod reaching;
+mod settings_check;
 mod showing;
-mod ties;
 
-pub use cataloguing::{Catalogue, PassedOver, catalogue_of};
+pub use cataloguing::{Catalogue, SkippedFile, catalogue_of};
 pub use error::FilesError;
+pub use file_content::FileContent;
 pub use files::{JournalFiles, Unreadable};
-pub use found::Found;
 pub use journal_archive::FileEnd;
 pub use laws::what_is_shown_is_what_is_asked;
 pub use reaching::shown_until;
-pub use showing::{Shown, read_again, shown_at, shown_by};
-pub use ties::Agreement;
+pub use settings_check::SettingsScope;
+pub use showing::{ShownJournals, read_again, shown_at, shown_by};

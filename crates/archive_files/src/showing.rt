@@ -2,25 +2,25 @@
 
 ghost use Rattle.std.specs.Prelude.{◌↔◌, IsTrue, IfOk};
 ghost use Rattle.open_volume.specs.Spelling.{IsWrittenSoFar};
-ghost use Rattle.archive_files.specs.Showing.{AreOfOne, IsOf, IsCopyOf, IsShown, IsShownAt, AreClosed};
+ghost use Rattle.archive_files.specs.Showing.{AreOfOne, IsOf, IsCopyOf, AreShownBy, IsShownAt, AreClosed};
 
 use crate::error::FilesError;
 use crate::files::{JournalFiles, Unreadable};
 use binding_rules::Role;
 use journal_archive::{
-    Answer, Archive, Filed, JournalError, Lack, Outline, Pair, ShownPair, VolumeSoFar, outline_of,
-    read_copy, show_pair,
+    Archive, CoverageGap, FiledVolume, JournalError, PairJournals, PairLookup, VolumeOutline,
+    VolumePair, VolumeSoFar, outline_of, read_copy, show_pair,
 };
 use lead_time::{Skew, Transit};
 use std::alloc::Global;
 
 /// What files show of a moment.
 #[derive(Debug, Drop)]
-pub enum Shown {
+pub enum ShownJournals {
     /// The journals that these two volumes show, each closed as far as it goes.
-    Journals(Pair, ShownPair),
+    Journals(VolumePair, PairJournals),
     /// No volume of this side shows it, and why.
-    Lacking(Role, Lack),
+    Lacking(Role, CoverageGap),
 }
 
 /// The volume that a file has now: the one that was filed, with more lines perhaps, or with fewer where not all that
@@ -28,7 +28,7 @@ pub enum Shown {
 pub fn read_again<F: JournalFiles>(
     alloc: Global,
     files: &F,
-    filed: &Filed,
+    filed: &FiledVolume,
 ) -> Result<VolumeSoFar, FilesError>
     ensures copy { IfOk result (IsCopyOf (F.had files.now filed.now.file) filed.now) }
     ensures written { IfOk result IsWrittenSoFar }
@@ -51,7 +51,7 @@ pub fn read_again<F: JournalFiles>(
     }
 }
 
-fn is_of(volume: &VolumeSoFar, filed: &Filed) -> bool
+fn is_of(volume: &VolumeSoFar, filed: &FiledVolume) -> bool
     ensures { IsTrue result ↔ IsOf volume.now filed.now }
 {
     match outline_of(volume, filed.outline.octets) {
@@ -61,7 +61,7 @@ fn is_of(volume: &VolumeSoFar, filed: &Filed) -> bool
 }
 
 /// Returns whether both outlines are of one volume, of whichever of its lines.
-fn is_same(filed: &Outline, read: &Outline) -> bool
+fn is_same(filed: &VolumeOutline, read: &VolumeOutline) -> bool
     ensures { IsTrue result ↔ AreOfOne filed.now read.now }
 {
     filed.side == read.side && filed.number == read.number && filed.opened == read.opened
@@ -72,9 +72,9 @@ fn is_same(filed: &Outline, read: &Outline) -> bool
 pub fn shown_by<F: JournalFiles>(
     alloc: Global,
     files: &F,
-    pair: &Pair,
-) -> Result<ShownPair, FilesError>
-    ensures shown { IfOk result (IsShown (F.had files.now) pair.now) }
+    pair: &VolumePair,
+) -> Result<PairJournals, FilesError>
+    ensures shown { IfOk result (AreShownBy (F.had files.now) pair.now) }
     ensures closed { IfOk result AreClosed }
 {
     let primary = read_again(alloc, files, &pair.primary)?;
@@ -93,14 +93,14 @@ pub fn shown_at<F: JournalFiles>(
     moment: u64,
     skew: Skew,
     transit: Transit,
-) -> Result<Shown, FilesError>
+) -> Result<ShownJournals, FilesError>
     ensures { IfOk result (IsShownAt (F.had files.now) archive.now skew transit moment) }
 {
     match archive.at(moment, skew, transit) {
-        Answer::Shown(pair) => {
+        PairLookup::Shown(pair) => {
             let shown = shown_by(alloc, files, &pair)?;
-            Ok(Shown::Journals(pair, shown))
+            Ok(ShownJournals::Journals(pair, shown))
         }
-        Answer::Lacking(side, lack) => Ok(Shown::Lacking(side, lack)),
+        PairLookup::Lacking(side, lack) => Ok(ShownJournals::Lacking(side, lack)),
     }
 }

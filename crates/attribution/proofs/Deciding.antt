@@ -25,8 +25,8 @@ use Rattle.causal_order.proofs.Deciding.{decides_le, decides_lt, decides_side, d
 use Rattle.causal_order.proofs.Deciding.{decides_line, decides_written_from, decides_precedes}
 use Rattle.causal_order.specs.declared.certificate.Certificate.{Certificate}
 use Rattle.causal_order.specs.declared.certificate.Piece.{Piece}
-use Rattle.causal_order.specs.declared.certificate.Why.{Why}
-use Rattle.causal_order.specs.declared.certificate.Why.TheVariants.{Before, After}
+use Rattle.causal_order.specs.declared.certificate.ClearReason.{ClearReason}
+use Rattle.causal_order.specs.declared.certificate.ClearReason.TheVariants.{Before, After}
 use Rattle.journal_lines.specs.Close.{is_close}
 use Rattle.attribution.specs.declared.delegation.Delegation.{Delegation}
 use Rattle.attribution.specs.declared.delegation.Lasting.{Lasting}
@@ -180,7 +180,7 @@ close_is _ h = cc
 pub decides_close : (e : Event) → Decides (is_close e) (e ≡ Close)
 decides_close e = (close_is e, λ h. ap is_close h)
 
-pub decides_cleared : (js : Journals) (skew : ℕ) (release grant : Ref) (to : ℕ) (why : Why)
+pub decides_cleared : (js : Journals) (skew : ℕ) (release grant : Ref) (to : ℕ) (why : ClearReason)
     → Decides (is_cleared js skew release grant to why) (IsCleared js skew release grant to why)
 decides_cleared js skew release grant to (Before order) = decides_precedes js skew order release grant
 decides_cleared js skew release grant to (After chain) =

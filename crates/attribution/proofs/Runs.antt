@@ -23,8 +23,8 @@ use Rattle.causal_order.specs.Order.{IsLater, IsTakeOf, IsSurelyBefore, IsChain,
 use Rattle.causal_order.specs.Order.{WrittenFrom}
 use Rattle.causal_order.specs.declared.certificate.Certificate.{Certificate}
 use Rattle.causal_order.specs.declared.certificate.Piece.{Piece}
-use Rattle.causal_order.specs.declared.certificate.Why.{Why}
-use Rattle.causal_order.specs.declared.certificate.Why.TheVariants.{Before, After}
+use Rattle.causal_order.specs.declared.certificate.ClearReason.{ClearReason}
+use Rattle.causal_order.specs.declared.certificate.ClearReason.TheVariants.{Before, After}
 use Rattle.causal_order.specs.declared.certificate.Foreign.{Foreign}
 use Rattle.causal_order.specs.declared.certificate.Reason.{Reason}
 use Rattle.causal_order.specs.declared.certificate.Reason.TheVariants.{Early, Late, Released}
@@ -272,7 +272,7 @@ module _ (AreLegal : Role → List (List Line) → Type 0) (js : Journals) (skew
   ]
 
   -- a cleared release is not after the grant and by m
-  cleared_apart : (r grant : Ref) (to m i j : ℕ) (s t : Step) (why : Why) → IsCleared js skew r grant to why
+  cleared_apart : (r grant : Ref) (to m i j : ℕ) (s t : Step) (why : ClearReason) → IsCleared js skew r grant to why
       → RefAt js run grant i s → RefAt js run r j t
       → i < j → t.moment ≤ m → m < to → ⊥
   cleared_apart r grant to m i j s t (Before order) sure a b after by before = let lt =

@@ -13,8 +13,8 @@ use Rattle.causal_order.specs.Order.{IsSurelyBefore, WrittenBy, WrittenFrom}
 use Rattle.causal_order.specs.declared.certificate.Certificate.{Certificate}
 use Rattle.causal_order.specs.declared.certificate.Piece.{Piece}
 use Rattle.causal_order.specs.declared.certificate.Clear.{Clear}
-use Rattle.causal_order.specs.declared.certificate.Why.{Why}
-use Rattle.causal_order.specs.declared.certificate.Why.TheVariants.{Before, After}
+use Rattle.causal_order.specs.declared.certificate.ClearReason.{ClearReason}
+use Rattle.causal_order.specs.declared.certificate.ClearReason.TheVariants.{Before, After}
 use Rattle.causal_order.specs.declared.certificate.Foreign.{Foreign}
 use Rattle.causal_order.specs.declared.certificate.Reason.{Reason}
 use Rattle.causal_order.specs.declared.certificate.Reason.TheVariants.{Early, Late, Released}
@@ -37,7 +37,7 @@ abbrev pub GivesBack : Journals → Ref → Delegation → Type 0
 GivesBack js r d = (l : Line) × Names js r l × (l.event ≡ Release d.client d.iaid d.prefix)
 
 -- the release came before the grant, or not before the piece's end
-abbrev pub IsCleared : Journals → ℕ → (release grant : Ref) → (to : ℕ) → Why → Type 0
+abbrev pub IsCleared : Journals → ℕ → (release grant : Ref) → (to : ℕ) → ClearReason → Type 0
 IsCleared js skew release grant to (Before order) = IsSurelyBefore js skew order release grant
 IsCleared js skew release grant to (After chain) = (x : ℕ) × WrittenFrom js chain release x × (to + skew ≤ x)
 

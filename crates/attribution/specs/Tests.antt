@@ -16,8 +16,8 @@ use Rattle.causal_order.specs.Journals.{Journals, volume_of, open_of, line_of}
 use Rattle.causal_order.specs.Tests.{some_and, in_line, same_ref, same_prefix, written_from, precedes}
 use Rattle.causal_order.specs.declared.certificate.Certificate.{Certificate}
 use Rattle.causal_order.specs.declared.certificate.Piece.{Piece}
-use Rattle.causal_order.specs.declared.certificate.Why.{Why}
-use Rattle.causal_order.specs.declared.certificate.Why.TheVariants.{Before, After}
+use Rattle.causal_order.specs.declared.certificate.ClearReason.{ClearReason}
+use Rattle.causal_order.specs.declared.certificate.ClearReason.TheVariants.{Before, After}
 use Rattle.attribution.specs.declared.delegation.Delegation.{Delegation}
 use Rattle.attribution.specs.declared.delegation.Lasting.{Lasting}
 use Rattle.attribution.specs.declared.delegation.Lasting.TheVariants.{For, Until}
@@ -64,7 +64,7 @@ contains p q =
 abbrev pub overlaps : Prefix → Prefix → Bool
 overlaps p q = nat_lt (max (first_of p) (first_of q)) (min (min (past_of p) (past_of q)) (2 ^ 128))
 
-abbrev pub is_cleared : Journals → ℕ → (release grant : Ref) → (to : ℕ) → Why → Bool
+abbrev pub is_cleared : Journals → ℕ → (release grant : Ref) → (to : ℕ) → ClearReason → Bool
 is_cleared js skew release grant to (Before order) = precedes js skew order release grant
 is_cleared js skew release grant to (After chain) = written_from js chain release (λ x. nat_le (to + skew) x)
 

@@ -12,18 +12,18 @@ use Rattle.causal_order.specs.declared.certificate.Certificate.{Certificate}
 use Rattle.causal_order.specs.declared.fault.CertificateFault.{CertificateFault}
 use Rattle.causal_order.specs.Journals.{journals_of}
 use Rattle.attribution.specs.declared.verdict.Verdict.{Verdict as VerdictValue}
-use Rattle.pair_ruling.specs.declared.ruling.Ruling.{Ruling}
-use Rattle.pair_ruling.specs.declared.ruling.Ruling.TheVariants.{Verdict}
+use Rattle.pair_judgement.specs.declared.judging.Judgement.{Judgement}
+use Rattle.pair_judgement.specs.declared.judging.Judgement.TheVariants.{Verdict}
 use Rattle.attribution.specs.declared.verdict.Verdict.TheVariants.{Certificate as FaultOf, Journal as JournalVerdict}
 use Rattle.attribution.specs.FirstRefusal.{IsVerdict}
-use Rattle.pair_ruling.specs.Ruling.{ruling_line}
-use Rattle.pair_ruling.specs.Ruled.{IsRuledOut, IsFit}
+use Rattle.pair_judgement.specs.Judgements.{judgement_line}
+use Rattle.pair_judgement.specs.PairJudgements.{IsRuledOut, IsFit}
 use Rattle.parallel_check.specs.Verdicts.{AreVerdicts as AllJudged}
 use Rattle.attribution_desk.specs.Input.{text_length}
 use Rattle.attribution_desk.specs.Intake.{IsWholeText, TextGoesOn}
 use Rattle.attribution_desk.specs.Batch.{AreTexts, AreRuled}
 use Rattle.attribution_desk.specs.Claims.{AreGathered, AreRuledOn, woven}
-use Rattle.attribution_desk.specs.declared.certificates.Claim.{Claim}
+use Rattle.attribution_desk.specs.declared.certificates.CertificateText.{CertificateText}
 use Rattle.attribution_desk.specs.Claims.{texts_of}
 use Rattle.attribution_desk.specs.Input.{begins_with_end, first_length}
 use Rattle.text_fields.specs.Cuts.{split, joined}
@@ -71,14 +71,14 @@ one_text rest text behind n more is some front back h = (
   subst (λ (r : List ℕ). AreTexts r more) (back ∙ ap (λ (k : ℕ). drop k rest) is) h,
 )
 
-pub one_claim : (claims longer : List Claim) (claim : Claim) (more : List (List ℕ)) → longer ≡ claims ++ claim ∷ []
+pub one_claim : (claims longer : List CertificateText) (claim : CertificateText) (more : List (List ℕ)) → longer ≡ claims ++ claim ∷ []
     → texts_of longer ++ more ≡ texts_of claims ++ claim.text.now ∷ more
-one_claim claims longer claim more e = ap (λ (cs : List Claim). texts_of cs ++ more) e
-    ∙ (ap (λ (t : List (List ℕ)). t ++ more) (map-append (λ (c : Claim). c.text.now) claims (claim ∷ []))
+one_claim claims longer claim more e = ap (λ (cs : List CertificateText). texts_of cs ++ more) e
+    ∙ (ap (λ (t : List (List ℕ)). t ++ more) (map-append (λ (c : CertificateText). c.text.now) claims (claim ∷ []))
     ∙ append_assoc (texts_of claims) (claim.text.now ∷ []) more)
 
-pub texts_kept : (old new : List Claim) → length new ≡ length old
-    → ((i : ℕ) (d : Claim) → i < length old → (get_or new i d).text ≡ (get_or old i d).text)
+pub texts_kept : (old new : List CertificateText) → length new ≡ length old
+    → ((i : ℕ) (d : CertificateText) → i < length old → (get_or new i d).text ≡ (get_or old i d).text)
     → texts_of new ≡ texts_of old
 texts_kept [] [] len each = refl
 texts_kept (x ∷ xs) (y ∷ ys) len each =
@@ -90,57 +90,57 @@ texts_kept (x ∷ xs) [] len each = absurd (omega (arith, len))
 
 -- ---- the lines of rulings
 
-pub line_more : (vs : List Ruling) (i : ℕ) (d : Ruling) (line longer : List ℕ) → i < length vs
-    → line ++ flat_map ruling_line (drop i vs) ≡ flat_map ruling_line vs
-    → longer ≡ line ++ ruling_line (get_or vs i d) → longer ++ flat_map ruling_line (drop (i + 1) vs)
-    ≡ flat_map ruling_line vs
+pub line_more : (vs : List Judgement) (i : ℕ) (d : Judgement) (line longer : List ℕ) → i < length vs
+    → line ++ flat_map judgement_line (drop i vs) ≡ flat_map judgement_line vs
+    → longer ≡ line ++ judgement_line (get_or vs i d) → longer ++ flat_map judgement_line (drop (i + 1) vs)
+    ≡ flat_map judgement_line vs
 line_more vs i d line longer lt h e =
-    let rest = flat_map ruling_line (drop (i + 1) vs) in
-    ap (λ (t : List ℕ). t ++ rest) e ∙ (append_assoc line (ruling_line (get_or vs i d)) rest
-    ∙ (sym (ap (λ (t : List ℕ). line ++ t) (at_drop_more (flat_map ruling_line) vs i d lt)) ∙ h))
+    let rest = flat_map judgement_line (drop (i + 1) vs) in
+    ap (λ (t : List ℕ). t ++ rest) e ∙ (append_assoc line (judgement_line (get_or vs i d)) rest
+    ∙ (sym (ap (λ (t : List ℕ). line ++ t) (at_drop_more (flat_map judgement_line) vs i d lt)) ∙ h))
 
-pub line_whole : (vs : List Ruling) (i : ℕ) (line : List ℕ) → length vs ≤ i
-    → line ++ flat_map ruling_line (drop i vs) ≡ flat_map ruling_line vs → line ≡ flat_map ruling_line vs
+pub line_whole : (vs : List Judgement) (i : ℕ) (line : List ℕ) → length vs ≤ i
+    → line ++ flat_map judgement_line (drop i vs) ≡ flat_map judgement_line vs → line ≡ flat_map judgement_line vs
 line_whole vs i line le h = sym (append-nil line)
-    ∙ (sym (ap (λ (r : List Ruling). line ++ flat_map ruling_line r) (drop_of_length-le vs le)) ∙ h)
+    ∙ (sym (ap (λ (r : List Judgement). line ++ flat_map judgement_line r) (drop_of_length-le vs le)) ∙ h)
 
 -- ---- rulings woven with faults
 
 module _ (faults : List (Option CertificateFault)) (i : ℕ) (d : Option CertificateFault)
-    (out rest target : List Ruling) (lt : i < length faults) (h : out ++ woven (drop i faults) rest ≡ target) where
+    (out rest target : List Judgement) (lt : i < length faults) (h : out ++ woven (drop i faults) rest ≡ target) where
   here : out ++ woven (get_or faults i d ∷ drop (i + 1) faults) rest ≡ target
-  here = sym (ap (λ (t : List Ruling). out ++ t)
+  here = sym (ap (λ (t : List Judgement). out ++ t)
       (at_drop_more (λ (fs : List (Option CertificateFault)). woven fs rest) faults i d lt)) ∙ h
 
-  pub woven_fault : (f : CertificateFault) (longer : List Ruling) → get_or faults i d ≡ Some f
+  pub woven_fault : (f : CertificateFault) (longer : List Judgement) → get_or faults i d ≡ Some f
       → longer ≡ out ++ Verdict (FaultOf f) ∷ [] → longer ++ woven (drop (i + 1) faults) rest ≡ target
   woven_fault f longer is e =
-      ap (λ (t : List Ruling). t ++ woven (drop (i + 1) faults) rest) e
+      ap (λ (t : List Judgement). t ++ woven (drop (i + 1) faults) rest) e
       ∙ (append_assoc out (Verdict (FaultOf f) ∷ []) (woven (drop (i + 1) faults) rest)
       ∙ (sym (ap (λ (o : Option CertificateFault). out ++ woven (o ∷ drop (i + 1) faults) rest) is) ∙ here))
 
-  pub woven_ruling : (v : Ruling) (others longer : List Ruling) → get_or faults i d ≡ None → rest ≡ v ∷ others
+  pub woven_ruling : (v : Judgement) (others longer : List Judgement) → get_or faults i d ≡ None → rest ≡ v ∷ others
       → longer ≡ out ++ v ∷ [] → longer ++ woven (drop (i + 1) faults) others ≡ target
   woven_ruling v others longer is front e =
-      ap (λ (t : List Ruling). t ++ woven (drop (i + 1) faults) others) e
+      ap (λ (t : List Judgement). t ++ woven (drop (i + 1) faults) others) e
       ∙ (append_assoc out (v ∷ []) (woven (drop (i + 1) faults) others)
-      ∙ (sym (ap (λ (r : List Ruling). out ++ woven (None ∷ drop (i + 1) faults) r) front)
+      ∙ (sym (ap (λ (r : List Judgement). out ++ woven (None ∷ drop (i + 1) faults) r) front)
       ∙ (sym (ap (λ (o : Option CertificateFault). out ++ woven (o ∷ drop (i + 1) faults) rest) is)
       ∙ here)))
 
   pub woven_short : get_or faults i d ≡ None → rest ≡ [] → out ≡ target
   woven_short is none =
-      sym (append-nil out) ∙ (sym (ap (λ (r : List Ruling). out ++ woven (None ∷ drop (i + 1) faults) r) none)
+      sym (append-nil out) ∙ (sym (ap (λ (r : List Judgement). out ++ woven (None ∷ drop (i + 1) faults) r) none)
       ∙ (sym (ap (λ (o : Option CertificateFault). out ++ woven (o ∷ drop (i + 1) faults) rest) is) ∙ here))
 
-pub woven_whole : (faults : List (Option CertificateFault)) (i : ℕ) (out rest target : List Ruling) → length faults ≤ i
+pub woven_whole : (faults : List (Option CertificateFault)) (i : ℕ) (out rest target : List Judgement) → length faults ≤ i
     → out ++ woven (drop i faults) rest ≡ target → out ≡ target
 woven_whole faults i out rest target le h = sym (append-nil out)
     ∙ (sym (ap (λ (fs : List (Option CertificateFault)). out ++ woven fs rest) (drop_of_length-le faults le)) ∙ h)
 
 -- ---- rulings on certificates
 
-pub all_refused : (a b : Journal) (skew transit : ℕ) (r : Ruling) → IsRuledOut a b skew r → (cs : List Certificate)
+pub all_refused : (a b : Journal) (skew transit : ℕ) (r : Judgement) → IsRuledOut a b skew r → (cs : List Certificate)
     → AreRuledOn a b skew transit cs (replicate (length cs) r)
 all_refused a b skew transit r out [] = tt
 all_refused a b skew transit r out (c ∷ cs) = (inl out, all_refused a b skew transit r out cs)
@@ -182,7 +182,7 @@ all_of_fault_b a fault skew transit [] = tt
 all_of_fault_b a fault skew transit (text ∷ texts) = (refl, all_of_fault_b a fault skew transit texts)
 
 pub all_woven : (a b : Journal) (skew transit : ℕ) (texts : List (List ℕ)) (faults : List (Option CertificateFault))
-    (cs : List Certificate) (vs : List Ruling)
+    (cs : List Certificate) (vs : List Judgement)
     → AreGathered texts faults cs → AreRuledOn a b skew transit cs vs
     → AreRuled (Ok a) (Ok b) skew transit texts (woven faults vs)
 all_woven a b skew transit [] [] [] [] g h = tt

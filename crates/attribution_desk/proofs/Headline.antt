@@ -19,13 +19,13 @@ use Rattle.auditor.specs.Texts.{IsVerdictOfParsed, TextsAreTrueInEveryRun, Accep
 use Rattle.auditor.specs.Texts.{ParsedIsTrueInEveryRun}
 use Rattle.auditor.proofs.TextVerdicts.{accepted_parsed}
 use Rattle.certificate.specs.Laws.{CertificatesAreSpelled}
-use Rattle.pair_ruling.specs.declared.ruling.Ruling.{Ruling}
-use Rattle.pair_ruling.specs.declared.ruling.Ruling.TheVariants.{Verdict, Clocks, Pair, Skew}
-use Rattle.pair_ruling.specs.Ruling.{verdict_status, status_of}
+use Rattle.pair_judgement.specs.declared.judging.Judgement.{Judgement}
+use Rattle.pair_judgement.specs.declared.judging.Judgement.TheVariants.{Verdict, Clocks, Pair, Skew}
+use Rattle.pair_judgement.specs.Judgements.{verdict_status, status_of}
 use Rattle.attribution_desk.specs.declared.error.DeskError.{DeskError}
-use Rattle.attribution_desk.specs.declared.outcome.Outcome.{Outcome}
-use Rattle.attribution_desk.specs.Rulings.{IsRulingOfParsed}
-use Rattle.attribution_desk.specs.declared.answer.Answer.{Answer}
+use Rattle.attribution_desk.specs.declared.outcome.DeskOutcome.{DeskOutcome}
+use Rattle.attribution_desk.specs.Judgements.{IsJudgementOfParsed}
+use Rattle.attribution_desk.specs.declared.answer.DeskAnswer.{DeskAnswer}
 use Rattle.attribution_desk.specs.Answer.{IsAnswerOf, IsDeskAnswer}
 use Rattle.attribution_desk.specs.Input.{first_text, text_behind}
 use Rattle.attribution_desk.specs.Batch.{AreRuled, status_of_all, IsBatch}
@@ -70,7 +70,7 @@ all_by (PieceRelease n r) rest e = absurd (omega (arith, e))
 all_by (Uncovered r) rest e = absurd (omega (arith, e))
 all_by (Reason r) rest e = absurd (omega (arith, e))
 
-first_and_rest : (r : Ruling) (rest : ℕ) → (if status_of r == 0 then rest else 1) ≡ 0 → (status_of r ≡ 0) × (rest ≡ 0)
+first_and_rest : (r : Judgement) (rest : ℕ) → (if status_of r == 0 then rest else 1) ≡ 0 → (status_of r ≡ 0) × (rest ≡ 0)
 first_and_rest (Verdict v) rest e = all_by v rest e
 first_and_rest (Clocks take) rest e = absurd (omega (arith, e))
 first_and_rest Pair rest e = absurd (omega (arith, e))
@@ -78,7 +78,7 @@ first_and_rest Skew rest e = absurd (omega (arith, e))
 
 -- what is ruled as accepted has that verdict
 ruled_parsed : (a b : Result Lines JournalFault) (skew transit : ℕ) (claim : Result Claim CertificateFault)
-    → IsRulingOfParsed a b skew transit claim (Verdict Accepted) → IsVerdictOfParsed a b skew transit claim Accepted
+    → IsJudgementOfParsed a b skew transit claim (Verdict Accepted) → IsVerdictOfParsed a b skew transit claim Accepted
 ruled_parsed (Ok a) (Ok b) skew transit (Ok claim) (inl out) = inl out
 ruled_parsed (Ok a) (Ok b) skew transit (Ok claim) (inr (fit, judged)) = inr (fit.0, judged)
 ruled_parsed (Ok a) (Ok b) skew transit (Err fault) h = absurd (cc)
@@ -86,11 +86,11 @@ ruled_parsed (Ok a) (Err fault) skew transit claim h = absurd (cc)
 ruled_parsed (Err fault) b skew transit claim h = absurd (cc)
 
 accepted_ruling : (a b : Result Lines JournalFault) (skew transit : ℕ) (claim : Result Claim CertificateFault)
-    (r : Ruling)
-    → IsRulingOfParsed a b skew transit claim r → status_of r ≡ 0 → IsVerdictOfParsed a b skew transit claim Accepted
+    (r : Judgement)
+    → IsJudgementOfParsed a b skew transit claim r → status_of r ≡ 0 → IsVerdictOfParsed a b skew transit claim Accepted
 accepted_ruling a b skew transit claim (Verdict v) h none =
     ruled_parsed a b skew transit claim (subst (λ (x : VerdictValue).
-    IsRulingOfParsed a b skew transit claim (Verdict x)) (accepts v none) h)
+    IsJudgementOfParsed a b skew transit claim (Verdict x)) (accepts v none) h)
 accepted_ruling a b skew transit claim (Clocks take) h none = absurd (omega (arith, none))
 accepted_ruling a b skew transit claim Pair h none = absurd (omega (arith, none))
 accepted_ruling a b skew transit claim Skew h none = absurd (omega (arith, none))
@@ -104,7 +104,7 @@ answered_true law a b text line skew transit status h none =
     (accepted_ruling a b skew transit (certificate_of text) h.0 h.1 (sym h.3 ∙ none))
 
 pub true_of_answer : CertificatesAreSpelled → (a b : Result Lines JournalFault) (text : List ℕ) (skew transit : ℕ)
-    (r : Result Answer DeskError)
+    (r : Result DeskAnswer DeskError)
     → IfOk r (λ answer. IsAnswerOf a b text skew transit answer.line.items answer.status)
     → IfOk r (λ answer. answer.status ≡ 0 → ParsedIsTrueInEveryRun a b text skew transit)
 true_of_answer law a b text skew transit (Ok answer) h =
@@ -112,8 +112,8 @@ true_of_answer law a b text skew transit (Ok answer) h =
 true_of_answer law a b text skew transit (Err e) h = tt
 
 module _ (law : AcceptedTextsAreTrue) where
-  ruled_true : (a b text : List ℕ) (skew transit : ℕ) (r : Ruling)
-      → IsRulingOfParsed (journal_of_side Primary a) (journal_of_side Secondary b) skew transit (certificate_of text) r
+  ruled_true : (a b text : List ℕ) (skew transit : ℕ) (r : Judgement)
+      → IsJudgementOfParsed (journal_of_side Primary a) (journal_of_side Secondary b) skew transit (certificate_of text) r
       → status_of r ≡ 0
       → TextsAreTrueInEveryRun a b text skew transit
   ruled_true a b text skew transit r h none =
@@ -128,7 +128,7 @@ module _ (law : AcceptedTextsAreTrue) where
       (text_behind (text_behind input)) skew transit h.0 h.1 (sym h.3 ∙ none)
 
   -- each of many
-  all_true : (a b : List ℕ) (skew transit : ℕ) (texts : List (List ℕ)) (rs : List Ruling)
+  all_true : (a b : List ℕ) (skew transit : ℕ) (texts : List (List ℕ)) (rs : List Judgement)
       → AreRuled (journal_of_side Primary a) (journal_of_side Secondary b) skew transit texts rs → status_of_all rs ≡ 0
       → All (λ text. TextsAreTrueInEveryRun a b text skew transit) texts
   all_true a b skew transit [] [] h none = All-nil (λ text. TextsAreTrueInEveryRun a b text skew transit)
@@ -153,7 +153,7 @@ module _ (law : AcceptedTextsAreTrue) where
 
 pub true_of_written : (answers : List ℕ → List ℕ → ℕ → Type 0) (says : List ℕ → Type 0)
     → ((input text : List ℕ) (status : ℕ) → answers input text status → status ≡ 0 → says input)
-    → (given held now : Option (List ℕ)) (r : Result Outcome DeskError)
+    → (given held now : Option (List ℕ)) (r : Result DeskOutcome DeskError)
     → IfOk r (λ outcome. IsWritten answers given held now outcome.status)
     → IfOk r (λ outcome. outcome.status ≡ 0 → IfSome given says)
 true_of_written answers says by None held now (Ok outcome) h = λ none. tt

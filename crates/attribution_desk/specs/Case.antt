@@ -2,9 +2,9 @@
 use Rattle.std.specs.Prelude.{◌≡◌, ℕ}
 use Rattle.journal_lines.specs.declared.line.Journal.{Journal}
 use Rattle.causal_order.specs.Journals.{journals_of}
-use Rattle.pair_ruling.specs.Ruled.{IsRuledOut, IsFit}
-use Rattle.attribution_desk.specs.declared.case.Case.{Case as CaseValue}
-use Rattle.attribution_desk.specs.declared.case.Case.TheVariants.{Open, Refused}
+use Rattle.pair_judgement.specs.PairJudgements.{IsRuledOut, IsFit}
+use Rattle.attribution_desk.specs.declared.indexed_pair.IndexedPair.{IndexedPair as CaseValue}
+use Rattle.attribution_desk.specs.declared.indexed_pair.IndexedPair.TheVariants.{Open, Refused}
 
 -- what stands against the two journals, or else an index of them
 abbrev pub IsCaseOf : Journal → Journal → (skew : ℕ) → CaseValue → Type 0

@@ -7,12 +7,12 @@ use Rattle.certificate.specs.declared.error.CertificateError.{CertificateError}
 use Rattle.certificate.specs.declared.error.CertificateError.TheVariants.{Fault, Memory}
 use Rattle.certificate.specs.Faults.{certificate_of}
 use Rattle.attribution.specs.declared.verdict.Verdict.TheVariants.{Certificate as FaultOf}
-use Rattle.pair_ruling.specs.declared.ruling.Ruling.{Ruling}
-use Rattle.pair_ruling.specs.declared.ruling.Ruling.TheVariants.{Verdict}
-use Rattle.attribution_desk.specs.Rulings.{IsRulingOfJournals}
-use Rattle.attribution_desk.specs.declared.certificates.Claim.{Claim}
+use Rattle.pair_judgement.specs.declared.judging.Judgement.{Judgement}
+use Rattle.pair_judgement.specs.declared.judging.Judgement.TheVariants.{Verdict}
+use Rattle.attribution_desk.specs.Judgements.{IsJudgementOfJournals}
+use Rattle.attribution_desk.specs.declared.certificates.CertificateText.{CertificateText}
 
-abbrev pub texts_of : List Claim → List (List ℕ)
+abbrev pub texts_of : List CertificateText → List (List ℕ)
 texts_of claims = map (λ c. c.text.now) claims
 
 -- what a text was read to, where memory was at hand
@@ -22,7 +22,7 @@ IsReadTo text (Some (Ok certificate)) = certificate_of text ≡ Ok certificate
 IsReadTo text (Some (Err (Fault fault))) = certificate_of text ≡ Err fault
 IsReadTo text (Some (Err Memory)) = ⊤
 
-abbrev pub AreRead : List Claim → Type 0
+abbrev pub AreRead : List CertificateText → Type 0
 AreRead claims = All (λ c. IsReadTo c.text.now c.parsed) claims
 
 -- each text is a certificate, the next of these, or has this fault
@@ -33,15 +33,15 @@ AreGathered (text ∷ texts) (Some fault ∷ faults) cs = (certificate_of text �
 AreGathered _ _ _ = ⊥
 
 -- on each certificate its ruling, in order
-abbrev pub AreRuledOn : Journal → Journal → (skew transit : ℕ) → List Certificate → List Ruling → Type 0
+abbrev pub AreRuledOn : Journal → Journal → (skew transit : ℕ) → List Certificate → List Judgement → Type 0
 AreRuledOn a b skew transit [] [] = ⊤
 AreRuledOn a b skew transit (c ∷ cs) (r ∷ rs) =
-    IsRulingOfJournals a b skew transit c r × AreRuledOn a b skew transit cs rs
+    IsJudgementOfJournals a b skew transit c r × AreRuledOn a b skew transit cs rs
 AreRuledOn a b skew transit [] (r ∷ rs) = ⊥
 AreRuledOn a b skew transit (c ∷ cs) [] = ⊥
 
 -- the ruling on each text: its fault, or else the next of these
-abbrev pub woven : List (Option CertificateFault) → List Ruling → List Ruling
+abbrev pub woven : List (Option CertificateFault) → List Judgement → List Judgement
 woven [] rs = []
 woven (Some fault ∷ faults) rs = Verdict (FaultOf fault) ∷ woven faults rs
 woven (None ∷ faults) (r ∷ rs) = r ∷ woven faults rs

@@ -8,7 +8,7 @@ use Rattle.causal_order.specs.Journals.{journals_of}
 use Rattle.attribution.specs.declared.verdict.Verdict.{Verdict}
 use Rattle.attribution.specs.declared.verdict.Verdict.TheVariants.{Journal as JournalVerdict}
 use Rattle.auditor.specs.Pair.{IsPairRefused, IsPairLegal}
-use Rattle.pair_ruling.specs.Clocked.{IsLeastText}
+use Rattle.pair_judgement.specs.Clocked.{IsLeastText}
 use Rattle.attribution_desk.specs.Input.{first_text, text_behind}
 use Rattle.attribution_desk.specs.Timeline.{IsRefusal}
 

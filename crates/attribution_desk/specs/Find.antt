@@ -6,14 +6,14 @@ use Rattle.certificate.specs.Spelling.{certificate_text}
 use Rattle.certificate.specs.Faults.{certificate_of}
 use Rattle.attribution.specs.declared.verdict.Verdict.TheVariants.{Accepted}
 use Rattle.attribution.specs.FirstRefusal.{IsVerdict}
-use Rattle.pair_ruling.specs.declared.ruling.Ruling.{Ruling}
-use Rattle.pair_ruling.specs.Ruling.{ruling_line, status_of}
+use Rattle.pair_judgement.specs.declared.judging.Judgement.{Judgement}
+use Rattle.pair_judgement.specs.Judgements.{judgement_line, status_of}
 use Rattle.plain_search.specs.declared.query.Query.{Query}
-use Rattle.evidence_search.specs.Claim.{Claims, IsShown, HasNoPlainEvidence, IsTooLong}
+use Rattle.evidence_search.specs.Claim.{Claims, IsAuditorAccepted, HasNoPlainEvidence, IsTooLong}
 
 -- the line and the status of a ruling on the journals
-pub record IsRulingText (r : Ruling) (text : List ℕ) (status : ℕ) : Type 0 where
-  pub line : text ≡ ruling_line r
+pub record IsRulingText (r : Judgement) (text : List ℕ) (status : ℕ) : Type 0 where
+  pub line : text ≡ judgement_line r
   pub gives : status ≡ status_of r
 
 -- the same client, prefix and interval
@@ -39,7 +39,7 @@ over_limits = codes "warning Length: the evidence that was found has more lines 
 pub record IsFound (js : Journals) (q : Query) (text : List ℕ) (status : ℕ) (note : List ℕ) : Type 0 where
   pub certificate : Certificate
   pub claims : Claims q certificate
-  pub shown : IsShown js q certificate
+  pub shown : IsAuditorAccepted js q certificate
   pub spelled : text ≡ certificate_text certificate
   pub read : certificate_of text ≡ Ok certificate
   pub found : status ≡ 0
@@ -56,7 +56,7 @@ pub record IsNoneFound (js : Journals) (q : Query) (text : List ℕ) (status : �
 pub record IsNotGiven (js : Journals) (q : Query) (text : List ℕ) (status : ℕ) (note : List ℕ) : Type 0 where
   pub certificate : Certificate
   pub claims : Claims q certificate
-  pub shown : IsShown js q certificate
+  pub shown : IsAuditorAccepted js q certificate
   pub over : IsOverLimits js q.skew q.transit certificate
   pub word : text ≡ codes "none\n"
   pub missed : status ≡ 1

@@ -1,8 +1,8 @@
 -- What is true where the desk's status is 0: the theorem, at the door.
 use Rattle.std.specs.Prelude.{⊤, ℕ, List, All}
 use Rattle.auditor.specs.Texts.{TextsAreTrueInEveryRun}
-use Rattle.desk_words.specs.declared.command.Command.{Command}
-use Rattle.desk_words.specs.declared.command.Command.TheVariants.{Audit, Batch, Timeline, Clocks, Find, Who}
+use Rattle.desk_args.specs.declared.command.Command.{Command}
+use Rattle.desk_args.specs.declared.command.Command.TheVariants.{Audit, Batch, Timeline, Clocks, Find, Who}
 use Rattle.attribution_desk.specs.Input.{first_text, text_behind}
 use Rattle.attribution_desk.specs.Batch.{AreTexts}
 

@@ -1,6 +1,6 @@
 pub mod Input
 pub mod Intake
-pub mod Rulings
+pub mod Judgements
 pub mod Answer
 pub mod Case
 pub mod Batch

@@ -1,8 +1,8 @@
 -- What carrying out a command comes to.
 use Rattle.std.specs.Prelude.{ℕ, List, Option, IfSome}
 use Rattle.std.specs.Io.KnownBytes.{Appends}
-use Rattle.desk_words.specs.declared.command.Command.{Command}
-use Rattle.desk_words.specs.declared.command.Command.TheVariants.{Audit, Batch, Timeline, Clocks, Find, Who}
+use Rattle.desk_args.specs.declared.command.Command.{Command}
+use Rattle.desk_args.specs.declared.command.Command.TheVariants.{Audit, Batch, Timeline, Clocks, Find, Who}
 use Rattle.attribution_desk.specs.Answer.{IsDeskAnswer}
 use Rattle.attribution_desk.specs.Batch.{IsBatch}
 use Rattle.attribution_desk.specs.Timeline.{IsTimeline}
@@ -11,13 +11,13 @@ use Rattle.attribution_desk.specs.declared.searching.Search.TheVariants.{Find as
 use Rattle.attribution_desk.specs.Searching.{IsSearchTold}
 
 -- the text and the status with which a command answers this input; a search's warnings belong to its answer
-abbrev pub Answers : Command → List ℕ → List ℕ → List ℕ → ℕ → Type 0
-Answers (Audit skew transit) input warnings text status = IsDeskAnswer input skew transit text status
-Answers (Batch skew transit workers) input warnings text status = IsBatch input skew transit text status
-Answers Timeline input warnings text status = IsTimeline input text status
-Answers Clocks input warnings text status = IsClocks input text status
-Answers (Find query) input warnings text status = IsSearchTold input (FindEvidence query) warnings text status
-Answers (Who query settings) input warnings text status =
+abbrev pub IsCommandOutput : Command → List ℕ → List ℕ → List ℕ → ℕ → Type 0
+IsCommandOutput (Audit skew transit) input warnings text status = IsDeskAnswer input skew transit text status
+IsCommandOutput (Batch skew transit workers) input warnings text status = IsBatch input skew transit text status
+IsCommandOutput Timeline input warnings text status = IsTimeline input text status
+IsCommandOutput Clocks input warnings text status = IsClocks input text status
+IsCommandOutput (Find query) input warnings text status = IsSearchTold input (FindEvidence query) warnings text status
+IsCommandOutput (Who query settings) input warnings text status =
     IsSearchTold input (FindHolder query settings) warnings text status
 
 -- where it is known what the reader had to give, the answer to all of that was written, behind what the writer held

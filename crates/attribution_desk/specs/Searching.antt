@@ -6,11 +6,11 @@ use Rattle.journal_lines.specs.declared.fault.JournalFault.{JournalFault}
 use Rattle.journal_text.specs.Faults.{journal_of_side}
 use Rattle.causal_order.specs.Journals.{Journals, journals_of}
 use Rattle.attribution.specs.declared.verdict.Verdict.TheVariants.{Journal as JournalVerdict}
-use Rattle.pair_ruling.specs.declared.ruling.Ruling.{Ruling}
-use Rattle.pair_ruling.specs.declared.ruling.Ruling.TheVariants.{Verdict}
-use Rattle.pair_ruling.specs.Ruled.{IsRuledOut, IsFit}
-use Rattle.pair_ruling.specs.Ties.{AreTied, IsDoubted}
-use Rattle.desk_words.specs.declared.settings.Settings.TheVariants.{MustAgree, MayDiffer}
+use Rattle.pair_judgement.specs.declared.judging.Judgement.{Judgement}
+use Rattle.pair_judgement.specs.declared.judging.Judgement.TheVariants.{Verdict}
+use Rattle.pair_judgement.specs.PairJudgements.{IsRuledOut, IsFit}
+use Rattle.pair_judgement.specs.Ties.{AreTied, IsDoubted}
+use Rattle.desk_args.specs.declared.settings.SettingsCheck.TheVariants.{MustAgree, MayDiffer}
 use Rattle.attribution_desk.specs.declared.searching.Search.{Search}
 use Rattle.attribution_desk.specs.declared.searching.Search.TheVariants.{Find, Who}
 use Rattle.attribution_desk.specs.Input.{first_text, text_behind}
@@ -29,7 +29,7 @@ transit_of (Find q) = q.transit
 transit_of (Who q settings) = q.transit
 
 -- who asks for a name is refused where nothing ties the journals and the question together, unless that may be
-abbrev pub Forbids : Search → Journal → Journal → Ruling → Type 0
+abbrev pub Forbids : Search → Journal → Journal → Judgement → Type 0
 Forbids (Who q MustAgree) a b r = IsDoubted a b q.skew q.transit r
 Forbids (Who q MayDiffer) a b r = ⊥
 Forbids (Find q) a b r = ⊥
@@ -45,15 +45,15 @@ Answered (Find q) js text status note = IsFinding js q text status note
 Answered (Who q settings) js text status note = IsHolding js q text status note
 
 -- a ruling is said, and nothing beside it
-abbrev pub IsSaid : Ruling → List ℕ → ℕ → List ℕ → Type 0
+abbrev pub IsSaid : Judgement → List ℕ → ℕ → List ℕ → Type 0
 IsSaid r text status note = IsRulingText r text status × (note ≡ [])
 
 -- what stands against the two journals, or else against asking this of them, or else what is found
 abbrev pub IsSearchOn : Journal → Journal → Search → List ℕ → ℕ → List ℕ → Type 0
 IsSearchOn a b q text status note =
-    ((r : Ruling) × IsRuledOut a b (skew_of q) r × IsSaid r text status note)
+    ((r : Judgement) × IsRuledOut a b (skew_of q) r × IsSaid r text status note)
     ⊎ (IsFit a b (skew_of q)
-    × (((r : Ruling) × Forbids q a b r × IsSaid r text status note)
+    × (((r : Judgement) × Forbids q a b r × IsSaid r text status note)
     ⊎ (Allows q a b × Answered q (journals_of a b) text status note)))
 
 -- a fault of A's text before one of B's

@@ -9,12 +9,12 @@ ghost use Rattle.attribution_desk.specs.Running.{IsWritten};
 ghost use Rattle.attribution_desk.specs.Headline.{IsTrueOfTexts};
 ghost use Rattle.attribution_desk.specs.Warnings.{IsJudgingWarning};
 
-use crate::answer::Answer;
+use crate::answer::DeskAnswer;
+use crate::chunk_sink::{ChunkSink, halvings_for, take_all};
 use crate::error::DeskError;
 use crate::intake::{Intake, ReadInput};
-use crate::judging::ruling_on_parsed;
-use crate::outcome::{Outcome, warnings_on};
-use crate::taking::{Taking, halvings_for, take_all};
+use crate::judging::judge_parsed;
+use crate::outcome::{DeskOutcome, warnings_on};
 use crate::watched::Watched;
 use auditor::accepted_texts_are_true;
 use certificate::certificates_are_spelled;
@@ -30,7 +30,7 @@ fn answer_to<T: Threads + Sync>(
     input: ReadInput,
     skew: Skew,
     transit: Transit,
-) -> Result<Answer, DeskError>
+) -> Result<DeskAnswer, DeskError>
     requires primary_closed { ForOk input.primary (λ journal. IsClosed journal.lines) }
     requires secondary_closed { ForOk input.secondary (λ journal. IsClosed journal.lines) }
     ensures answer { IfOk result (λ answer. IsAnswerOf input.primary input.secondary input.rest.items skew transit
@@ -41,7 +41,7 @@ fn answer_to<T: Threads + Sync>(
     ensures refused { IfErr result (λ e. e ≡ DeskError.Memory) }
 {
     certificates_are_spelled();
-    let ruling = ruling_on_parsed(
+    let ruling = judge_parsed(
         rt,
         alloc,
         input.primary,
@@ -50,7 +50,7 @@ fn answer_to<T: Threads + Sync>(
         skew,
         transit,
     )?;
-    Answer::new(alloc, &ruling)
+    DeskAnswer::new(alloc, &ruling)
 }
 
 /// The ruling on the input's three texts, journal A, journal B and the certificate, as a line and a status;
@@ -61,7 +61,7 @@ pub fn judge<T: Threads + Sync>(
     input: &[u8],
     skew: Skew,
     transit: Transit,
-) -> Result<Answer, DeskError>
+) -> Result<DeskAnswer, DeskError>
     ensures answer { IfOk result (λ answer. IsDeskAnswer input.now skew transit answer.line.items answer.status) }
     // What is accepted is true in every run of the pair that leaves these journals, with each clock within the skew of
     // true time and each answer within the transit.
@@ -69,7 +69,7 @@ pub fn judge<T: Threads + Sync>(
     ensures refused { IfErr result (λ e. e ≡ DeskError.Memory) }
 {
     accepted_texts_are_true();
-    let intake = Intake::new(alloc).take(rt, halvings_for(rt), input)?;
+    let intake = Intake::new(alloc).take_chunk(rt, halvings_for(rt), input)?;
     answer_to(rt, alloc, intake.finish(), skew, transit)
 }
 
@@ -81,7 +81,7 @@ pub(crate) fn audit_input<T: Threads + Sync, R: Read, W: Write>(
     transit: Transit,
     reader: &mut Watched<R>,
     writer: &mut Watched<W>,
-) -> Result<Outcome, DeskError>
+) -> Result<DeskOutcome, DeskError>
     ensures written { IfOk result (λ outcome. IsWritten (λ input. IsDeskAnswer input skew transit)
         (R.remaining reader.old.device) (W.contents writer.old.device) (W.contents writer.new.device) outcome.status) }
     ensures warned { IfOk result (λ outcome. IfSome (R.remaining reader.old.device)
@@ -95,7 +95,7 @@ pub(crate) fn audit_input<T: Threads + Sync, R: Read, W: Write>(
     let warnings = warnings_on(alloc, &input.primary, &input.secondary, skew, transit)?;
     let answer = answer_to(rt, alloc, input, skew, transit)?;
     writer.write_out(&answer.line)?;
-    Ok(Outcome {
+    Ok(DeskOutcome {
         status: answer.status,
         warnings,
     })

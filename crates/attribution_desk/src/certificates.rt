@@ -14,14 +14,14 @@ use std::thread::Threads;
 
 /// A certificate's text, and what it was read to, once it was.
 #[derive(Drop)]
-pub struct Claim<'a> {
+pub struct CertificateText<'a> {
     pub text: &'a [u8],
     pub parsed: Option<Result<Certificate, CertificateError>>,
 }
 
 /// The certificates that texts were read to, in order, and for each text its fault, if it has one.
 #[derive(Drop)]
-pub(crate) struct Gathered {
+pub(crate) struct ReadCertificates {
     pub(crate) faults: Vec<Option<CertificateFault>>,
     pub(crate) certificates: Vec<Certificate>,
 }
@@ -39,14 +39,14 @@ fn first_length(alloc: Global, rest: &[u8]) -> Result<usize, AllocError>
 
 /// The texts of certificates that stand one after another, none of which is read yet. `AllocError` where a growth was
 /// refused.
-pub fn texts_in<'a>(alloc: Global, rest: &'a [u8]) -> Result<Vec<Claim<'a>>, AllocError>
+pub fn texts_in<'a>(alloc: Global, rest: &'a [u8]) -> Result<Vec<CertificateText<'a>>, AllocError>
     ensures { IfOk result (λ claims. AreTexts rest.now (texts_of claims.items)) }
 {
     let mut claims = Vec::new(alloc);
     let mut rest = rest;
     while !rest.is_empty() {
         let (text, behind) = rest.split_at(first_length(alloc, rest)?);
-        claims.push(Claim { text, parsed: None })?;
+        claims.push(CertificateText { text, parsed: None })?;
         rest = behind;
     }
     Ok(claims)
@@ -56,14 +56,14 @@ pub fn texts_in<'a>(alloc: Global, rest: &'a [u8]) -> Result<Vec<Claim<'a>>, All
 pub(crate) fn read_all<T: Threads + Sync>(
     rt: &T,
     alloc: Global,
-    claims: &mut [Claim],
+    claims: &mut [CertificateText],
     workers: usize,
 )
     requires { 0 < workers }
     ensures texts { texts_of claims.new ≡ texts_of claims.old }
     ensures read { AreRead claims.new }
 {
-    let read = |_place: usize, claim: &mut Claim|
+    let read = |_place: usize, claim: &mut CertificateText|
         ensures { (claim.exit.now.text ≡ claim.entry.now.text)
             × IsReadTo claim.exit.now.text.now claim.exit.now.parsed }
     { claim.parsed = Some(certificate::read(alloc, claim.text)) };
@@ -71,7 +71,10 @@ pub(crate) fn read_all<T: Threads + Sync>(
 }
 
 /// The certificates and the faults of texts that were read; an error where memory was refused.
-pub(crate) fn gather(alloc: Global, claims: Vec<Claim>) -> Result<Gathered, AllocError>
+pub(crate) fn gather(
+    alloc: Global,
+    claims: Vec<CertificateText>,
+) -> Result<ReadCertificates, AllocError>
     requires { AreRead claims.items }
     ensures { IfOk result (λ g. AreGathered (texts_of claims.entry.items) g.faults.items g.certificates.items) }
 {
@@ -87,7 +90,7 @@ pub(crate) fn gather(alloc: Global, claims: Vec<Claim>) -> Result<Gathered, Allo
             _ => return Err(AllocError),
         }
     }
-    Ok(Gathered {
+    Ok(ReadCertificates {
         faults,
         certificates,
     })

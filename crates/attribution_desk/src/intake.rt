@@ -8,9 +8,9 @@ ghost use Rattle.journal_text.specs.Faults.{journal_of_side};
 ghost use Rattle.attribution_desk.specs.Input.{first_text, text_behind};
 ghost use Rattle.attribution_desk.specs.Intake.{IntakeHasTaken};
 
+use crate::chunk_sink::ChunkSink;
 use crate::error::DeskError;
 use crate::journal_intake::JournalIntake;
-use crate::taking::Taking;
 use binding_rules::Role;
 use journal_text::{Journal, JournalFault, text_gives_what_it_spells, written_is_closed};
 use std::alloc::Global;
@@ -47,7 +47,7 @@ impl Intake {
 
     /// The journals of the input that was taken, and what follows them.
     pub fn finish(self) -> ReadInput
-        // What was made by `new` and `take` has taken some input.
+        // What was made by `new` and `take_chunk` has taken some input.
         requires { (input : List ℕ) × IntakeHasTaken self input }
         ensures primary { (input : List ℕ) → IntakeHasTaken self input
             → result.primary ≡ journal_of_side A (first_text input) }
@@ -68,11 +68,11 @@ impl Intake {
     }
 }
 
-impl Taking for Intake {
+impl ChunkSink for Intake {
     ghost has_taken = { IntakeHasTaken };
 
     // A journal's fault is kept, and what follows is still taken.
-    fn take<H: Threads + Sync>(
+    fn take_chunk<H: Threads + Sync>(
         self,
         rt: &H,
         halvings: u32,

@@ -1,9 +1,9 @@
 //! The desk: a command line and standard input to one verdict line.
 //!
-//! `order_of` gives the [`Order`] of the words (`desk_words`), `run` carries out a command between a reader and a
+//! `invocation_of` gives the [`Invocation`] of the words (`desk_args`), `run` carries out a command between a reader and a
 //! writer, and `judge` answers an input that is at hand. The input is journal A, journal B and the certificate, one
-//! after the other (`attribution_desk`). `search_pair`, `timeline_of`, `ruling_on_journals` and `rulings_on_claims` answer
-//! over two journals that were read already, as one [`Case`]. specs/Answer says what is answered, specs/Rulings what is
+//! after the other (`attribution_desk`). `search_pair`, `timeline_of`, `judge_journals` and `judge_certificates` answer
+//! over two journals that were read already, as one [`IndexedPair`]. specs/Answer says what is answered, specs/Judgements what is
 //! ruled on texts, specs/Find, Who and Clocks what searches answer.
 //!
 //! ```text
@@ -12,7 +12,7 @@
 //!
 //! What the desk reads: journal A, journal B and what follows, one after the other, in chunks that may end anywhere.
 //!
-//! The input is never held whole. `take_all` hands all that a [`Watched`] reader gives to what takes it ([`Taking`]):
+//! The input is never held whole. `take_all` hands all that a [`Watched`] reader gives to what takes it ([`ChunkSink`]):
 //! an [`Intake`], which gives two journals and the octets behind them, or a [`PairIntake`], where journal B's text is
 //! all that follows A's. A reader that is well is never blamed ([`DeskError`]). specs/Input says where a text ends.
 //!
@@ -25,12 +25,13 @@
 mod answer;
 mod audit;
 mod batch;
-mod case;
 mod certificates;
+mod chunk_sink;
 mod clocks;
 mod end_line;
 mod error;
 mod holding;
+mod indexed_pair;
 mod intake;
 mod journal_intake;
 mod judging;
@@ -40,25 +41,24 @@ mod pair_intake;
 mod reading_again;
 mod running;
 mod searching;
-mod taking;
 mod timelines;
 mod watched;
 
-pub use answer::Answer;
+pub use answer::DeskAnswer;
 pub use audit::judge;
-pub use batch::rulings_on_claims;
-pub use case::Case;
-pub use certificates::{Claim, texts_in};
-pub use desk_words::{Command, Order, Request, Source, UsageError, order_of};
+pub use batch::judge_certificates;
+pub use certificates::{CertificateText, texts_in};
+pub use chunk_sink::{ChunkSink, halvings_for, take_all};
+pub use desk_args::{Command, DeskRequest, InputSource, Invocation, UsageError, invocation_of};
 pub use end_line::end_in;
 pub use error::DeskError;
+pub use indexed_pair::IndexedPair;
 pub use intake::{Intake, ReadInput};
-pub use judging::ruling_on_journals;
+pub use judging::judge_journals;
 pub use laws::accepted_rulings_are_true;
-pub use outcome::Outcome;
+pub use outcome::DeskOutcome;
 pub use pair_intake::{PairIntake, ReadPair};
 pub use running::run;
-pub use searching::{Search, Searched, search_pair};
-pub use taking::{Taking, halvings_for, take_all};
+pub use searching::{Search, SearchAnswer, search_pair};
 pub use timelines::{timeline, timeline_of};
 pub use watched::Watched;

@@ -6,25 +6,25 @@ ghost use Rattle.attribution_desk.specs.Warnings.{IsWarningOf};
 use crate::error::DeskError;
 use journal_lines::{Journal, JournalFault};
 use lead_time::{Skew, Transit};
-use pair_ruling::warnings;
+use pair_judgement::warnings;
 use std::alloc::Global;
 
 /// The status and the warnings that go with the answer that was written.
 #[derive(Debug, Drop)]
-pub struct Outcome {
+pub struct DeskOutcome {
     /// 0 where everything was accepted or found, else 1.
     pub status: u8,
     /// Lines for standard error: what should tie the two journals and the question together, and doesn't (K2, K3).
     pub warnings: Vec<u8>,
 }
 
-impl Outcome {
+impl DeskOutcome {
     /// This status, and no warning.
-    pub(crate) fn quiet(alloc: Global, status: u8) -> Outcome
+    pub(crate) fn quiet(alloc: Global, status: u8) -> DeskOutcome
         ensures status { result.status ≡ status }
         ensures quiet { result.warnings.items ≡ [] }
     {
-        Outcome {
+        DeskOutcome {
             status,
             warnings: Vec::new(alloc),
         }

@@ -6,9 +6,9 @@ ghost use Rattle.journal_text.specs.Faults.{journal_of_side};
 ghost use Rattle.attribution_desk.specs.Input.{first_text, text_behind};
 ghost use Rattle.attribution_desk.specs.Intake.{HasTakenPair, TakesOn};
 
+use crate::chunk_sink::ChunkSink;
 use crate::error::DeskError;
 use crate::journal_intake::{JournalIntake, read_on};
-use crate::taking::Taking;
 use binding_rules::Role;
 use journal_text::{Journal, JournalFault, Reader};
 use std::alloc::Global;
@@ -53,10 +53,10 @@ impl PairIntake {
     }
 }
 
-impl Taking for PairIntake {
+impl ChunkSink for PairIntake {
     ghost has_taken = { HasTakenPair };
 
-    fn take<H: Threads + Sync>(
+    fn take_chunk<H: Threads + Sync>(
         self,
         rt: &H,
         halvings: u32,

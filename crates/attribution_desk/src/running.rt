@@ -1,7 +1,7 @@
 //! Carrying out commands.
 
 ghost use Rattle.std.specs.Prelude.{◌≡◌, ◌≢◌, ◌⊎◌, true, IfOk, IfSome, IsErrOf, IfErr};
-ghost use Rattle.attribution_desk.specs.Running.{Answers, IsWritten};
+ghost use Rattle.attribution_desk.specs.Running.{IsCommandOutput, IsWritten};
 ghost use Rattle.attribution_desk.specs.Headline.{SaysTrue};
 ghost use Rattle.attribution_desk.specs.Warnings.{Warns};
 
@@ -9,12 +9,12 @@ use crate::audit::audit_input;
 use crate::batch::batch_input;
 use crate::clocks::clocks_input;
 use crate::error::DeskError;
-use crate::outcome::Outcome;
+use crate::outcome::DeskOutcome;
 use crate::searching::{Search, search_input};
 use crate::timelines::timeline_input;
 use crate::watched::Watched;
 use auditor::accepted_texts_are_true;
-use desk_words::Command;
+use desk_args::Command;
 use std::alloc::Global;
 use std::io::{Read, Write};
 use std::sync::Wait;
@@ -29,9 +29,9 @@ pub fn run<T: Threads + Wait + Sync, R: Read, W: Write>(
     command: &Command,
     reader: &mut Watched<R>,
     writer: &mut Watched<W>,
-) -> Result<Outcome, DeskError>
+) -> Result<DeskOutcome, DeskError>
     ensures written { IfOk result (λ outcome.
-        IsWritten (λ input. Answers command.now input outcome.warnings.items) (R.remaining reader.old.device)
+        IsWritten (λ input. IsCommandOutput command.now input outcome.warnings.items) (R.remaining reader.old.device)
         (W.contents writer.old.device) (W.contents writer.new.device) outcome.status) }
     ensures warned { IfOk result (λ outcome. IfSome (R.remaining reader.old.device)
         (λ input. Warns command.now input outcome.warnings.items)) }
@@ -55,11 +55,11 @@ pub fn run<T: Threads + Wait + Sync, R: Read, W: Write>(
         } => batch_input(rt, alloc, *skew, *transit, *workers, reader, writer),
         Command::Timeline => {
             let status = timeline_input(rt, alloc, reader, writer)?;
-            Ok(Outcome::quiet(alloc, status))
+            Ok(DeskOutcome::quiet(alloc, status))
         }
         Command::Clocks => {
             let status = clocks_input(rt, alloc, reader, writer)?;
-            Ok(Outcome::quiet(alloc, status))
+            Ok(DeskOutcome::quiet(alloc, status))
         }
         Command::Find(query) => search_input(rt, alloc, &Search::Find(*query), reader, writer),
         Command::Who(query, settings) => {

@@ -10,8 +10,8 @@ use Rattle.causal_order.specs.declared.reference.Ref.{Ref}
 use Rattle.causal_order.specs.Journals.{Journals}
 use Rattle.attribution.specs.Tests.{overlaps, is_release_of}
 use Rattle.attribution.specs.declared.delegation.Delegation.{Delegation}
-use Rattle.auditor.specs.declared.question.Question.{Question}
-use Rattle.auditor.specs.declared.question.Question.TheVariants.{Overlapping, GivingBack}
+use Rattle.auditor.specs.declared.question.EventQuestion.{EventQuestion}
+use Rattle.auditor.specs.declared.question.EventQuestion.TheVariants.{Overlapping, GivingBack}
 use Rattle.auditor.specs.declared.walk.Walk.{Walk}
 
 -- the event grants or carries a prefix that overlaps this one, or gives one back
@@ -22,7 +22,7 @@ concerns p (Release client iaid q) = overlaps q p
 concerns p _ = false
 
 -- the event answers the question
-abbrev pub answers : Question → Event → Bool
+abbrev pub answers : EventQuestion → Event → Bool
 answers (Overlapping p) e = concerns p e
 answers (GivingBack d) e = is_release_of d e
 

@@ -6,8 +6,8 @@ use Rattle.attribution.specs.declared.delegation.Delegation.{Delegation}
 use Rattle.attribution.specs.Acceptance.{GivesBack}
 
 -- the first of what a walk had yet to give, and what it has yet to give then; or it had given all
-abbrev pub Gives : Option Ref → (before after : List Ref) → Type 0
-Gives given before after = MatchOption given (before ≡ []) (λ r. before ≡ r ∷ after)
+abbrev pub YieldsNext : Option Ref → (before after : List Ref) → Type 0
+YieldsNext given before after = MatchOption given (before ≡ []) (λ r. before ≡ r ∷ after)
 
 -- exactly the lines of both journals that give the delegation back
 pub record AreReleases (js : Journals) (d : Delegation) (refs : List Ref) : Type 0 where

@@ -9,7 +9,7 @@ use attribution::Verdict;
 use binding_rules::Role;
 use book_rules::{ReplayError, Table};
 use journal_lines::Journal;
-use journal_merge::{MergeError, Merged, Noted, merge_noted};
+use journal_merge::{MergeError, Merged, NotedJournal, merge_noted};
 use std::alloc::Global;
 
 /// The finding on two journals, whatever is claimed over them.
@@ -41,8 +41,8 @@ pub fn broken_rule(
 /// refused.
 pub fn ordered(
     alloc: Global,
-    primary: &Noted<'_>,
-    secondary: &Noted<'_>,
+    primary: &NotedJournal<'_>,
+    secondary: &NotedJournal<'_>,
 ) -> Result<Checked, AuditError>
     requires few_primary { length primary.now.lines < 2 ^ 32 }
     requires few_secondary { length secondary.now.lines < 2 ^ 32 }
@@ -74,7 +74,7 @@ pub fn check_pair(
     if let Some(refusal) = broken_rule(alloc, Role::Secondary, secondary)? {
         return Ok(Checked::Refused(refusal));
     }
-    let primary = Noted::of(alloc, primary)?;
-    let secondary = Noted::of(alloc, secondary)?;
+    let primary = NotedJournal::of(alloc, primary)?;
+    let secondary = NotedJournal::of(alloc, secondary)?;
     ordered(alloc, &primary, &secondary)
 }

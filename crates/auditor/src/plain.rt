@@ -6,9 +6,9 @@ ghost use Rattle.causal_order.specs.Journals.{journals_of, journal_of, volume_of
 ghost use Rattle.journal_text.specs.Closed.{IsClosed};
 ghost use Rattle.auditor.specs.Closing.{ClosesAt};
 ghost use Rattle.auditor.specs.Passing.{answers, passing_from, passing, left_of, returned_of};
-ghost use Rattle.auditor.specs.Walks.{Gives};
+ghost use Rattle.auditor.specs.Walks.{YieldsNext};
 
-use crate::question::{Question, answers};
+use crate::question::{EventQuestion, answers};
 use crate::source::LineSource;
 use crate::walk::Walk;
 use attribution::Delegation;
@@ -67,8 +67,8 @@ impl<'a> PlainSource<'a> {
 
     /// The next line of a walk over those that answer the question.
     #[tactic(auto, using(crate::proofs::Given::first_given, crate::proofs::Given::second_given, crate::proofs::Given::none_given,))]
-    fn next_line(&self, question: &Question, walk: &mut Walk) -> Option<Ref>
-        ensures { Gives result (passing (answers question.now) self.now walk.old.next walk.old.onward)
+    fn next_line(&self, question: &EventQuestion, walk: &mut Walk) -> Option<Ref>
+        ensures { YieldsNext result (passing (answers question.now) self.now walk.old.next walk.old.onward)
             (passing (answers question.now) self.now walk.new.next walk.new.onward) }
     {
         let primary = self.lines_of(Role::Primary);
@@ -112,7 +112,7 @@ impl LineSource for PlainSource<'_> {
     }
 
     fn next_overlap(&self, prefix: &Prefix, walk: &mut Walk) -> Option<Ref> {
-        self.next_line(&Question::Overlapping(*prefix), walk)
+        self.next_line(&EventQuestion::Overlapping(*prefix), walk)
     }
 
     fn releases(&self, _delegation: &Delegation) -> Walk {
@@ -120,13 +120,13 @@ impl LineSource for PlainSource<'_> {
     }
 
     fn next_release(&self, delegation: &Delegation, walk: &mut Walk) -> Option<Ref> {
-        self.next_line(&Question::GivingBack(*delegation), walk)
+        self.next_line(&EventQuestion::GivingBack(*delegation), walk)
     }
 }
 
 /// The first line of this side, from the index on, that answers the question.
 #[tactic(auto, using(crate::proofs::Given::found_here, crate::proofs::Given::passed_by, crate::proofs::Given::none_behind,))]
-fn next_on(side: Role, lines: &[Line], question: &Question, from: usize) -> Option<Ref>
+fn next_on(side: Role, lines: &[Line], question: &EventQuestion, from: usize) -> Option<Ref>
     requires few { length lines.now < 2 ^ 32 }
     ensures { MatchOption result (passing_from (answers question.now) side (from + 1) (drop from lines.now) ≡ [])
         (λ r. passing_from (answers question.now) side (from + 1) (drop from lines.now)

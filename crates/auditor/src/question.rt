@@ -10,7 +10,7 @@ use prefix_range::Prefix;
 
 /// A question that is asked of an event.
 #[derive(Clone, Copy, Debug, PartialEq, Eq)]
-pub enum Question {
+pub enum EventQuestion {
     /// Whether it grants or carries a prefix that overlaps this one, or gives one back.
     Overlapping(Prefix),
     /// Whether it gives this delegation back.
@@ -31,11 +31,11 @@ fn concerns(prefix: &Prefix, event: &Event) -> bool
 
 /// Returns whether the event answers the question.
 #[tactic(auto, using(crate::proofs::Given::release_tested))]
-pub fn answers(question: &Question, event: &Event) -> bool
+pub fn answers(question: &EventQuestion, event: &Event) -> bool
     ensures { result ≡ answers question.now event.now }
 {
     match question {
-        Question::Overlapping(prefix) => concerns(prefix, event),
-        Question::GivingBack(delegation) => is_release_of(delegation, event),
+        EventQuestion::Overlapping(prefix) => concerns(prefix, event),
+        EventQuestion::GivingBack(delegation) => is_release_of(delegation, event),
     }
 }

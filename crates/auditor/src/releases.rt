@@ -11,16 +11,22 @@ use crate::grants::{is_written_from, lease_at};
 use crate::order::comes_first;
 use crate::source::LineSource;
 use attribution::Delegation;
-use causal_order::{Certificate, Lines, Piece, Ref, Why, precedes};
+use causal_order::{Certificate, ClearReason, Lines, Piece, Ref, precedes};
 use lead_time::Skew;
 
 /// Returns whether the release is shown to have come before the piece's grant, or not before its end.
-fn is_cleared<L: Lines>(lines: &L, piece: &Piece, release: Ref, why: &Why, skew: Skew) -> bool
+fn is_cleared<L: Lines>(
+    lines: &L,
+    piece: &Piece,
+    release: Ref,
+    why: &ClearReason,
+    skew: Skew,
+) -> bool
     ensures { IsTrue result ↔ IsCleared (L.journals lines.now) skew release piece.now.grant piece.now.to why.now }
 {
     match why {
-        Why::Before(order) => precedes(lines, release, piece.grant, order, skew),
-        Why::After(chain) => is_written_from(lines, chain, release, skew, piece.to),
+        ClearReason::Before(order) => precedes(lines, release, piece.grant, order, skew),
+        ClearReason::After(chain) => is_written_from(lines, chain, release, skew, piece.to),
     }
 }
 

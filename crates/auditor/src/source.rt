@@ -8,7 +8,7 @@ ghost use Rattle.attribution.specs.declared.delegation.Delegation.{Delegation as
 ghost use Rattle.attribution.specs.Listing.{IsListing};
 ghost use Rattle.auditor.specs.declared.walk.Walk.{Walk as WalkValue};
 ghost use Rattle.auditor.specs.Closing.{ClosesAt};
-ghost use Rattle.auditor.specs.Walks.{Gives, AreReleases};
+ghost use Rattle.auditor.specs.Walks.{YieldsNext, AreReleases};
 
 use crate::walk::Walk;
 use attribution::Delegation;
@@ -40,7 +40,7 @@ pub trait LineSource: Lines {
 
     /// The next line of that walk.
     fn next_overlap(&self, prefix: &Prefix, walk: &mut Walk) -> Option<Ref>
-        ensures { Gives result (left self.now prefix.now walk.old) (left self.now prefix.now walk.new) };
+        ensures { YieldsNext result (left self.now prefix.now walk.old) (left self.now prefix.now walk.new) };
 
     /// A walk over the releases that give the delegation back.
     fn releases(&self, delegation: &Delegation) -> Walk
@@ -50,6 +50,6 @@ pub trait LineSource: Lines {
 
     /// The next line of that walk.
     fn next_release(&self, delegation: &Delegation, walk: &mut Walk) -> Option<Ref>
-        ensures { Gives result (returned self.now delegation.now walk.old)
+        ensures { YieldsNext result (returned self.now delegation.now walk.old)
             (returned self.now delegation.now walk.new) };
 }

@@ -6,10 +6,12 @@
 use crate::fault::Fault;
 use crate::shelf::Shelf;
 use crate::words::Words;
-use client_service::{Alone, Answer, Partner, Silence, answer_to};
+use client_service::{
+    ClientReply, ExclusiveService, NoReplyReason, PartnerAvailability, answer_to,
+};
 use dhcp6_pd::{ClientMessage, decode};
 use line_words::{add_number, add_word};
-use server_book::Manner;
+use server_book::ReplyPolicy;
 use std::alloc::{AllocError, Global};
 use text_fields::push_octets;
 
@@ -29,11 +31,11 @@ pub fn add_answered(
     };
     match answer_to(
         alloc,
-        &Alone,
+        &ExclusiveService,
         book,
         &own,
-        &Manner::plain(alloc),
-        Partner::Up,
+        &ReplyPolicy::plain(alloc),
+        PartnerAvailability::Up,
         &[],
         now,
         &message,
@@ -44,13 +46,13 @@ pub fn add_answered(
     }
 }
 
-fn add_octets(out: &mut Vec<u8>, answer: &Answer<()>) -> Result<(), AllocError> {
+fn add_octets(out: &mut Vec<u8>, answer: &ClientReply<()>) -> Result<(), AllocError> {
     add_word(out, b"")?;
     push_octets(out, answer.octets())
 }
 
 /// Appends the number of the last line that an answer tells of, or `-`, and its octets.
-fn add_numbered(out: &mut Vec<u8>, answer: &Answer<()>) -> Result<(), AllocError> {
+fn add_numbered(out: &mut Vec<u8>, answer: &ClientReply<()>) -> Result<(), AllocError> {
     match answer.line() {
         Some(number) => add_number(out, u64::from(number))?,
         None => add_word(out, b"-")?,
@@ -59,20 +61,20 @@ fn add_numbered(out: &mut Vec<u8>, answer: &Answer<()>) -> Result<(), AllocError
 }
 
 /// Returns why there is no answer, in a word.
-fn reason(why: Silence) -> Result<&'static [u8], Fault> {
+fn reason(why: NoReplyReason) -> Result<&'static [u8], Fault> {
     match why {
-        Silence::NothingAsked => Ok(b"nothing-asked"),
-        Silence::Refused(_) => Ok(b"refused"),
-        Silence::Elsewhere => Ok(b"elsewhere"),
-        Silence::TooLong => Ok(b"too-long"),
-        Silence::Memory => Err(Fault::Memory),
+        NoReplyReason::NothingRequested => Ok(b"nothing-asked"),
+        NoReplyReason::Refused(_) => Ok(b"refused"),
+        NoReplyReason::UnknownBinding => Ok(b"elsewhere"),
+        NoReplyReason::TooLong => Ok(b"too-long"),
+        NoReplyReason::Memory => Err(Fault::Memory),
     }
 }
 
-fn partner_in(words: &mut Words<'_>) -> Result<Partner, Fault> {
+fn partner_in(words: &mut Words<'_>) -> Result<PartnerAvailability, Fault> {
     match words.next() {
-        "up" => Ok(Partner::Up),
-        "down" => Ok(Partner::Down),
+        "up" => Ok(PartnerAvailability::Up),
+        "down" => Ok(PartnerAvailability::Down),
         _ => Err(Fault::Words),
     }
 }
@@ -114,10 +116,10 @@ pub fn add_told(
     let message = orders.of(message);
     match answer_to(
         alloc,
-        &Alone,
+        &ExclusiveService,
         book,
         &own,
-        &Manner::plain(alloc),
+        &ReplyPolicy::plain(alloc),
         partner,
         &[],
         now,

@@ -1,5 +1,5 @@
 //! The talk of two servers, whose octets are carried by hand: `link A`, `quiet A READING`, `over A READING`,
-//! `hear A READING OCTETS`, `carry A B READING`, `front A B READING COUNT`, `lose A`.
+//! `handle_control A READING OCTETS`, `carry A B READING`, `front A B READING COUNT`, `lose A`.
 //!
 //! Each answers what A's end, or B's, hands out: of each frame the number of the line that sends it, or `-`, and its
 //! octets; and behind them `ended`, or why its connection has to be ended.
@@ -7,20 +7,20 @@
 use crate::fault::Fault;
 use crate::shelf::{LinkEnd, Shelf};
 use crate::words::Words;
+use exclusive_book::ExclusivePairBook;
 use failover_message::encode;
+use failover_session::{FailoverSession, LinkInput, OutboundFrame, SessionError};
 use line_words::{add_number, add_word};
-use link_talk::{Came, Handed, Talk, TalkError};
-use own_book::Alone;
 use server_book::read_settings;
 use std::alloc::Global;
 use text_fields::push_octets;
 
 /// Returns why a connection has to be ended, in a word.
-fn reason(why: TalkError) -> Result<&'static [u8], Fault> {
+fn reason(why: SessionError) -> Result<&'static [u8], Fault> {
     match why {
-        TalkError::Frame => Ok(b"frame"),
-        TalkError::Serve(_) => Ok(b"refused"),
-        TalkError::Memory => Err(Fault::Memory),
+        SessionError::Frame => Ok(b"frame"),
+        SessionError::Serve(_) => Ok(b"refused"),
+        SessionError::Memory => Err(Fault::Memory),
     }
 }
 
@@ -28,7 +28,7 @@ fn reason(why: TalkError) -> Result<&'static [u8], Fault> {
 fn add_handed(
     alloc: Global,
     written: &mut Vec<u8>,
-    handed: &[Handed],
+    handed: &[OutboundFrame],
     out: &mut Vec<u8>,
 ) -> Result<(), Fault> {
     for handed in handed {
@@ -59,12 +59,12 @@ pub fn add_begun(
         Ok(settings) => settings,
         Err(_) => return Err(Fault::Words),
     };
-    let mut talk = Talk::new(alloc);
-    if talk.greet(&named.own, &settings).is_err() {
+    let mut talk = FailoverSession::new(alloc);
+    if talk.send_greeting(&named.own, &settings).is_err() {
         return Err(Fault::Memory);
     }
     let mut written = Vec::new(alloc);
-    add_handed(alloc, &mut written, &talk.hand_out(), out)?;
+    add_handed(alloc, &mut written, &talk.take_frames(), out)?;
     named.end = Some(LinkEnd {
         settings,
         talk,
@@ -79,7 +79,7 @@ fn add_turn(
     shelf: &mut Shelf,
     letter: u8,
     words: &mut Words<'_>,
-    came: &Came<'_>,
+    came: &LinkInput<'_>,
     out: &mut Vec<u8>,
 ) -> Result<(), Fault> {
     let now = words.reading()?;
@@ -87,10 +87,8 @@ fn add_turn(
     let Some(end) = &mut named.end else {
         return Err(Fault::Words);
     };
-    let done = end
-        .talk
-        .turn(&Alone, &mut named.own, &end.settings, now, came);
-    let handed = end.talk.hand_out();
+    let done = end.talk.poll(&ExclusivePairBook, &mut named.own, &end.settings, now, came);
+    let handed = end.talk.take_frames();
     add_handed(alloc, &mut end.written, &handed, out)?;
     match done {
         Err(why) => Ok(add_word(out, reason(why)?)?),
@@ -107,10 +105,10 @@ pub fn add_quiet(
     out: &mut Vec<u8>,
 ) -> Result<(), Fault> {
     let letter = words.letter()?;
-    add_turn(alloc, shelf, letter, words, &Came::Nothing, out)
+    add_turn(alloc, shelf, letter, words, &LinkInput::Idle, out)
 }
 
-/// `beat A READING`: a contact of A's is due.
+/// `handle_heartbeat A READING`: a contact of A's is due.
 pub fn add_beat(
     alloc: Global,
     shelf: &mut Shelf,
@@ -118,7 +116,7 @@ pub fn add_beat(
     out: &mut Vec<u8>,
 ) -> Result<(), Fault> {
     let letter = words.letter()?;
-    add_turn(alloc, shelf, letter, words, &Came::Beat, out)
+    add_turn(alloc, shelf, letter, words, &LinkInput::HeartbeatDue, out)
 }
 
 /// `over A READING`: A's wire has ended.
@@ -129,10 +127,10 @@ pub fn add_over(
     out: &mut Vec<u8>,
 ) -> Result<(), Fault> {
     let letter = words.letter()?;
-    add_turn(alloc, shelf, letter, words, &Came::End, out)
+    add_turn(alloc, shelf, letter, words, &LinkInput::Closed, out)
 }
 
-/// `hear A READING OCTETS`: these octets come to A.
+/// `handle_control A READING OCTETS`: these octets come to A.
 pub fn add_heard(
     alloc: Global,
     shelf: &mut Shelf,
@@ -143,7 +141,14 @@ pub fn add_heard(
     let mut ahead = Words::new(words.rest());
     let _reading = ahead.next();
     let octets = ahead.octets(alloc)?;
-    add_turn(alloc, shelf, letter, words, &Came::Octets(&octets), out)
+    add_turn(
+        alloc,
+        shelf,
+        letter,
+        words,
+        &LinkInput::Octets(&octets),
+        out,
+    )
 }
 
 /// Takes the first octets that A handed out, so many at most.
@@ -168,7 +173,7 @@ pub fn add_carried(
     let from = words.letter()?;
     let to = words.letter()?;
     let octets = taken(alloc, shelf, from, usize::MAX)?;
-    add_turn(alloc, shelf, to, words, &Came::Octets(&octets), out)
+    add_turn(alloc, shelf, to, words, &LinkInput::Octets(&octets), out)
 }
 
 /// `front A B READING COUNT`: so many octets of it.
@@ -186,7 +191,7 @@ pub fn add_front(
         return Err(Fault::Words);
     };
     let octets = taken(alloc, shelf, from, count)?;
-    add_turn(alloc, shelf, to, words, &Came::Octets(&octets), out)
+    add_turn(alloc, shelf, to, words, &LinkInput::Octets(&octets), out)
 }
 
 /// `lose A`: what A handed out, and that wasn't carried yet, comes nowhere.

@@ -1,4 +1,4 @@
-//! Orders to a book: `order A READING ORDER`, `offer A READING DUID IAID HINT`, `tell B A READING ORDER`.
+//! Orders to a book: `order A READING ORDER`, `offer A READING DUID IAID HINT`, `send_update B A READING ORDER`.
 //!
 //! ORDER is `request DUID IAID HINT`, `renew ..`, `release ..`, where HINT is a prefix or `-`; `expire PREFIX`, `backup
 //! ..`, `reclaim ..`, `seize ..`, `send-update ..`, `send-reply ..`; `contact`, `take TERM SERIAL BODY`, `down`,
@@ -12,7 +12,7 @@ use binding_rules::{PartnerMessage, ServerState};
 use journal_lines::Event;
 use lead_time::Reading;
 use prefix_range::{Prefix, read_canonical};
-use server_book::{Asked, Book, BookError, Order, Reply};
+use server_book::{Book, BookError, LeaseRequest, Order, Reply};
 use std::alloc::Global;
 
 /// The prefix that a word names.
@@ -21,14 +21,14 @@ fn named(word: &str) -> Result<Prefix, Fault> {
 }
 
 /// Returns what a client asks about.
-pub fn asked_in(words: &mut Words<'_>) -> Result<Asked, Fault> {
+pub fn asked_in(words: &mut Words<'_>) -> Result<LeaseRequest, Fault> {
     let client = words.client()?;
     let iaid = words.iaid()?;
     let hint = match words.next() {
         "-" => None,
         word => Some(named(word)?),
     };
-    Ok(Asked { client, iaid, hint })
+    Ok(LeaseRequest { client, iaid, hint })
 }
 
 /// A client's order.
@@ -154,7 +154,7 @@ fn sent(book: &mut Book, now: Reading, order: &Order) -> Result<Order, BookError
     }
 }
 
-/// `tell B A READING ORDER`: what B makes of what A sends by the order.
+/// `send_update B A READING ORDER`: what B makes of what A sends by the order.
 pub fn add_told(
     alloc: Global,
     shelf: &mut Shelf,

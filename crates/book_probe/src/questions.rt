@@ -1,4 +1,4 @@
-//! Questions to a book: `ask A QUESTION`.
+//! Questions to a book: `request_updates A QUESTION`.
 //!
 //! QUESTION is `lines` (how many its journal has), `text N` (the N-th line of its text), `status PREFIX`,
 //! `counts PREFIX` (the server's changes of the unit, and the partner's), `told PREFIX` (the end that the partner is
@@ -66,7 +66,7 @@ fn add_down(out: &mut Vec<u8>, down: Option<Reading>) -> Result<(), AllocError> 
     }
 }
 
-/// `ask A QUESTION`.
+/// `request_updates A QUESTION`.
 pub fn add_answer(
     alloc: Global,
     shelf: &Shelf,

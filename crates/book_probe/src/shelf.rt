@@ -1,8 +1,8 @@
 //! The books that lines speak of.
 
 use crate::fault::Fault;
-use link_talk::Talk;
-use own_book::OwnBook;
+use exclusive_book::ExclusiveBook;
+use failover_session::FailoverSession;
 use server_book::{Book, Settings};
 use std::alloc::Global;
 
@@ -10,7 +10,7 @@ use std::alloc::Global;
 #[derive(Drop)]
 pub struct LinkEnd {
     pub settings: Settings,
-    pub talk: Talk,
+    pub talk: FailoverSession,
     pub written: Vec<u8>,
 }
 
@@ -18,7 +18,7 @@ pub struct LinkEnd {
 #[derive(Drop)]
 pub struct Named {
     letter: u8,
-    pub own: OwnBook,
+    pub own: ExclusiveBook,
     pub end: Option<LinkEnd>,
 }
 
@@ -72,7 +72,7 @@ impl Shelf {
     pub fn put(&mut self, alloc: Global, letter: u8, book: Book) -> Result<(), Fault> {
         let named = Named {
             letter,
-            own: OwnBook::new(alloc, book),
+            own: ExclusiveBook::new(alloc, book),
             end: None,
         };
         match self.place(letter) {

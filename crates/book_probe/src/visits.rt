@@ -11,7 +11,7 @@ use client_id::{Duid, Iaid};
 use lead_time::Reading;
 use line_words::add_number;
 use prefix_range::{Prefix, read_text, unit};
-use server_book::{Asked, Book, BookError, Order, Reply};
+use server_book::{Book, BookError, LeaseRequest, Order, Reply};
 use std::alloc::{AllocError, Global};
 
 /// The unit of a number.
@@ -27,8 +27,8 @@ fn client_of(number: u8) -> Result<Duid, Fault> {
     Duid::from_bytes(&[0, 3, 0, 1, 2, 0, 0, 0, 0, number]).map_err(|_| Fault::Words)
 }
 
-fn asked(client: Duid, hint: Option<Prefix>) -> Asked {
-    Asked {
+fn asked(client: Duid, hint: Option<Prefix>) -> LeaseRequest {
+    LeaseRequest {
         client,
         iaid: Iaid(1),
         hint,

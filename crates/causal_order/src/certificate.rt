@@ -37,7 +37,7 @@ pub struct Piece {
 #[derive(Debug, Drop)]
 pub struct Clear {
     pub release: Ref,
-    pub why: Why,
+    pub why: ClearReason,
 }
 
 impl NamesLine for Clear {
@@ -50,7 +50,7 @@ impl NamesLine for Clear {
 
 /// Why a release does not cut a piece short.
 #[derive(Debug, Drop)]
-pub enum Why {
+pub enum ClearReason {
     /// It was written before the grant.
     Before(Precedes),
     /// It was written after the piece's end: a chain to the release.

@@ -37,7 +37,7 @@ mod reference;
 
 pub use bounds::{earliest_of, first_of_chain, is_chain, last_of_chain, latest_of};
 pub use by_line::{ByLine, NamesLine};
-pub use certificate::{Certificate, Clear, Foreign, Piece, Reason, Why};
+pub use certificate::{Certificate, Clear, ClearReason, Foreign, Piece, Reason};
 pub use entries::{Chain, ClearList, ForeignList, PieceList};
 pub use fault::CertificateFault;
 pub use lines::Lines;

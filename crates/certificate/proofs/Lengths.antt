@@ -15,8 +15,8 @@ use Rattle.causal_order.specs.declared.reference.Ref.{Ref}
 use Rattle.causal_order.specs.declared.order.Precedes.{Precedes}
 use Rattle.causal_order.specs.declared.order.Precedes.TheVariants.{Chain, Clock}
 use Rattle.causal_order.specs.declared.certificate.Clear.{Clear}
-use Rattle.causal_order.specs.declared.certificate.Why.{Why}
-use Rattle.causal_order.specs.declared.certificate.Why.TheVariants.{Before, After}
+use Rattle.causal_order.specs.declared.certificate.ClearReason.{ClearReason}
+use Rattle.causal_order.specs.declared.certificate.ClearReason.TheVariants.{Before, After}
 use Rattle.causal_order.specs.declared.certificate.Piece.{Piece}
 use Rattle.causal_order.specs.declared.certificate.Foreign.{Foreign}
 use Rattle.causal_order.specs.declared.certificate.Reason.{Reason}
@@ -90,7 +90,7 @@ order_size : (o : Precedes) → IsOrder o → size (order_words o) ≤ 18440
 order_size (Chain chain) h = omega (arith, chain_length chain h)
 order_size (Clock latest earliest) h = omega (arith, chain_length latest h.0, chain_length earliest h.1)
 
-why_size : (w : Why) → IsWhy w → size (why_words w) ≤ 18447
+why_size : (w : ClearReason) → IsWhy w → size (why_words w) ≤ 18447
 why_size (Before order) h = omega (arith, order_size order h)
 why_size (After chain) h = omega (arith, chain_length chain h)
 

@@ -19,8 +19,8 @@ use Rattle.causal_order.specs.declared.reference.Ref.{Ref}
 use Rattle.causal_order.specs.declared.order.Precedes.{Precedes}
 use Rattle.causal_order.specs.declared.order.Precedes.TheVariants.{Chain, Clock}
 use Rattle.causal_order.specs.declared.certificate.Clear.{Clear}
-use Rattle.causal_order.specs.declared.certificate.Why.{Why}
-use Rattle.causal_order.specs.declared.certificate.Why.TheVariants.{Before, After}
+use Rattle.causal_order.specs.declared.certificate.ClearReason.{ClearReason}
+use Rattle.causal_order.specs.declared.certificate.ClearReason.TheVariants.{Before, After}
 use Rattle.causal_order.specs.declared.certificate.Piece.{Piece}
 use Rattle.causal_order.specs.declared.certificate.Foreign.{Foreign}
 use Rattle.causal_order.specs.declared.certificate.Reason.{Reason}
@@ -117,7 +117,7 @@ order_plain (Chain chain) h = (keyword_plain (codes "chain") refl refl, (chain_p
 order_plain (Clock latest earliest) h =
     (keyword_plain (codes "clock") refl refl, (chain_plain latest h.0, (chain_plain earliest h.1, tt)))
 
-why_plain : (w : Why) → IsWhy w → ArePlain (why_words w)
+why_plain : (w : ClearReason) → IsWhy w → ArePlain (why_words w)
 why_plain (Before order) h = (keyword_plain (codes "before") refl refl, order_plain order h)
 why_plain (After chain) h = (keyword_plain (codes "after") refl refl, (chain_plain chain h, tt))
 

@@ -9,8 +9,8 @@ use Rattle.text_fields.proofs.Steps.{bind_some, map_some, some_is}
 use Rattle.causal_order.specs.declared.reference.Ref.{Ref}
 use Rattle.causal_order.specs.declared.order.Precedes.{Precedes}
 use Rattle.causal_order.specs.declared.order.Precedes.TheVariants.{Chain, Clock}
-use Rattle.causal_order.specs.declared.certificate.Why.{Why}
-use Rattle.causal_order.specs.declared.certificate.Why.TheVariants.{Before, After}
+use Rattle.causal_order.specs.declared.certificate.ClearReason.{ClearReason}
+use Rattle.causal_order.specs.declared.certificate.ClearReason.TheVariants.{Before, After}
 use Rattle.causal_order.specs.declared.certificate.Reason.{Reason}
 use Rattle.causal_order.specs.declared.certificate.Reason.TheVariants.{Early, Late, Released}
 use Rattle.certificate.specs.Spelling.{ref_text, chain_text, order_words, why_words, latest_words, reason_words}
@@ -93,15 +93,15 @@ order_again (Clock latest earliest) rest h =
 
 -- ---- releases that are cleared
 
-pub why_takes : (words : List (List ℕ)) (w : Why) (rest : List (List ℕ)) → why_at words ≡ Some (w, rest)
+pub why_takes : (words : List (List ℕ)) (w : ClearReason) (rest : List (List ℕ)) → why_at words ≡ Some (w, rest)
     → (words ≡ why_words w ++ rest) × IsWhy w
 unfolding why_by
 why_takes [] w rest e = absurd cc
 why_takes (word ∷ words) w rest e = by (bytes_eq word (codes "before")) (bytes_eq word (codes "after")) refl refl e
   where
     by : (a b : Bool) → bytes_eq word (codes "before") ≡ a → bytes_eq word (codes "after") ≡ b
-        → cond a (option_map {U = Why × List (List ℕ)} (λ x. (Before x.0, x.1)) (order_at words))
-        (cond b (option_map {U = Why × List (List ℕ)} (λ x. (After x.0, x.1)) (chain_at words)) None)
+        → cond a (option_map {U = ClearReason × List (List ℕ)} (λ x. (Before x.0, x.1)) (order_at words))
+        (cond b (option_map {U = ClearReason × List (List ℕ)} (λ x. (After x.0, x.1)) (chain_at words)) None)
         ≡ Some (w, rest) → (word ∷ words ≡ why_words w ++ rest) × IsWhy w
     by true b p q e = mapped order_words IsOrder why_words IsWhy Before (codes "before")
         (order_at words) word words w rest (order_takes words) (λ o. refl) (λ o h. h) p e
@@ -109,7 +109,7 @@ why_takes (word ∷ words) w rest e = by (bytes_eq word (codes "before")) (bytes
         (chain_at words) word words w rest (chain_at_takes words) (λ chain. refl) (λ chain h. h) q e
     by false false p q e = absurd cc
 
-pub why_again : (w : Why) (rest : List (List ℕ)) → IsWhy w → why_at (why_words w ++ rest) ≡ Some (w, rest)
+pub why_again : (w : ClearReason) (rest : List (List ℕ)) → IsWhy w → why_at (why_words w ++ rest) ≡ Some (w, rest)
 unfolding why_by
 why_again (Before order) rest h = rw (order_again order rest h) refl
 why_again (After chain) rest h = rw (chain_at_again chain rest h) refl

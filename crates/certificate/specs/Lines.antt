@@ -17,8 +17,8 @@ use Rattle.causal_order.specs.declared.certificate.Foreign.{Foreign}
 use Rattle.causal_order.specs.declared.certificate.Reason.{Reason}
 use Rattle.causal_order.specs.declared.certificate.Reason.TheVariants.{Early, Late, Released}
 use Rattle.causal_order.specs.declared.certificate.Clear.{Clear}
-use Rattle.causal_order.specs.declared.certificate.Why.{Why}
-use Rattle.causal_order.specs.declared.certificate.Why.TheVariants.{Before, After}
+use Rattle.causal_order.specs.declared.certificate.ClearReason.{ClearReason}
+use Rattle.causal_order.specs.declared.certificate.ClearReason.TheVariants.{Before, After}
 use Rattle.certificate.specs.declared.fields.TheConstants.{MAX_LINE_NUMBER, MAX_CHAIN_LEN}
 use Rattle.certificate.specs.declared.stops.TheConstants.{LINK}
 
@@ -125,13 +125,13 @@ order_at [] = None
 order_at (word ∷ words) = order_by word words
 
 -- why a release does not cut a piece short
-unfoldable pub why_by : List ℕ → List (List ℕ) → Option (Why × List (List ℕ))
+unfoldable pub why_by : List ℕ → List (List ℕ) → Option (ClearReason × List (List ℕ))
 why_by word words =
     if bytes_eq word (codes "before") then option_map (λ x. (Before x.0, x.1)) (order_at words)
     else if bytes_eq word (codes "after") then option_map (λ x. (After x.0, x.1)) (chain_at words)
     else None
 
-abbrev pub why_at : List (List ℕ) → Option (Why × List (List ℕ))
+abbrev pub why_at : List (List ℕ) → Option (ClearReason × List (List ℕ))
 why_at [] = None
 why_at (word ∷ words) = why_by word words
 

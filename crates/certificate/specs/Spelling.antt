@@ -17,8 +17,8 @@ use Rattle.causal_order.specs.declared.order.Precedes.TheVariants.{Chain, Clock}
 use Rattle.causal_order.specs.declared.certificate.Certificate.{Certificate}
 use Rattle.causal_order.specs.declared.certificate.Piece.{Piece}
 use Rattle.causal_order.specs.declared.certificate.Clear.{Clear}
-use Rattle.causal_order.specs.declared.certificate.Why.{Why}
-use Rattle.causal_order.specs.declared.certificate.Why.TheVariants.{Before, After}
+use Rattle.causal_order.specs.declared.certificate.ClearReason.{ClearReason}
+use Rattle.causal_order.specs.declared.certificate.ClearReason.TheVariants.{Before, After}
 use Rattle.causal_order.specs.declared.certificate.Foreign.{Foreign}
 use Rattle.causal_order.specs.declared.certificate.Reason.{Reason}
 use Rattle.causal_order.specs.declared.certificate.Reason.TheVariants.{Early, Late, Released}
@@ -70,7 +70,7 @@ order_words (Chain chain) = codes "chain" ∷ chain_text chain ∷ []
 order_words (Clock latest earliest) = codes "clock" ∷ chain_text latest ∷ chain_text earliest ∷ []
 
 -- why a release does not cut a piece short: it stands before the grant, or after the piece's end by a chain to it
-abbrev pub why_words : Why → List (List ℕ)
+abbrev pub why_words : ClearReason → List (List ℕ)
 why_words (Before order) = codes "before" ∷ order_words order
 why_words (After chain) = codes "after" ∷ chain_text chain ∷ []
 
@@ -144,7 +144,7 @@ IsOrder (Chain chain) = IsChain chain
 IsOrder (Clock latest earliest) = IsChain latest × IsChain earliest
 
 -- a release that is cleared by such chains
-abbrev pub IsWhy : Why → Type 0
+abbrev pub IsWhy : ClearReason → Type 0
 IsWhy (Before order) = IsOrder order
 IsWhy (After chain) = IsChain chain
 

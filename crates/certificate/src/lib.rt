@@ -26,8 +26,8 @@ mod text_lines;
 mod writing;
 
 pub use causal_order::{
-    Certificate, CertificateFault, Clear, ClearList, Foreign, ForeignList, Piece, PieceList,
-    Reason, Why,
+    Certificate, CertificateFault, Clear, ClearList, ClearReason, Foreign, ForeignList, Piece,
+    PieceList, Reason,
 };
 pub use error::CertificateError;
 pub use laws::certificates_are_spelled;

@@ -5,7 +5,7 @@ ghost use Rattle.certificate.specs.Lines.{clock_at, order_at, why_at, released_a
 ghost use Rattle.certificate.specs.Parsing.{Takes};
 
 use crate::fields::{LineError, chain, keyword, reference};
-use causal_order::{Precedes, Reason, Why};
+use causal_order::{ClearReason, Precedes, Reason};
 use line_words::Words;
 use std::alloc::Global;
 
@@ -36,12 +36,12 @@ fn order(alloc: Global, words: &mut Words<'_>) -> Result<Precedes, LineError>
 
 /// Why a release does not cut a piece short.
 #[tactic(auto, unfolding(crate::specs::Lines::why_by))]
-pub fn why(alloc: Global, words: &mut Words<'_>) -> Result<Why, LineError>
+pub fn why(alloc: Global, words: &mut Words<'_>) -> Result<ClearReason, LineError>
     ensures { Takes (λ w. w) result words.new (why_at words.old) }
 {
     match words.next_word().ok_or(LineError::Form)? {
-        b"before" => Ok(Why::Before(order(alloc, words)?)),
-        b"after" => Ok(Why::After(chain(alloc, words)?)),
+        b"before" => Ok(ClearReason::Before(order(alloc, words)?)),
+        b"after" => Ok(ClearReason::After(chain(alloc, words)?)),
         _ => Err(LineError::Form),
     }
 }

@@ -11,7 +11,7 @@ ghost use Rattle.certificate.specs.declared.stops.TheConstants.{LINE_FEED, LINK}
 use crate::error::CertificateError;
 use crate::stops::{LINE_FEED, LINK};
 use binding_rules::Role;
-use causal_order::{Certificate, Chain, Clear, Foreign, Piece, Precedes, Reason, Ref, Why};
+use causal_order::{Certificate, Chain, Clear, ClearReason, Foreign, Piece, Precedes, Reason, Ref};
 use client_id::Duid;
 use lead_time::Reading;
 use line_words::{SPACE, add_duid, add_number, add_prefix, add_word};
@@ -87,15 +87,15 @@ fn add_order(out: &mut Vec<u8>, order: &Precedes) -> Result<(), AllocError>
     }
 }
 
-fn add_why(out: &mut Vec<u8>, why: &Why) -> Result<(), AllocError>
+fn add_why(out: &mut Vec<u8>, why: &ClearReason) -> Result<(), AllocError>
     ensures { OnOk result (out.new.items ≡ out.old.items ++ behind SPACE (why_words why.now)) }
 {
     match why {
-        Why::Before(order) => {
+        ClearReason::Before(order) => {
             add_word(out, b"before")?;
             add_order(out, order)
         }
-        Why::After(chain) => {
+        ClearReason::After(chain) => {
             add_word(out, b"after")?;
             add_chain(out, chain)
         }

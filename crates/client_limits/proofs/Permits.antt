@@ -4,10 +4,10 @@ use Rattle.std.specs.Prelude.{option_map}
 use Rattle.order_book.specs.Replayed.{state_of}
 use Rattle.dhcp6_pd.specs.declared.message.IaPd.{IaPd}
 use Rattle.client_service.specs.declared.permit.Permit.{Permit}
-use Rattle.client_limits.specs.declared.quotas.Known.{Known}
-use Rattle.client_limits.specs.declared.quotas.Asking.{Asking}
+use Rattle.client_limits.specs.declared.quotas.LimitContext.{LimitContext}
+use Rattle.client_limits.specs.declared.quotas.Requester.{Requester}
 use Rattle.client_limits.specs.Quotas.{permits_from}
 
-abbrev pub all_permits : Known → Asking → ℕ → ℕ → List IaPd → List Permit
+abbrev pub all_permits : LimitContext → Requester → ℕ → ℕ → List IaPd → List Permit
 all_permits k a place more ias = permits_from k.limits.now (state_of k.book.now) k.clients.now k.ports.now a.client.now
     (option_map (λ o. o.now) a.port) a.kind place more ias

@@ -11,7 +11,7 @@ use Rattle.client_limits.specs.Quotas.{permits_of}
 
 -- By its limits, by the book, by the relay port that the message came by, and by lists of whom units were given to and
 -- by which ports: of those a unit counts that the book shows as given still.
-abbrev pub MayLet : Limiter → Journal → ℕ → ClientMessage → List Permit → Type 0
-MayLet s j now m permits =
+abbrev pub MayAdmit : Limiter → Journal → ℕ → ClientMessage → List Permit → Type 0
+MayAdmit s j now m permits =
     (clients : Holders) × (ports : Holders)
     × (permits ≡ permits_of s.limits (state_of j) clients ports (name_by (port_of m.relays)) m)

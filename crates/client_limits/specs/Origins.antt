@@ -6,7 +6,7 @@ use Rattle.dhcp6_pd.specs.declared.message.Relay.{Relay}
 use Rattle.std.specs.declared.alloc.Global.{Global}
 use Rattle.std.specs.declared.vec.Vec.{Vec}
 use Rattle.access_records.specs.declared.port.RelayPort.{RelayPort}
-use Rattle.client_limits.specs.declared.limiter.Origin.{Origin}
+use Rattle.client_limits.specs.declared.limiter.RelayOrigin.{RelayOrigin}
 use Rattle.access_records.specs.Spelling.{record_text}
 
 -- the port that a relay forwarded a message from (RFC 8415, sections 9 and 21.18; RFC 4649)
@@ -31,6 +31,6 @@ name_by None = None
 name_by (Some port) = if tells_apart port then Some (name_of port) else None
 
 -- For bodies only: what names the port of an origin.
-abbrev pub named : Option Origin → Option (List ℕ)
+abbrev pub named : Option RelayOrigin → Option (List ℕ)
 named None = None
 named (Some origin) = option_map (λ (name : Vec ℕ Global). name.items) origin.name

@@ -13,7 +13,7 @@ use Rattle.dhcp6_pd.specs.declared.message.ClientKind.TheVariants.{Solicit, Requ
 use Rattle.dhcp6_pd.specs.declared.message.ClientMessage.{ClientMessage}
 use Rattle.dhcp6_pd.specs.declared.message.IaPd.{IaPd}
 use Rattle.client_service.specs.declared.permit.Permit.{Permit}
-use Rattle.client_service.specs.declared.permit.Permit.TheVariants.{Ordered, Denied}
+use Rattle.client_service.specs.declared.permit.Permit.TheVariants.{Allowed, Denied}
 use Rattle.client_limits.specs.declared.holders.Holders.{Holders}
 use Rattle.client_limits.specs.Holders.{holder_of, units_of}
 use Rattle.client_limits.specs.declared.limits.Limits.{Limits}
@@ -89,7 +89,7 @@ may_ask _ = false
 
 abbrev pub permit_by : Bool → Permit
 permit_by true = Denied
-permit_by false = Ordered
+permit_by false = Allowed
 
 -- The server's limits; its book; whom units were given to and by which ports; of a message its client, the name of the
 -- relay port that it came by, if it came by one, and its type.

@@ -2,17 +2,17 @@
 
 ghost use Rattle.std.specs.Prelude.{◌≡◌, IfOk};
 ghost use Rattle.client_limits.specs.Origins.{port_of, name_by, named};
-ghost use Rattle.client_limits.specs.Limiting.{MayLet};
+ghost use Rattle.client_limits.specs.Limiting.{MayAdmit};
 
 use crate::holders::Holders;
 use crate::limits::Limits;
 use crate::origin::{name_by, port_named, port_of};
-use crate::quotas::{Known, permits_by, strays_in};
+use crate::quotas::{LimitContext, moved_clients_in, permits_by};
 use crate::rates::Rates;
 use access_records::{AccessRecord, Address, RelayPort};
 use binding_rules::{Body, Status, UnitStatus};
 use client_id::Duid;
-use client_service::{Admission, Permit, Unheard};
+use client_service::{Admission, DropReason, Permit};
 use dhcp6_pd::ClientMessage;
 use journal_lines::{Event, Line};
 use lead_time::Reading;
@@ -23,7 +23,7 @@ use std::mem;
 
 /// The relay port of the message that was asked about last, and the octets that name it.
 #[derive(Drop)]
-struct Origin {
+struct RelayOrigin {
     port: RelayPort,
     /// None where its relay doesn't tell its clients apart.
     name: Option<Vec<u8>>,
@@ -31,7 +31,7 @@ struct Origin {
 
 /// How far a book's journal was looked through.
 #[derive(Clone, Copy)]
-struct Seen {
+struct ScanPosition {
     volume: u32,
     lines: usize,
 }
@@ -49,11 +49,11 @@ pub struct Limiter {
     clients: Holders,
     /// By which relay ports units were given.
     ports: Holders,
-    seen: Seen,
-    origin: Option<Origin>,
+    seen: ScanPosition,
+    origin: Option<RelayOrigin>,
     source: Option<Address>,
     records: Vec<AccessRecord>,
-    strays: u64,
+    moved_clients: u64,
 }
 
 /// The client and the unit that an event gives it, if it does.
@@ -93,14 +93,14 @@ impl Limiter {
             rates: Rates::new(alloc),
             clients: Holders::new(alloc),
             ports: Holders::new(alloc),
-            seen: Seen {
+            seen: ScanPosition {
                 volume: 0,
                 lines: 0,
             },
             origin: None,
             source: None,
             records: Vec::new(alloc),
-            strays: 0,
+            moved_clients: 0,
         }
     }
 
@@ -116,8 +116,8 @@ impl Limiter {
     }
 
     /// Returns how many IA_PDs came from another relay port than their unit was given by.
-    pub fn strays(&self) -> u64 {
-        self.strays
+    pub fn moved_clients(&self) -> u64 {
+        self.moved_clients
     }
 
     /// Notes that a unit was given to a client.
@@ -135,7 +135,7 @@ impl Limiter {
     fn give_by_port(&mut self, unit: Prefix) -> Result<(), AllocError> {
         match &self.origin {
             Some(
-                Origin {
+                RelayOrigin {
                     name: Some(name),
                     ..
                 },
@@ -184,12 +184,12 @@ impl Limiter {
     }
 
     /// Looks through the lines of a book that it hasn't seen yet, which no message's orders added.
-    pub fn look_through(&mut self, book: &Book) -> Result<(), AllocError>
+    pub fn scan_book(&mut self, book: &Book) -> Result<(), AllocError>
         ensures limits { self.new.limits ≡ self.old.limits }
     {
         let volume = book.head().volume();
         if self.seen.volume != volume {
-            self.seen = Seen { volume, lines: 0 };
+            self.seen = ScanPosition { volume, lines: 0 };
         }
         let lines = book.journal();
         for index in self.seen.lines..lines.len() {
@@ -246,7 +246,7 @@ impl Limiter {
 
     /// Looks through the book of a start, and notes what the access records of its volume say.
     pub fn restore(&mut self, book: &Book, records: Vec<AccessRecord>) -> Result<(), AllocError> {
-        self.look_through(book)?;
+        self.scan_book(book)?;
         for record in records {
             self.enter_record(book, &record)?;
         }
@@ -254,7 +254,7 @@ impl Limiter {
     }
 
     /// Returns whether a message of a client, behind the port of its origin, is heard now.
-    fn hears(&mut self, now: Reading, client: &Duid) -> Result<bool, AllocError>
+    fn is_within_rate(&mut self, now: Reading, client: &Duid) -> Result<bool, AllocError>
         ensures limits { self.new.limits ≡ self.old.limits }
         ensures origin { self.new.origin ≡ self.old.origin }
     {
@@ -265,7 +265,7 @@ impl Limiter {
         name.push(client.as_bytes().len() as u8)?;
         name.extend_from_slice(client.as_bytes())?;
         if let Some(
-            Origin {
+            RelayOrigin {
                 name: Some(port),
                 ..
             },
@@ -273,34 +273,34 @@ impl Limiter {
         {
             name.extend_from_slice(port)?;
         }
-        self.rates.hears(self.limits.client_rate, now, &name)
+        self.rates.allows(self.limits.client_rate, now, &name)
     }
 
     /// The origin of a message.
-    fn origin_of(&self, message: &ClientMessage) -> Result<Option<Origin>, AllocError>
+    fn origin_of(&self, message: &ClientMessage) -> Result<Option<RelayOrigin>, AllocError>
         ensures { IfOk result (λ o. named o ≡ name_by (port_of message.now.relays)) }
     {
         let Some(port) = port_of(self.alloc, message)? else {
             return Ok(None);
         };
         let name = name_by(self.alloc, &port)?;
-        Ok(Some(Origin { port, name }))
+        Ok(Some(RelayOrigin { port, name }))
     }
 }
 
 impl Admission for Limiter {
-    ghost lets = { MayLet };
+    ghost lets = { MayAdmit };
 
     fn permits(
         &mut self,
         book: &Book,
         now: Reading,
         message: &ClientMessage,
-    ) -> Result<Vec<Permit>, Unheard> {
-        self.look_through(book)?;
+    ) -> Result<Vec<Permit>, DropReason> {
+        self.scan_book(book)?;
         self.origin = self.origin_of(message)?;
-        if !self.hears(now, &message.client)? {
-            return Err(Unheard::TooMany);
+        if !self.is_within_rate(now, &message.client)? {
+            return Err(DropReason::TooMany);
         }
         let port = match &self.origin {
             Some(origin) => match &origin.name {
@@ -309,19 +309,19 @@ impl Admission for Limiter {
             },
             None => None,
         };
-        let known = Known {
+        let known = LimitContext {
             limits: &self.limits,
             book,
             clients: &self.clients,
             ports: &self.ports,
         };
-        let strays = strays_in(&known, port, message);
+        let strays = moved_clients_in(&known, port, message);
         let permits = permits_by(self.alloc, &known, port, message)?;
-        self.strays = self.strays.saturating_add(strays);
+        self.moved_clients = self.moved_clients.saturating_add(strays);
         Ok(permits)
     }
 
-    fn note(&mut self, book: &Book, _message: &ClientMessage) {
+    fn record_outcome(&mut self, book: &Book, _message: &ClientMessage) {
         // for want of memory a unit goes uncounted, and its grant has no record
         let _ = self.enter_grants(book);
     }

@@ -107,7 +107,7 @@ fn is_other(given: Option<&[u8]>, port: Option<&[u8]>) -> bool
 
 /// What is known where a message comes.
 #[derive(Clone, Copy)]
-pub(crate) struct Known<'a> {
+pub(crate) struct LimitContext<'a> {
     pub limits: &'a Limits,
     pub book: &'a Book,
     /// Whose units are.
@@ -118,14 +118,14 @@ pub(crate) struct Known<'a> {
 
 /// Who asks: a client, the name of the relay port that its message came by, and the message's type.
 #[derive(Clone, Copy)]
-pub(crate) struct Asking<'a> {
+pub(crate) struct Requester<'a> {
     pub client: &'a Duid,
     pub port: Option<&'a [u8]>,
     pub kind: ClientKind,
 }
 
 /// Returns whether an IA_PD comes from another port than its unit was given by.
-fn is_stray(known: &Known<'_>, asking: &Asking<'_>, iaid: Iaid) -> bool
+fn has_moved(known: &LimitContext<'_>, asking: &Requester<'_>, iaid: Iaid) -> bool
     ensures { result ≡ is_elsewhere (state_of known.now.book.now) known.now.ports.now asking.now.client.now iaid
         (units_of known.now.clients.now asking.now.client.now) (option_map (λ o. o.now) asking.now.port) }
 {
@@ -136,7 +136,7 @@ fn is_stray(known: &Known<'_>, asking: &Asking<'_>, iaid: Iaid) -> bool
 }
 
 /// Returns whether an IA_PD asks for a unit, and its client has none under it.
-fn asks_for_more(known: &Known<'_>, asking: &Asking<'_>, iaid: Iaid) -> bool
+fn asks_for_more(known: &LimitContext<'_>, asking: &Requester<'_>, iaid: Iaid) -> bool
     ensures { result ≡ asks_for_more known.now.limits.now (state_of known.now.book.now) known.now.clients.now
         known.now.ports.now
         asking.now.client.now (option_map (λ o. o.now) asking.now.port) asking.now.kind iaid }
@@ -151,7 +151,7 @@ fn asks_for_more(known: &Known<'_>, asking: &Asking<'_>, iaid: Iaid) -> bool
 }
 
 /// Returns whether those behind the port of a message have as many units as they may, with so many more.
-fn is_port_full(known: &Known<'_>, asking: &Asking<'_>, more: usize) -> bool
+fn is_port_full(known: &LimitContext<'_>, asking: &Requester<'_>, more: usize) -> bool
     ensures { result ≡ is_port_full known.now.limits.now (state_of known.now.book.now) known.now.clients.now
         known.now.ports.now asking.now.client.now (option_map (λ o. o.now) asking.now.port) asking.now.kind
         (option_map (λ o. o.now) asking.now.port) more }
@@ -170,7 +170,7 @@ fn is_port_full(known: &Known<'_>, asking: &Asking<'_>, more: usize) -> bool
 }
 
 /// Returns whether no unit more is given, at a place of a message, where so many before it may be given one more.
-fn is_full(known: &Known<'_>, asking: &Asking<'_>, place: usize, more: usize) -> bool
+fn is_full(known: &LimitContext<'_>, asking: &Requester<'_>, place: usize, more: usize) -> bool
     ensures { result ≡ is_full known.now.limits.now (state_of known.now.book.now) known.now.clients.now
         known.now.ports.now
         asking.now.client.now (option_map (λ o. o.now) asking.now.port) asking.now.kind place more }
@@ -189,12 +189,18 @@ fn is_full(known: &Known<'_>, asking: &Asking<'_>, place: usize, more: usize) ->
 }
 
 /// Returns whether an IA_PD is denied.
-fn is_denied(known: &Known<'_>, asking: &Asking<'_>, place: usize, more: usize, iaid: Iaid) -> bool
+fn is_denied(
+    known: &LimitContext<'_>,
+    asking: &Requester<'_>,
+    place: usize,
+    more: usize,
+    iaid: Iaid,
+) -> bool
     ensures { result ≡ is_denied known.now.limits.now (state_of known.now.book.now) known.now.clients.now
         known.now.ports.now
         asking.now.client.now (option_map (λ o. o.now) asking.now.port) asking.now.kind place more iaid }
 {
-    (known.limits.ports == PortRule::Bound && is_stray(known, asking, iaid))
+    (known.limits.ports == PortRule::Bound && has_moved(known, asking, iaid))
         || (asks_for_more(known, asking, iaid) && is_full(known, asking, place, more))
 }
 
@@ -205,12 +211,18 @@ fn permit_by(is_denied: bool) -> Permit
     if is_denied {
         Permit::Denied
     } else {
-        Permit::Ordered
+        Permit::Allowed
     }
 }
 
 /// Returns whether an IA_PD may be given a unit more.
-fn may_take(known: &Known<'_>, asking: &Asking<'_>, place: usize, more: usize, iaid: Iaid) -> bool
+fn may_take(
+    known: &LimitContext<'_>,
+    asking: &Requester<'_>,
+    place: usize,
+    more: usize,
+    iaid: Iaid,
+) -> bool
     ensures { result ≡ may_take known.now.limits.now (state_of known.now.book.now) known.now.clients.now
         known.now.ports.now
         asking.now.client.now (option_map (λ o. o.now) asking.now.port) asking.now.kind place more iaid }
@@ -221,8 +233,8 @@ fn may_take(known: &Known<'_>, asking: &Asking<'_>, place: usize, more: usize, i
 /// Says of each of some IA_PDs, in their order, whether it may be ordered.
 fn permits(
     alloc: Global,
-    known: &Known<'_>,
-    asking: &Asking<'_>,
+    known: &LimitContext<'_>,
+    asking: &Requester<'_>,
     ias: &[IaPd],
 ) -> Result<Vec<Permit>, AllocError>
     ensures { IfOk result (λ all. all.items ≡ permits_from known.now.limits.now (state_of known.now.book.now)
@@ -246,14 +258,14 @@ fn permits(
 /// or by no relay.
 pub(crate) fn permits_by(
     alloc: Global,
-    known: &Known<'_>,
+    known: &LimitContext<'_>,
     port: Option<&[u8]>,
     message: &ClientMessage,
 ) -> Result<Vec<Permit>, AllocError>
     ensures { IfOk result (λ all. all.items ≡ permits_of known.now.limits.now (state_of known.now.book.now)
         known.now.clients.now known.now.ports.now (option_map (λ o. o.now) port.entry) message.now) }
 {
-    let asking = Asking {
+    let asking = Requester {
         client: &message.client,
         port,
         kind: message.kind,
@@ -262,8 +274,12 @@ pub(crate) fn permits_by(
 }
 
 /// Counts the IA_PDs of a message that come from another port than their unit was given by.
-pub(crate) fn strays_in(known: &Known<'_>, port: Option<&[u8]>, message: &ClientMessage) -> u64 {
-    let asking = Asking {
+pub(crate) fn moved_clients_in(
+    known: &LimitContext<'_>,
+    port: Option<&[u8]>,
+    message: &ClientMessage,
+) -> u64 {
+    let asking = Requester {
         client: &message.client,
         port,
         kind: message.kind,
@@ -272,6 +288,6 @@ pub(crate) fn strays_in(known: &Known<'_>, port: Option<&[u8]>, message: &Client
         .ias
         .as_slice()
         .iter()
-        .filter(|ia| is_stray(known, &asking, ia.iaid))
+        .filter(|ia| has_moved(known, &asking, ia.iaid))
         .count() as u64
 }

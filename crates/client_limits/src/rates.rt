@@ -62,7 +62,7 @@ impl Rates {
 
     /// Returns whether another message of this name is heard in the second of a reading, which may be so many; and
     /// counts it, if it is. A rate of 0 hears all.
-    pub fn hears(&mut self, rate: u32, now: Reading, name: &[u8]) -> Result<bool, AllocError>
+    pub fn allows(&mut self, rate: u32, now: Reading, name: &[u8]) -> Result<bool, AllocError>
         ensures heard { IfOk result (IsHeard self.old self.new rate (now / 1000) name.now) }
         ensures refused { IfErr result (λ _. IsCountedAsBefore self.old self.new (now / 1000)) }
     {

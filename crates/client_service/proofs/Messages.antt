@@ -10,13 +10,13 @@ use Rattle.server_book.specs.declared.messages.IaAnswer.{IaAnswer}
 use Rattle.server_book.specs.Messages.{asked_in, order_by}
 use Rattle.order_book.specs.declared.order.Order.{Order}
 use Rattle.locked_book.specs.declared.receipt.Receipt.{Receipt}
-use Rattle.client_service.specs.declared.partner.Partner.{Partner}
-use Rattle.client_service.specs.declared.silence.Silence.TheVariants.{Memory}
-use Rattle.client_service.specs.declared.told.Told.{Told}
+use Rattle.client_service.specs.declared.partner_availability.PartnerAvailability.{PartnerAvailability}
+use Rattle.client_service.specs.declared.no_reply_reason.NoReplyReason.TheVariants.{Memory}
+use Rattle.client_service.specs.declared.ia_outcome.IaOutcome.{IaOutcome}
 use Rattle.client_service.specs.Lines.{or_earlier, last_number}
 use Rattle.client_service.specs.Telling.{EndsBy}
 use Rattle.client_service.specs.Answering.{order_for, permit_at, AreTold}
-use Rattle.client_service.specs.Ending.{EndsAt, AreFirstTold, IsCutShort}
+use Rattle.client_service.specs.Ending.{EndsAt, AreFirstServed, IsCutShort}
 use Rattle.client_service.proofs.Orders.{last_number-append}
 
 pub take_next : {X : Type 0} (xs : List X) (i : ℕ) (x : X) → slice_get xs i ≡ Some x
@@ -42,7 +42,7 @@ pub order_there : (m : ClientMessage) (found : Option IaPd) (o : Order)
 order_there m None o is = absurd cc
 order_there m (Some ia) o is = (ia, refl, let same : o ≡ order_for m ia = cc in same)
 
-module _ (MayHave : List Receipt → Journal → Type 0) (partner : Partner) (m : ClientMessage) (now : ℕ) where
+module _ (MayHave : List Receipt → Journal → Type 0) (partner : PartnerAvailability) (m : ClientMessage) (now : ℕ) where
   told_more : (permits : List Permit) (ias : List IaPd) (answers : List IaAnswer) (added had : List Receipt) (ia : IaPd)
       (answer : IaAnswer) (own : List Receipt) → AreTold MayHave partner m permits now had ias answers added
       → EndsBy MayHave (permit_at permits (length ias)) partner m.kind now (had ++ added) (order_for m ia) own
@@ -73,9 +73,9 @@ module _ (MayHave : List Receipt → Journal → Type 0) (partner : Partner) (m 
       )
 
   module _ (permits : List Permit) (had mid has : List Receipt) (count : ℕ) (answers : List IaAnswer) (line : Option ℕ)
-      (first : AreFirstTold MayHave partner m permits now count had mid answers line) where
-    pub first_more : (t : Told) → EndsAt MayHave partner m permits now count mid has (Ok t)
-        → AreFirstTold MayHave partner m permits now (count + 1) had has (answers ++ t.answer ∷ [])
+      (first : AreFirstServed MayHave partner m permits now count had mid answers line) where
+    pub first_more : (t : IaOutcome) → EndsAt MayHave partner m permits now count mid has (Ok t)
+        → AreFirstServed MayHave partner m permits now (count + 1) had has (answers ++ t.answer ∷ [])
         (or_earlier t.line line)
     first_more t h =
         let there : EndsBy MayHave (permit_at permits count) partner m.kind now (had ++ first.0) (order_for m h.0) h.2.0
@@ -94,12 +94,12 @@ module _ (MayHave : List Receipt → Journal → Type 0) (partner : Partner) (m 
               ∙ sym (last_number-append first.0 h.2.0)),
         )
 
-    pub first_pushed : (t : Told) (told : List IaAnswer) (last : Option ℕ)
+    pub first_pushed : (t : IaOutcome) (told : List IaAnswer) (last : Option ℕ)
         → EndsAt MayHave partner m permits now count mid has (Ok t)
         → told ≡ answers ++ t.answer ∷ [] → last ≡ or_earlier t.line line
-        → AreFirstTold MayHave partner m permits now (count + 1) had has told last
+        → AreFirstServed MayHave partner m permits now (count + 1) had has told last
     first_pushed t told last h pushed later =
-        subst (λ (x : List IaAnswer × Option ℕ). AreFirstTold MayHave partner m permits now (count + 1) had has x.0 x.1)
+        subst (λ (x : List IaAnswer × Option ℕ). AreFirstServed MayHave partner m permits now (count + 1) had has x.0 x.1)
         (λ i. (sym pushed i, sym later i)) (first_more t h)
 
     pub first_cut : IsCutShort MayHave partner m permits now had mid Memory

@@ -3,7 +3,7 @@ use Rattle.std.specs.Prelude.{◌≡◌, ℕ, List, [], ◌∷◌, ◌++◌, tak
 use Rattle.std.specs.Prelude.{if◌then◌else◌}
 use Rattle.std.proofs.Common.{ap, subst, ◌∙◌, append-nil, inl, inr}
 use Rattle.client_service.specs.declared.permit.Permit.{Permit}
-use Rattle.client_service.specs.declared.permit.Permit.TheVariants.{Ordered, Denied}
+use Rattle.client_service.specs.declared.permit.Permit.TheVariants.{Allowed, Denied}
 use Rattle.dhcp6_pd.specs.declared.message.ClientKind.TheVariants.{Solicit}
 use Rattle.dhcp6_pd.specs.declared.message.ClientMessage.{ClientMessage}
 use Rattle.dhcp6_pd.specs.declared.message.IaPd.{IaPd}
@@ -13,15 +13,15 @@ use Rattle.server_book.specs.declared.messages.IaAnswer.{IaAnswer}
 use Rattle.server_book.specs.declared.messages.IaAnswer.TheVariants.{Given, NoPrefix, NoBinding, Released}
 use Rattle.locked_book.specs.declared.receipt.Receipt.{Receipt}
 use Rattle.locked_book.specs.declared.error.ServeError.{ServeError}
-use Rattle.client_service.specs.declared.partner.Partner.{Partner}
-use Rattle.client_service.specs.declared.partner.Partner.TheVariants.{Up, Down}
-use Rattle.client_service.specs.declared.silence.Silence.{Silence}
-use Rattle.client_service.specs.declared.silence.Silence.TheVariants.{NothingAsked, Elsewhere, Refused, TooLong, Memory}
+use Rattle.client_service.specs.declared.partner_availability.PartnerAvailability.{PartnerAvailability}
+use Rattle.client_service.specs.declared.partner_availability.PartnerAvailability.TheVariants.{Up, Down}
+use Rattle.client_service.specs.declared.no_reply_reason.NoReplyReason.{NoReplyReason}
+use Rattle.client_service.specs.declared.no_reply_reason.NoReplyReason.TheVariants.{NothingRequested, UnknownBinding, Refused, TooLong, Memory}
 use Rattle.client_service.specs.Lines.{is_takeover, number_of, or_earlier, last_number}
-use Rattle.client_service.specs.Telling.{IsOfferedAs, EndsAtOnce, Ends, EndsBy, IsSeizeServed}
-use Rattle.server_book.specs.Manner.{plain}
-use Rattle.client_service.specs.Answering.{order_for, permit_at, AreTold, IsSilent}
-use Rattle.client_service.specs.Ending.{AreAllTold, IsCutShort}
+use Rattle.client_service.specs.Telling.{IsOfferedAs, EndsAtOnce, EndsWithSeize, EndsBy, IsSeizeServed}
+use Rattle.server_book.specs.ReplyPolicy.{plain}
+use Rattle.client_service.specs.Answering.{order_for, permit_at, AreTold, HasNoReply}
+use Rattle.client_service.specs.Ending.{AreAllServed, IsCutShort}
 use Rattle.client_service.proofs.Orders.{last_number-append}
 
 module _ (MayHave : List Receipt → Journal → Type 0) (now : ℕ) where
@@ -40,8 +40,8 @@ module _ (MayHave : List Receipt → Journal → Type 0) (now : ℕ) where
   takeover : (had : List Receipt) (r : Receipt) → IsSeizeServed MayHave now had (Ok r) → number_of r ≡ None
   takeover had r h = ap (λ e. if is_takeover e then None else Some r.number) h.2.3.1.line.named
 
-  numbers_nothing : (partner : Partner) (had : List Receipt) (order : Order) (added : List Receipt)
-      (result : Result IaAnswer ServeError) → Ends MayHave partner Solicit now had order added result
+  numbers_nothing : (partner : PartnerAvailability) (had : List Receipt) (order : Order) (added : List Receipt)
+      (result : Result IaAnswer ServeError) → EndsWithSeize MayHave partner Solicit now had order added result
       → last_number added ≡ None
   numbers_nothing Up had order added result h = ap (λ rs. last_number rs) (at_once_nothing had order added result h)
   numbers_nothing Down had order added result (inl h) =
@@ -56,21 +56,21 @@ module _ (MayHave : List Receipt → Journal → Type 0) (now : ℕ) where
       ]
 
   module _ (m : ClientMessage) (solicit : m.kind ≡ Solicit) where
-    of_solicit : (partner : Partner) (had : List Receipt) (ia : IaPd) (added : List Receipt)
+    of_solicit : (partner : PartnerAvailability) (had : List Receipt) (ia : IaPd) (added : List Receipt)
         (result : Result IaAnswer ServeError)
-        → Ends MayHave partner m.kind now had (order_for m ia) added result
-        → Ends MayHave partner Solicit now had (order_for m ia) added result
+        → EndsWithSeize MayHave partner m.kind now had (order_for m ia) added result
+        → EndsWithSeize MayHave partner Solicit now had (order_for m ia) added result
     of_solicit partner had ia added result h =
-        subst (λ kind. Ends MayHave partner kind now had (order_for m ia) added result) solicit h
+        subst (λ kind. EndsWithSeize MayHave partner kind now had (order_for m ia) added result) solicit h
 
-    advertises_by : (permit : Permit) (partner : Partner) (had : List Receipt) (ia : IaPd) (added : List Receipt)
+    advertises_by : (permit : Permit) (partner : PartnerAvailability) (had : List Receipt) (ia : IaPd) (added : List Receipt)
         (result : Result IaAnswer ServeError)
         → EndsBy MayHave permit partner m.kind now had (order_for m ia) added result → last_number added ≡ None
-    advertises_by Ordered partner had ia added result h =
+    advertises_by Allowed partner had ia added result h =
         numbers_nothing partner had (order_for m ia) added result (of_solicit partner had ia added result h)
     advertises_by Denied partner had ia added result h = ap (λ rs. last_number rs) h.0
 
-    advertises : (permits : List Permit) (partner : Partner) (had : List Receipt) (ias : List IaPd)
+    advertises : (permits : List Permit) (partner : PartnerAvailability) (had : List Receipt) (ias : List IaPd)
         (answers : List IaAnswer) (added : List Receipt)
         → AreTold MayHave partner m permits now had ias answers added → last_number added ≡ None
     advertises permits partner had [] [] added h = ap (λ rs. last_number rs) h
@@ -86,7 +86,7 @@ module _ (MayHave : List Receipt → Journal → Type 0) (now : ℕ) where
     adds_none_by : (permit : Permit) (had : List Receipt) (ia : IaPd) (added : List Receipt)
         (result : Result IaAnswer ServeError)
         → EndsBy MayHave permit Up m.kind now had (order_for m ia) added result → added ≡ []
-    adds_none_by Ordered had ia added result h =
+    adds_none_by Allowed had ia added result h =
         at_once_nothing had (order_for m ia) added result (of_solicit Up had ia added result h)
     adds_none_by Denied had ia added result h = h.0
 
@@ -100,7 +100,7 @@ module _ (MayHave : List Receipt → Journal → Type 0) (now : ℕ) where
         h.2 ∙ (ap (λ rs. rs ++ h.1) own ∙ adds_nothing (drop 1 permits) (had ++ h.0) ias answers h.1 h.4)
 
     refused_nothing : (permits : List Permit) (had has : List Receipt) (e : ServeError)
-        → IsSilent MayHave Up [] plain m permits now had has (Refused e) → has ≡ had
+        → HasNoReply MayHave Up [] plain m permits now had has (Refused e) → has ≡ had
     refused_nothing permits had has e h =
         let t = h.2 in
         let before = adds_nothing permits had (take t.0 m.ias) t.2 t.3 t.7 in
@@ -108,35 +108,35 @@ module _ (MayHave : List Receipt → Journal → Type 0) (now : ℕ) where
         let none = t.6 ∙ (ap (λ rs. rs ++ t.4) before ∙ last) in
         h.1 ∙ (ap (λ rs. had ++ rs) none ∙ append-nil had)
 
-    cut_nothing : (permits : List Permit) (had has : List Receipt) → IsSilent MayHave Up [] plain m permits now had has Memory
+    cut_nothing : (permits : List Permit) (had has : List Receipt) → HasNoReply MayHave Up [] plain m permits now had has Memory
         → has ≡ had
     cut_nothing permits had has h =
         h.1 ∙ (ap (λ rs. had ++ rs) (adds_nothing permits had (take h.2.0 m.ias) h.2.1 h.0 h.2.2) ∙ append-nil had)
 
 -- what is told of a SOLICIT is told of no line
-pub tells_of_none : (MayHave : List Receipt → Journal → Type 0) (partner : Partner) (m : ClientMessage)
+pub tells_of_none : (MayHave : List Receipt → Journal → Type 0) (partner : PartnerAvailability) (m : ClientMessage)
     (permits : List Permit) (now : ℕ) (had has : List Receipt) (answers : List IaAnswer) (line : Option ℕ)
-    → AreAllTold MayHave partner m permits now had has answers line → m.kind ≡ Solicit → line ≡ None
+    → AreAllServed MayHave partner m permits now had has answers line → m.kind ≡ Solicit → line ≡ None
 tells_of_none MayHave partner m permits now had has answers line h solicit =
     h.1.3 ∙ advertises MayHave now m solicit permits partner had m.ias answers h.1.0 h.1.2
 
 -- and while the partner is up nothing is written
-pub told_writes_none : (MayHave : List Receipt → Journal → Type 0) (partner : Partner) (m : ClientMessage)
+pub told_writes_none : (MayHave : List Receipt → Journal → Type 0) (partner : PartnerAvailability) (m : ClientMessage)
     (permits : List Permit) (now : ℕ) (had has : List Receipt) (answers : List IaAnswer) (line : Option ℕ)
-    → AreAllTold MayHave partner m permits now had has answers line → m.kind ≡ Solicit → partner ≡ Up → has ≡ had
+    → AreAllServed MayHave partner m permits now had has answers line → m.kind ≡ Solicit → partner ≡ Up → has ≡ had
 told_writes_none MayHave Up m permits now had has answers line h solicit up =
     h.1.1 ∙ (ap (λ rs. had ++ rs) (adds_nothing MayHave now m solicit permits had m.ias answers h.1.0 h.1.2)
     ∙ append-nil had)
 told_writes_none MayHave Down m permits now had has answers line h solicit up = absurd cc
 
-pub cut_writes_none : (MayHave : List Receipt → Journal → Type 0) (partner : Partner) (m : ClientMessage)
-    (permits : List Permit) (now : ℕ) (had has : List Receipt) (why : Silence)
+pub cut_writes_none : (MayHave : List Receipt → Journal → Type 0) (partner : PartnerAvailability) (m : ClientMessage)
+    (permits : List Permit) (now : ℕ) (had has : List Receipt) (why : NoReplyReason)
     → IsCutShort MayHave partner m permits now had has why → m.kind ≡ Solicit → partner ≡ Up → has ≡ had
 cut_writes_none MayHave Up m permits now had has (Refused e) h solicit up =
     refused_nothing MayHave now m solicit permits had has e h
 cut_writes_none MayHave Up m permits now had has Memory h solicit up =
     cut_nothing MayHave now m solicit permits had has h
-cut_writes_none MayHave Up m permits now had has NothingAsked h solicit up = absurd h
-cut_writes_none MayHave Up m permits now had has Elsewhere h solicit up = absurd h
+cut_writes_none MayHave Up m permits now had has NothingRequested h solicit up = absurd h
+cut_writes_none MayHave Up m permits now had has UnknownBinding h solicit up = absurd h
 cut_writes_none MayHave Up m permits now had has TooLong h solicit up = absurd h
 cut_writes_none MayHave Down m permits now had has why h solicit up = absurd cc

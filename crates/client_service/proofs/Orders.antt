@@ -2,7 +2,7 @@
 use Rattle.std.specs.Prelude.{◌≡◌, ℕ, true, false, List, [], ◌∷◌, ◌++◌, Option, Some, None, Result, Ok, Err}
 use Rattle.std.specs.Prelude.{if◌then◌else◌}
 use Rattle.std.proofs.Common.{refl, ap, sym, subst, ◌∙◌, append_assoc, append-nil, inl, inr}
-use Rattle.client_service.specs.declared.permit.Permit.TheVariants.{Ordered}
+use Rattle.client_service.specs.declared.permit.Permit.TheVariants.{Allowed}
 use Rattle.dhcp6_pd.specs.declared.message.ClientKind.{ClientKind}
 use Rattle.dhcp6_pd.specs.declared.message.ClientKind.TheVariants.{Solicit, Request as RequestKind, Renew as RenewKind}
 use Rattle.dhcp6_pd.specs.declared.message.ClientKind.TheVariants.{Rebind, Release as ReleaseKind}
@@ -18,13 +18,13 @@ use Rattle.server_book.specs.declared.messages.IaAnswer.TheVariants.{NoPrefix}
 use Rattle.locked_book.specs.declared.receipt.Receipt.{Receipt}
 use Rattle.locked_book.specs.declared.error.ServeError.{ServeError}
 use Rattle.locked_book.specs.declared.error.ServeError.TheVariants.{Book, Stranger, Memory}
-use Rattle.client_service.specs.declared.partner.Partner.TheVariants.{Down}
-use Rattle.client_service.specs.declared.told.Told.{Told}
+use Rattle.client_service.specs.declared.partner_availability.PartnerAvailability.TheVariants.{Down}
+use Rattle.client_service.specs.declared.ia_outcome.IaOutcome.{IaOutcome}
 use Rattle.client_service.specs.Lines.{is_takeover, number_of, or_earlier, last_number}
 use Rattle.client_service.specs.Serving.{IsOrderServed, IsOfferMade}
 use Rattle.client_service.specs.Telling.{IsToldAs, EndsAtOnce}
 use Rattle.client_service.specs.Telling.{IsSeizeServed, NoneTakenOver, IsStrangeTo}
-use Rattle.client_service.specs.Ending.{told_of, answer_in, IsNumbered}
+use Rattle.client_service.specs.Ending.{refusal_outcome, answer_in, IsNumbered}
 use Rattle.client_service.specs.Ending.{EndsIn, EndsAs, Seizes}
 
 -- ---- lines and their numbers
@@ -50,7 +50,7 @@ module _ (MayHave : List Receipt → Journal → Type 0) (now : ℕ) (order : Or
   -- ---- what it is told of a refusal
 
   pub served_refusal : (e : ServeError) → IsOrderServed MayHave now had order (Err e) → has ≡ had
-      → EndsIn MayHave RequestKind now order had has (told_of e)
+      → EndsIn MayHave RequestKind now order had has (refusal_outcome e)
   served_refusal (Stranger n l) h same = ([], none_added had has same, (refl, tt, h), tt)
   served_refusal Memory h same = ([], none_added had has same, (refl, tt, h), tt)
   served_refusal (Book NotServing) h same = ([], none_added had has same, (refl, tt, h), tt)
@@ -78,7 +78,7 @@ module _ (MayHave : List Receipt → Journal → Type 0) (now : ℕ) (order : Or
   no_binding Close request h = absurd request
 
   pub offer_refusal : (e : ServeError) → IsRequest order → IsOfferMade MayHave now had order (Err e) → has ≡ had
-      → EndsIn MayHave Solicit now order had has (told_of e)
+      → EndsIn MayHave Solicit now order had has (refusal_outcome e)
   offer_refusal (Stranger n l) request h same = ([], none_added had has same, (refl, tt, h), tt)
   offer_refusal Memory request h same = ([], none_added had has same, (refl, tt, h), tt)
   offer_refusal (Book NotServing) request h same = ([], none_added had has same, (refl, tt, h), tt)
@@ -92,7 +92,7 @@ module _ (MayHave : List Receipt → Journal → Type 0) (now : ℕ) (order : Or
 
 module _ (MayHave : List Receipt → Journal → Type 0) (kind : ClientKind) (now : ℕ) (order : Order)
     (had mid has : List Receipt)
-    (told : Told) (lacks : told.answer ≡ NoPrefix) (first : EndsIn MayHave kind now order had mid (Ok told)) where
+    (told : IaOutcome) (lacks : told.answer ≡ NoPrefix) (first : EndsIn MayHave kind now order had mid (Ok told)) where
   nothing_added : (k : ClientKind) (added : List Receipt) → IsToldAs MayHave k now had order added NoPrefix → added ≡ []
   nothing_added Solicit added h = h.0
   nothing_added RequestKind added h = h.0
@@ -118,7 +118,7 @@ module _ (MayHave : List Receipt → Journal → Type 0) (kind : ClientKind) (no
   takeover_number : (r : Receipt) → IsSeizeServed MayHave now had (Ok r) → number_of r ≡ None
   takeover_number r h = ap (λ e. if is_takeover e then None else Some r.number) h.2.3.1.line.named
 
-  numbered : (r : Receipt) (rest : List Receipt) (result : Result Told ServeError)
+  numbered : (r : Receipt) (rest : List Receipt) (result : Result IaOutcome ServeError)
       → IsSeizeServed MayHave now had (Ok r)
       → IsNumbered rest result → IsNumbered (r ∷ rest) result
   numbered r rest (Ok t) h number =
@@ -126,8 +126,8 @@ module _ (MayHave : List Receipt → Journal → Type 0) (kind : ClientKind) (no
       ∙ ap (λ o. or_earlier (last_number rest) o) (sym (takeover_number r h)))
   numbered r rest (Err e) h number = tt
 
-  pub once_more : (behind : List Receipt) (result : Result Told ServeError) → Seizes MayHave now mid behind (Ok true)
-      → EndsIn MayHave kind now order behind has result → EndsAs MayHave Ordered Down kind now order had has result
+  pub once_more : (behind : List Receipt) (result : Result IaOutcome ServeError) → Seizes MayHave now mid behind (Ok true)
+      → EndsIn MayHave kind now order behind has result → EndsAs MayHave Allowed Down kind now order had has result
   once_more behind result seized again =
       let r = seized.0 in
       let taken : IsSeizeServed MayHave now had (Ok r) =
@@ -148,7 +148,7 @@ module _ (MayHave : List Receipt → Journal → Type 0) (kind : ClientKind) (no
         numbered r again.0 result taken again.3,
       )
 
-  pub stays : Seizes MayHave now mid has (Ok false) → EndsAs MayHave Ordered Down kind now order had has (Ok told)
+  pub stays : Seizes MayHave now mid has (Ok false) → EndsAs MayHave Allowed Down kind now order had has (Ok told)
   stays kept = (
     [],
     none_added had has (kept.0 ∙ unchanged),
@@ -160,7 +160,7 @@ module _ (MayHave : List Receipt → Journal → Type 0) (kind : ClientKind) (no
   )
 
   pub ends_strange : (e : ServeError) → Seizes MayHave now mid has (Err e)
-      → EndsAs MayHave Ordered Down kind now order had has (Err e)
+      → EndsAs MayHave Allowed Down kind now order had has (Err e)
   ends_strange e strange = (
     [],
     none_added had has (strange.0 ∙ unchanged),

@@ -17,23 +17,23 @@ use Rattle.locked_book.specs.declared.receipt.Receipt.{Receipt}
 use Rattle.locked_book.specs.declared.error.ServeError.{ServeError}
 use Rattle.locked_book.specs.declared.error.ServeError.TheVariants.{Book, Stranger, Memory}
 use Rattle.locked_book.specs.Serving.{last_receipt, ReceiptStands}
-use Rattle.client_service.specs.declared.standing.Standing.{Standing}
-use Rattle.client_service.specs.declared.terms.RenewTerms.{RenewTerms}
-use Rattle.client_service.specs.Standing.{IsStanding}
-use Rattle.client_service.specs.declared.told.Told.{Told}
+use Rattle.client_service.specs.declared.reusable_lease.ReusableLease.{ReusableLease}
+use Rattle.client_service.specs.declared.terms.ReuseTerms.{ReuseTerms}
+use Rattle.client_service.specs.ReusableLeases.{IsReusable}
+use Rattle.client_service.specs.declared.ia_outcome.IaOutcome.{IaOutcome}
 use Rattle.client_service.specs.Serving.{IsRecalled}
 use Rattle.client_service.specs.Answering.{order_for, permit_at}
-use Rattle.client_service.specs.Again.{later, latest_with, IsAgain, IsAgainBy, AreAgain}
+use Rattle.client_service.specs.Reusing.{later, latest_with, IsReused, IsReusedBy, AreReused}
 use Rattle.client_service.specs.Ending.{IsDenial, IsAgainAt, AreFirstAgain}
 use Rattle.client_service.proofs.Messages.{take_next, take_count, permit_next}
 
-module _ (MayHave : List Receipt → Journal → Type 0) (t : RenewTerms) (now : ℕ) (had : List Receipt) (order : Order)
+module _ (MayHave : List Receipt → Journal → Type 0) (t : ReuseTerms) (now : ℕ) (had : List Receipt) (order : Order)
   where
     -- ---- at a book
 
     module _ (j : Journal) (legal : IsLegal j) (may : MayHave had j)
         (stands : ReceiptStands j.lines (last_receipt had)) where
-      pub found_recalled : (found : Option Standing) → IfSome found (IsStanding j t now order)
+      pub found_recalled : (found : Option ReusableLease) → IfSome found (IsReusable j t now order)
           → IsRecalled MayHave t now had order (Ok found)
       found_recalled None h = tt
       found_recalled (Some s) h = (j, legal, may, (stands, h))
@@ -45,11 +45,11 @@ module _ (MayHave : List Receipt → Journal → Type 0) (t : RenewTerms) (now :
     -- ---- one order
 
     pub denied_again : (e : ServeError) (answer : IaAnswer) → IsRecalled MayHave t now had order (Err e)
-        → IsDenial e answer → IsAgain MayHave t now had order answer None
+        → IsDenial e answer → IsReused MayHave t now had order answer None
     denied_again (Book NoSuchBinding) answer h d =
-        subst (λ a. IsAgain MayHave t now had order a None) (sym d) (refl, h)
+        subst (λ a. IsReused MayHave t now had order a None) (sym d) (refl, h)
     denied_again (Book NoPrefixLeft) answer h d =
-        subst (λ a. IsAgain MayHave t now had order a None) (sym d) (refl, h)
+        subst (λ a. IsReused MayHave t now had order a None) (sym d) (refl, h)
     denied_again (Book NotServing) answer h d = absurd d
     denied_again (Book Full) answer h d = absurd d
     denied_again (Book (Rule line rule)) answer h d = absurd d
@@ -66,12 +66,12 @@ latest_more : (number : Option ℕ) (ns : List (Option ℕ)) (n : Option ℕ)
 latest_more number [] n = refl
 latest_more number (x ∷ ns) n = latest_more (later number x) ns n
 
-module _ (MayHave : List Receipt → Journal → Type 0) (t : RenewTerms) (m : ClientMessage) (now : ℕ)
+module _ (MayHave : List Receipt → Journal → Type 0) (t : ReuseTerms) (m : ClientMessage) (now : ℕ)
     (had : List Receipt) where
   again_more : (permits : List Permit) (ias : List IaPd) (answers : List IaAnswer) (numbers : List (Option ℕ))
-      (ia : IaPd) (answer : IaAnswer) (number : Option ℕ) → AreAgain MayHave t m permits now had ias answers numbers
-      → IsAgainBy MayHave (permit_at permits (length ias)) t now had (order_for m ia) answer number
-      → AreAgain MayHave t m permits now had (ias ++ ia ∷ []) (answers ++ answer ∷ []) (numbers ++ number ∷ [])
+      (ia : IaPd) (answer : IaAnswer) (number : Option ℕ) → AreReused MayHave t m permits now had ias answers numbers
+      → IsReusedBy MayHave (permit_at permits (length ias)) t now had (order_for m ia) answer number
+      → AreReused MayHave t m permits now had (ias ++ ia ∷ []) (answers ++ answer ∷ []) (numbers ++ number ∷ [])
   again_more permits [] [] [] ia answer number h one = (one, tt)
   again_more permits [] [] (n ∷ ns) ia answer number h one = absurd h
   again_more permits [] (a ∷ answers) ns ia answer number h one = absurd h
@@ -80,20 +80,20 @@ module _ (MayHave : List Receipt → Journal → Type 0) (t : RenewTerms) (m : C
   again_more permits (x ∷ ias) (a ∷ answers) (n ∷ ns) ia answer number h one = (
     h.0,
     again_more (drop 1 permits) ias answers ns ia answer number h.1
-        (subst (λ l. IsAgainBy MayHave l t now had (order_for m ia) answer number)
+        (subst (λ l. IsReusedBy MayHave l t now had (order_for m ia) answer number)
         (permit_next permits (length ias)) one),
   )
 
   module _ (permits : List Permit) where
     pub again_there : (place : ℕ) (permit : Permit) (order : Order) → permit ≡ permit_at permits place
-        → (ia : IaPd) × (slice_get m.ias place ≡ Some ia) × (order ≡ order_for m ia) → (found : Option Told)
-        → IfSome found (λ x. IsAgainBy MayHave permit t now had order x.answer x.line)
+        → (ia : IaPd) × (slice_get m.ias place ≡ Some ia) × (order ≡ order_for m ia) → (found : Option IaOutcome)
+        → IfSome found (λ x. IsReusedBy MayHave permit t now had order x.answer x.line)
         → IfSome found (λ x. IsAgainAt MayHave t m permits now place had x.answer x.line)
     again_there place permit order by at None h = tt
     again_there place permit order by at (Some x) h = (
       at.0,
       at.1,
-      subst (λ (y : Permit × Order). IsAgainBy MayHave y.0 t now had y.1 x.answer x.line)
+      subst (λ (y : Permit × Order). IsReusedBy MayHave y.0 t now had y.1 x.answer x.line)
           (λ i. (by i, at.2 i)) h,
     )
 
@@ -104,11 +104,11 @@ module _ (MayHave : List Receipt → Journal → Type 0) (t : RenewTerms) (m : C
     first_again count answers line answer number pushed last first at more greatest =
         let ias : take (count + 1) m.ias ≡ take count m.ias ++ at.0 ∷ [] =
         rw add-one (take_next m.ias count at.0 at.1) in
-        let one = subst (λ n. IsAgainBy MayHave (permit_at permits n) t now had (order_for m at.0) answer number)
+        let one = subst (λ n. IsReusedBy MayHave (permit_at permits n) t now had (order_for m at.0) answer number)
         (sym (take_count m.ias count at.0 at.1)) at.2 in
         let all = again_more permits (take count m.ias) answers first.0 at.0 answer number first.1 one in (
           first.0 ++ number ∷ [],
-          subst (λ (x : List IaPd × List IaAnswer). AreAgain MayHave t m permits now had x.0 x.1
+          subst (λ (x : List IaPd × List IaAnswer). AreReused MayHave t m permits now had x.0 x.1
               (first.0 ++ number ∷ []))
               (λ i. (sym ias i, sym more i)) all,
           greatest ∙ (ap (λ n. later n number) first.2 ∙ sym (latest_more None first.0 number)),

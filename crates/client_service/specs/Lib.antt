@@ -1,8 +1,8 @@
-pub mod Standing
+pub mod ReusableLeases
 pub mod LeaseLaws
 pub mod Lines
 pub mod Serving
 pub mod Telling
 pub mod Answering
-pub mod Again
+pub mod Reusing
 pub mod Ending

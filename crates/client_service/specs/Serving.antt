@@ -2,8 +2,8 @@
 use Rattle.std.specs.Prelude.{ℕ, ⊤, List, Option, Some, Result, Ok, Err}
 use Rattle.prefix_range.specs.Prefix.{Prefix}
 use Rattle.journal_lines.specs.declared.line.Journal.{Journal}
-use Rattle.unit_finder.specs.Units.{IsLeastOf}
-use Rattle.unit_finder.specs.Queries.{IsToSeize}
+use Rattle.unit_index.specs.Units.{IsLeastOf}
+use Rattle.unit_index.specs.Queries.{IsToSeize}
 use Rattle.order_book.specs.declared.order.Order.{Order}
 use Rattle.order_book.specs.Replayed.{IsLegal, state_of}
 use Rattle.order_book.specs.Answer.{IsFirstRefusal}
@@ -11,9 +11,9 @@ use Rattle.locked_book.specs.declared.receipt.Receipt.{Receipt}
 use Rattle.locked_book.specs.declared.error.ServeError.{ServeError}
 use Rattle.locked_book.specs.declared.error.ServeError.TheVariants.{Stranger, Book}
 use Rattle.locked_book.specs.Serving.{last_receipt, ReceiptStands, IsStrange, IsPassServed, IsPassOffered}
-use Rattle.client_service.specs.declared.standing.Standing.{Standing}
-use Rattle.client_service.specs.declared.terms.RenewTerms.{RenewTerms}
-use Rattle.client_service.specs.Standing.{IsStanding}
+use Rattle.client_service.specs.declared.reusable_lease.ReusableLease.{ReusableLease}
+use Rattle.client_service.specs.declared.terms.ReuseTerms.{ReuseTerms}
+use Rattle.client_service.specs.ReusableLeases.{IsReusable}
 
 -- at a legal journal that the book may have, of whom these receipts are known
 abbrev pub AtJournal : (List Receipt → Journal → Type 0) → List Receipt → (Journal → Type 0) → Type 0
@@ -46,8 +46,8 @@ abbrev pub AtBook : (List Receipt → Journal → Type 0) → List Receipt → (
 AtBook MayHave had Holds = AtJournal MayHave had (λ j. ReceiptStands j.lines (last_receipt had) × Holds j)
 
 -- what an order's client has that may be told again, or the first refusal; where there is neither nothing is said
-abbrev pub IsRecalled : (List Receipt → Journal → Type 0) → RenewTerms → ℕ → List Receipt → Order
-    → Result (Option Standing) ServeError → Type 0
-IsRecalled MayHave t now had order (Ok (Some s)) = AtBook MayHave had (λ j. IsStanding j t now order s)
+abbrev pub IsRecalled : (List Receipt → Journal → Type 0) → ReuseTerms → ℕ → List Receipt → Order
+    → Result (Option ReusableLease) ServeError → Type 0
+IsRecalled MayHave t now had order (Ok (Some s)) = AtBook MayHave had (λ j. IsReusable j t now order s)
 IsRecalled MayHave t now had order (Err (Book e)) = AtBook MayHave had (λ j. IsFirstRefusal (state_of j) now order e)
 IsRecalled MayHave t now had order _ = ⊤

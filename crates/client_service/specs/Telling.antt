@@ -3,7 +3,7 @@
 use Rattle.std.specs.Prelude.{◌≡◌, ◌≢◌, ◌⊎◌, ℕ, ⊤, List, [], ◌∷◌, ◌++◌, Some, None, Result, Ok, Err}
 use Rattle.prefix_range.specs.Prefix.{Prefix}
 use Rattle.client_service.specs.declared.permit.Permit.{Permit}
-use Rattle.client_service.specs.declared.permit.Permit.TheVariants.{Ordered, Denied}
+use Rattle.client_service.specs.declared.permit.Permit.TheVariants.{Allowed, Denied}
 use Rattle.dhcp6_pd.specs.declared.message.ClientKind.{ClientKind}
 use Rattle.dhcp6_pd.specs.declared.message.ClientKind.TheVariants.{Solicit}
 use Rattle.journal_lines.specs.declared.line.Journal.{Journal}
@@ -21,8 +21,8 @@ use Rattle.locked_book.specs.declared.receipt.Receipt.{Receipt}
 use Rattle.locked_book.specs.declared.error.ServeError.{ServeError}
 use Rattle.locked_book.specs.declared.error.ServeError.TheVariants.{Book, Stranger}
 use Rattle.locked_book.specs.Serving.{last_receipt, ReceiptStands}
-use Rattle.client_service.specs.declared.partner.Partner.{Partner}
-use Rattle.client_service.specs.declared.partner.Partner.TheVariants.{Up, Down}
+use Rattle.client_service.specs.declared.partner_availability.PartnerAvailability.{PartnerAvailability}
+use Rattle.client_service.specs.declared.partner_availability.PartnerAvailability.TheVariants.{Up, Down}
 use Rattle.client_service.specs.Serving.{AtJournal, IsOrderServed, IsOfferMade, IsSeizableFound}
 
 -- the orders of clients' messages
@@ -123,17 +123,17 @@ pub record EndsOnceMore (MayHave : List Receipt → Journal → Type 0) (kind : 
       × EndsAtOnce MayHave kind now (had ++ r ∷ []) order rest result)
       ⊎ ((added ≡ []) × StaysAt MayHave now had result)
 
-abbrev pub Ends : (List Receipt → Journal → Type 0) → Partner → ClientKind → ℕ → List Receipt → Order → List Receipt
+abbrev pub EndsWithSeize : (List Receipt → Journal → Type 0) → PartnerAvailability → ClientKind → ℕ → List Receipt → Order → List Receipt
     → Result IaAnswer ServeError → Type 0
-Ends MayHave Up kind now had order added result = EndsAtOnce MayHave kind now had order added result
-Ends MayHave Down kind now had order added result =
+EndsWithSeize MayHave Up kind now had order added result = EndsAtOnce MayHave kind now had order added result
+EndsWithSeize MayHave Down kind now had order added result =
     ((result ≢ Ok NoPrefix) × EndsAtOnce MayHave kind now had order added result)
     ⊎ EndsOnceMore MayHave kind now had order added result
 
 -- ---- by its permit
 
 -- An IA_PD that may be ordered ends as its order does. One that may not is told NoPrefix, and nothing is ordered.
-abbrev pub EndsBy : (List Receipt → Journal → Type 0) → Permit → Partner → ClientKind → ℕ → List Receipt → Order
+abbrev pub EndsBy : (List Receipt → Journal → Type 0) → Permit → PartnerAvailability → ClientKind → ℕ → List Receipt → Order
     → List Receipt → Result IaAnswer ServeError → Type 0
-EndsBy MayHave Ordered partner kind now had order added result = Ends MayHave partner kind now had order added result
+EndsBy MayHave Allowed partner kind now had order added result = EndsWithSeize MayHave partner kind now had order added result
 EndsBy MayHave Denied partner kind now had order added result = (added ≡ []) × (result ≡ Ok NoPrefix)

@@ -1,14 +1,14 @@
 //! The line of a grant.
 
 ghost use Rattle.std.specs.Prelude.{◌≡◌, ◌↔◌, IsTrue, IfSome};
-ghost use Rattle.client_service.specs.Standing.{IsGranted, IsGrantedBy};
+ghost use Rattle.client_service.specs.ReusableLeases.{IsGranted, IsGrantedBy};
 
 use journal_lines::{Event, Lease, Line};
 use lead_time::Reading;
 
 /// A line that grants a lease: its number, its reading, and the lifetime in seconds.
 #[derive(Clone, Copy)]
-pub(crate) struct Granted {
+pub(crate) struct GrantLine {
     pub number: u32,
     pub reading: Reading,
     pub valid: u32,
@@ -22,11 +22,11 @@ fn is_same(one: &Lease, other: &Lease) -> bool
 }
 
 /// What a line grants a lease's client, if it grants it this prefix.
-fn granted_by(line: &Line, lease: &Lease) -> Option<Granted>
+fn granted_by(line: &Line, lease: &Lease) -> Option<GrantLine>
     ensures { IfSome result (λ g. IsGrantedBy line.now lease.now g.number g.reading g.valid) }
 {
     match &line.event {
-        Event::Grant(granted) if is_same(granted, lease) => Some(Granted {
+        Event::Grant(granted) if is_same(granted, lease) => Some(GrantLine {
             number: line.number,
             reading: line.reading,
             valid: granted.valid,
@@ -37,7 +37,7 @@ fn granted_by(line: &Line, lease: &Lease) -> Option<Granted>
 
 /// A line at this reading, in milliseconds, by which a lease's client has its prefix. The lines' readings don't fall,
 /// so that a search finds it.
-pub(crate) fn granted_at(lines: &[Line], milliseconds: u64, lease: &Lease) -> Option<Granted>
+pub(crate) fn granted_at(lines: &[Line], milliseconds: u64, lease: &Lease) -> Option<GrantLine>
     ensures { IfSome result (λ g. IsGranted lines.now lease.now g.number g.reading g.valid) }
 {
     let first = lines.partition_point(|line| line.reading.milliseconds() < milliseconds);

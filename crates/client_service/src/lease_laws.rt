@@ -1,9 +1,9 @@
 //! Laws over the definitions in specs/ alone.
 
-ghost use Rattle.client_service.specs.LeaseLaws.{AgainIsWithin};
+ghost use Rattle.client_service.specs.LeaseLaws.{ReuseIsWithin};
 
 /// What is told again ends no later than its line's lifetime, counted from the moment at which the line was written:
 /// whatever the clock did within the skew, and however long the answer was under way within the transit.
-pub fn again_is_within_its_line()
-    ensures { AgainIsWithin }
+pub fn reuse_is_within_its_line()
+    ensures { ReuseIsWithin }
 {}

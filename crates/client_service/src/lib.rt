@@ -1,28 +1,28 @@
 //! One client's message, as a server answers it: its orders to a book, and the one answer to it.
 //!
 //! [`answer_to`] gives a book the order of each IA_PD, and tells the client what came of it: it goes over any
-//! [`Service`], which [`Alone`] is for a book that nobody else serves, and [`Shared`] for one behind a lock. It has no
+//! [`BookService`], which [`ExclusiveService`] is for a book that nobody else serves, and [`SharedService`] for one behind a lock. It has no
 //! input, clock or thread of its own.
 //!
-//! What is told stands in the journal. By the clause `told` of that call an [`Answer`]'s octets are the message which
+//! What is told stands in the journal. By the clause `told` of that call an [`ClientReply`]'s octets are the message which
 //! tells each IA_PD, in its order, what the receipt of its own line says: the prefix and the lifetime that it granted,
 //! or that it was released; or its first refusal; or of a SOLICIT what would be granted (specs/Telling for one IA_PD,
 //! specs/Answering for the message). An IA_PD that may not be ordered (`crate::permit::Permit`) is told that there is no
-//! prefix. By `silent` there is no answer but for a reason ([`Silence`]) that is so.
+//! prefix. By `silent` there is no answer but for a reason ([`NoReplyReason`]) that is so.
 //!
 //! ```text
 //! let message = decode(alloc, datagram, &own)?;
-//! let service = Shared { rt, book: &shared };
+//! let service = SharedService { rt, book: &shared };
 //! let now = clock.now()?;
-//! let told = answer_to(alloc, &service, &mut pass, &own, &manner, Partner::Up, &permits, now, &message, peer);
+//! let told = answer_to(alloc, &service, &mut pass, &own, &manner, PartnerAvailability::Up, &permits, now, &message, peer);
 //! if let Ok(answer) = told { socket.send(answer.peer(), answer.octets())?; }
 //! ```
 //!
 //! What a client's message may order of a server's book, as those decide who keep clients from taking too much.
 //!
 //! A server asks its [`Admission`] before it orders anything: of each IA_PD whether it may be ordered ([`Permit`]), or
-//! that the message isn't heard at all ([`Unheard`]). An IA_PD that is denied is told NoPrefixAvail, and no line is
-//! written for it. [`Everything`] lets all be ordered.
+//! that the message isn't heard at all ([`DropReason`]). An IA_PD that is denied is told NoPrefixAvail, and no line is
+//! written for it. [`AllowAll`] lets all be ordered.
 //!
 //! ```text
 //! let permits = admission.permits(&book, now, &message)?;  // by place; behind the end all may be ordered
@@ -33,49 +33,49 @@
 //! What a client has by a line of its server's journal, as it may be told again without another line.
 //!
 //! A client that asks again for what it was just given needs no new line: its grant stands in the journal, and it is
-//! told the seconds that remain of it. [`standing_of`] says of an order what its client has so, by [`RenewTerms`]: how
+//! told the seconds that remain of it. [`find_reusable_lease`] says of an order what its client has so, by [`ReuseTerms`]: how
 //! young the grant has to be, and by which margins the seconds are less. It looks at the unit of the prefix, which
 //! says when the last grant was written, and finds the line by a search of its reading.
 //!
-//! The definitions stand in specs/Standing. That whoever is told again has no prefix a moment longer than the line
-//! gives it is a law (`again_is_within_its_line`).
+//! The definitions stand in specs/ReusableLeases. That whoever is told again has no prefix a moment longer than the line
+//! gives it is a law (`reuse_is_within_its_line`).
 //!
 //! ```text
-//! let terms = RenewTerms { floor: 360, skew, transit, life: 3600 };
-//! match standing_of(&book, &terms, now, &order)? {
-//!     Some(standing) => tell(standing.prefix, standing.valid), // once line `standing.number` is on the disk
+//! let terms = ReuseTerms { floor: 360, skew, transit, life: 3600 };
+//! match find_reusable_lease(&book, &terms, now, &order)? {
+//!     Some(standing) => tell(standing.prefix, standing.valid), // once line `reusable_lease.number` is on the disk
 //!     None => book.apply(now, &order)?,
 //! }
 //! ```
 #![tactic(auto)]
 
-mod again;
+mod allow_all;
 mod alone;
-mod answer;
-mod everything;
+mod client_reply;
 mod grants;
-mod hearing;
+mod ia_outcome;
 mod lease_laws;
+mod no_reply_reason;
 mod ordering;
-mod partner;
+mod partner_availability;
 mod permit;
 mod permits;
 mod remaining;
+mod reusable_lease;
+mod reusing;
 mod service;
+mod serving_ias;
 mod shared;
-mod silence;
-mod standing;
 mod terms;
-mod told;
 
-pub use alone::Alone;
-pub use answer::{Answer, answer_again, answer_information, answer_to};
-pub use everything::Everything;
-pub use lease_laws::again_is_within_its_line;
-pub use partner::Partner;
-pub use permit::{Admission, Permit, Unheard};
-pub use service::Service;
-pub use shared::Shared;
-pub use silence::Silence;
-pub use standing::{Standing, standing_of};
-pub use terms::RenewTerms;
+pub use allow_all::AllowAll;
+pub use alone::ExclusiveService;
+pub use client_reply::{ClientReply, answer_information, answer_to, resend_lease};
+pub use lease_laws::reuse_is_within_its_line;
+pub use no_reply_reason::NoReplyReason;
+pub use partner_availability::PartnerAvailability;
+pub use permit::{Admission, DropReason, Permit};
+pub use reusable_lease::{ReusableLease, find_reusable_lease};
+pub use service::BookService;
+pub use shared::SharedService;
+pub use terms::ReuseTerms;

@@ -2,14 +2,14 @@
 
 ghost use Rattle.std.specs.Prelude.{◌≡◌};
 ghost use Rattle.order_book.specs.Answer.{IsRequest};
-ghost use Rattle.client_service.specs.declared.permit.Permit.TheVariants.{Ordered};
+ghost use Rattle.client_service.specs.declared.permit.Permit.TheVariants.{Allowed};
 ghost use Rattle.dhcp6_pd.specs.declared.message.ClientKind.TheVariants.{Solicit, Request};
 ghost use Rattle.client_service.specs.Telling.{IsClients};
-ghost use Rattle.client_service.specs.Ending.{told_of, told_by, IsOrderOf, EndsIn, EndsAs, Seizes};
+ghost use Rattle.client_service.specs.Ending.{refusal_outcome, receipt_outcome, IsOrderOf, EndsIn, EndsAs, Seizes};
 
-use crate::partner::Partner;
-use crate::service::Service;
-use crate::told::Told;
+use crate::ia_outcome::IaOutcome;
+use crate::partner_availability::PartnerAvailability;
+use crate::service::BookService;
 use dhcp6_pd::ClientKind;
 use lead_time::Reading;
 use locked_book::{Receipt, ServeError};
@@ -17,15 +17,15 @@ use order_book::{BookError, Order, Reply};
 use server_book::IaAnswer;
 
 /// Returns what a client is told of a refusal. One that no client is told of is handed on.
-fn told_of(refusal: ServeError) -> Result<Told, ServeError>
-    ensures { result ≡ told_of refusal }
+fn refusal_outcome(refusal: ServeError) -> Result<IaOutcome, ServeError>
+    ensures { result ≡ refusal_outcome refusal }
 {
     match refusal {
-        ServeError::Book(BookError::NoPrefix) => Ok(Told {
+        ServeError::Book(BookError::NoPrefix) => Ok(IaOutcome {
             answer: IaAnswer::NoPrefix,
             line: None,
         }),
-        ServeError::Book(BookError::NoBinding) => Ok(Told {
+        ServeError::Book(BookError::NoBinding) => Ok(IaOutcome {
             answer: IaAnswer::NoBinding,
             line: None,
         }),
@@ -34,18 +34,18 @@ fn told_of(refusal: ServeError) -> Result<Told, ServeError>
 }
 
 /// Returns what a client is told of an order's receipt.
-fn told_by(receipt: &Receipt) -> Option<Told>
-    ensures { result ≡ told_by receipt.now }
+fn receipt_outcome(receipt: &Receipt) -> Option<IaOutcome>
+    ensures { result ≡ receipt_outcome receipt.now }
 {
     match &receipt.reply {
-        Reply::Granted { prefix, valid } => Some(Told {
+        Reply::Granted { prefix, valid } => Some(IaOutcome {
             answer: IaAnswer::Given {
                 prefix: *prefix,
                 valid: *valid,
             },
             line: Some(receipt.number),
         }),
-        Reply::Released => Some(Told {
+        Reply::Released => Some(IaOutcome {
             answer: IaAnswer::Released,
             line: Some(receipt.number),
         }),
@@ -54,51 +54,51 @@ fn told_by(receipt: &Receipt) -> Option<Told>
 }
 
 /// Returns what a Request would be given.
-fn offered<S: Service>(
+fn offered<S: BookService>(
     service: &S,
     pass: &mut S::Pass,
     now: Reading,
     order: &Order,
-) -> Result<Told, ServeError>
+) -> Result<IaOutcome, ServeError>
     requires { IsRequest order.now }
     ensures { EndsIn S.may_have Solicit now order.now (S.receipts pass.old) (S.receipts pass.new) result }
 {
     match service.offer(pass, now, order) {
-        Ok((prefix, valid)) => Ok(Told {
+        Ok((prefix, valid)) => Ok(IaOutcome {
             answer: IaAnswer::Given { prefix, valid },
             line: None,
         }),
-        Err(refusal) => told_of(refusal),
+        Err(refusal) => refusal_outcome(refusal),
     }
 }
 
 /// Returns what an order ends in.
-fn served<S: Service>(
+fn served<S: BookService>(
     service: &S,
     pass: &mut S::Pass,
     now: Reading,
     order: &Order,
-) -> Result<Told, ServeError>
+) -> Result<IaOutcome, ServeError>
     requires { IsClients order.now }
     ensures { EndsIn S.may_have Request now order.now (S.receipts pass.old) (S.receipts pass.new) result }
 {
     match service.serve(pass, now, order) {
-        Ok(receipt) => match told_by(&receipt) {
+        Ok(receipt) => match receipt_outcome(&receipt) {
             Some(told) => Ok(told),
             None => unreachable!(),
         },
-        Err(refusal) => told_of(refusal),
+        Err(refusal) => refusal_outcome(refusal),
     }
 }
 
 /// Returns what an order of a message of this type ends in: a SOLICIT's is offered.
-fn ordered<S: Service>(
+fn serve_or_offer<S: BookService>(
     service: &S,
     pass: &mut S::Pass,
     kind: ClientKind,
     now: Reading,
     order: &Order,
-) -> Result<Told, ServeError>
+) -> Result<IaOutcome, ServeError>
     requires { IsOrderOf kind order.now }
     ensures { EndsIn S.may_have kind now order.now (S.receipts pass.old) (S.receipts pass.new) result }
 {
@@ -109,7 +109,11 @@ fn ordered<S: Service>(
 }
 
 /// Takes over the lowest unit of the partner's that may be, and says whether one was.
-fn seizes<S: Service>(service: &S, pass: &mut S::Pass, now: Reading) -> Result<bool, ServeError>
+fn seize_lowest<S: BookService>(
+    service: &S,
+    pass: &mut S::Pass,
+    now: Reading,
+) -> Result<bool, ServeError>
     ensures { Seizes S.may_have now (S.receipts pass.old) (S.receipts pass.new) result }
 {
     let found = match service.first_to_seize(pass, now) {
@@ -130,24 +134,24 @@ fn seizes<S: Service>(service: &S, pass: &mut S::Pass, now: Reading) -> Result<b
 
 /// Returns what an order of a message of this type ends in. Where no prefix is left and the partner is down, a unit is
 /// taken over, and it is ordered once more.
-pub(crate) fn at_last<S: Service>(
+pub(crate) fn serve_or_seize<S: BookService>(
     service: &S,
     pass: &mut S::Pass,
-    partner: Partner,
+    partner: PartnerAvailability,
     kind: ClientKind,
     now: Reading,
     order: &Order,
-) -> Result<Told, ServeError>
+) -> Result<IaOutcome, ServeError>
     requires { IsOrderOf kind order.now }
-    ensures { EndsAs S.may_have Ordered partner kind now order.now (S.receipts pass.old) (S.receipts pass.new) result }
+    ensures { EndsAs S.may_have Allowed partner kind now order.now (S.receipts pass.old) (S.receipts pass.new) result }
 {
-    let told = match ordered(service, pass, kind, now, order) {
+    let told = match serve_or_offer(service, pass, kind, now, order) {
         Ok(told) => told,
         Err(refusal) => return Err(refusal),
     };
     match (partner, &told.answer) {
-        (Partner::Down, IaAnswer::NoPrefix) => match seizes(service, pass, now) {
-            Ok(true) => ordered(service, pass, kind, now, order),
+        (PartnerAvailability::Down, IaAnswer::NoPrefix) => match seize_lowest(service, pass, now) {
+            Ok(true) => serve_or_offer(service, pass, kind, now, order),
             Ok(false) => Ok(told),
             Err(refusal) => Err(refusal),
         },

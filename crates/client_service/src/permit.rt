@@ -1,7 +1,7 @@
 //! Who may order what.
 
 ghost use Rattle.std.specs.Prelude.{◌≡◌, ℕ, List, IfOk};
-ghost use Rattle.client_service.specs.declared.permit.Unheard.TheVariants.{Memory};
+ghost use Rattle.client_service.specs.declared.permit.DropReason.TheVariants.{Memory};
 ghost use Rattle.dhcp6_pd.specs.declared.message.ClientMessage.{ClientMessage as MessageValue};
 ghost use Rattle.journal_lines.specs.declared.line.Journal.{Journal};
 ghost use Rattle.client_service.specs.declared.permit.Permit.{Permit as PermitValue};
@@ -16,14 +16,14 @@ use thiserror::Error;
 #[derive(Clone, Copy, Debug, PartialEq, Eq)]
 pub enum Permit {
     /// It is ordered of the book, or offered.
-    Ordered,
+    Allowed,
     /// Its client is told NoPrefixAvail, and nothing is ordered.
     Denied,
 }
 
 /// Why a message isn't heard.
 #[derive(Clone, Copy, Debug, PartialEq, Eq, Error)]
-pub enum Unheard {
+pub enum DropReason {
     /// Its client sends too many.
     #[error("too many messages of one client")]
     TooMany,
@@ -44,17 +44,17 @@ pub trait Admission {
         book: &Book,
         now: Reading,
         message: &ClientMessage,
-    ) -> Result<Vec<Permit>, Unheard>
+    ) -> Result<Vec<Permit>, DropReason>
         ensures { IfOk result (λ permits. lets self.old book.now now message.now permits.items) };
 
     /// Notes what became of the message that it was asked about last: the book has the lines that its orders added.
-    fn note(&mut self, book: &Book, message: &ClientMessage);
+    fn record_outcome(&mut self, book: &Book, message: &ClientMessage);
 }
 
-impl From<AllocError> for Unheard {
+impl From<AllocError> for DropReason {
     ghost from_gives = { λ _ e. e ≡ Memory };
 
-    fn from(_error: AllocError) -> Unheard {
-        Unheard::Memory
+    fn from(_error: AllocError) -> DropReason {
+        DropReason::Memory
     }
 }

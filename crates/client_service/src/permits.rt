@@ -11,6 +11,6 @@ pub(crate) fn permit_at(permits: &[Permit], place: usize) -> Permit
 {
     match permits.get(place) {
         Some(permit) => *permit,
-        None => Permit::Ordered,
+        None => Permit::Allowed,
     }
 }

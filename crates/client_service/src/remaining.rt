@@ -1,15 +1,15 @@
 //! What remains of a grant.
 
 ghost use Rattle.std.specs.Prelude.{◌≡◌, IfSome};
-ghost use Rattle.client_service.specs.Standing.{remaining, MayTellAgain};
+ghost use Rattle.client_service.specs.ReusableLeases.{remaining, MayReuse};
 
-use crate::grants::Granted;
-use crate::terms::RenewTerms;
+use crate::grants::GrantLine;
+use crate::terms::ReuseTerms;
 use lead_time::{Reading, own_end};
 
 /// The seconds that remain of a grant, whatever the clock did within the skew and however long the answer is under
 /// way within the transit.
-fn remaining(terms: &RenewTerms, granted: &Granted, now: Reading) -> u64
+fn remaining(terms: &ReuseTerms, granted: &GrantLine, now: Reading) -> u64
     ensures { result ≡ remaining terms.now granted.now.reading granted.now.valid now }
 {
     let end = own_end(granted.reading, granted.valid, terms.skew, terms.transit);
@@ -22,13 +22,13 @@ fn remaining(terms: &RenewTerms, granted: &Granted, now: Reading) -> u64
 
 /// The seconds for which a grant may be told again. None where it is too old, or where less remains of it than half of
 /// what would be granted now.
-pub(crate) fn told_for(
-    terms: &RenewTerms,
-    granted: &Granted,
+pub(crate) fn reuse_lifetime(
+    terms: &ReuseTerms,
+    granted: &GrantLine,
     now: Reading,
     anew: u32,
 ) -> Option<u32>
-    ensures { IfSome result (MayTellAgain terms.now granted.now.reading granted.now.valid now anew) }
+    ensures { IfSome result (MayReuse terms.now granted.now.reading granted.now.valid now anew) }
 {
     let age = now
         .milliseconds()

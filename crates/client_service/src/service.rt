@@ -6,16 +6,16 @@ ghost use Rattle.order_book.specs.Answer.{IsRequest};
 ghost use Rattle.locked_book.specs.declared.receipt.Receipt.{Receipt as ReceiptValue};
 ghost use Rattle.client_service.specs.Serving.{IsOrderServed, IsOfferMade, IsSeizableFound, IsRecalled};
 
-use crate::standing::Standing;
-use crate::terms::RenewTerms;
+use crate::reusable_lease::ReusableLease;
+use crate::terms::ReuseTerms;
 use lead_time::Reading;
 use locked_book::{Receipt, ServeError};
 use order_book::Order;
 use prefix_range::Prefix;
 
-/// A server's book, that takes orders by a pass: [`Alone`](crate::Alone) is a book that nobody else serves, and
-/// [`Shared`](crate::Shared) one behind a lock.
-pub trait Service {
+/// A server's book, that takes orders by a pass: [`ExclusiveService`](crate::ExclusiveService) is a book that nobody else serves, and
+/// [`SharedService`](crate::SharedService) one behind a lock.
+pub trait BookService {
     /// What orders are given by. It knows the receipts of those that were accepted.
     type Pass;
 
@@ -58,12 +58,12 @@ pub trait Service {
 
     /// Returns what an order's client has by a line of the journal that may be told again, or the order's first
     /// refusal; none where nothing is told again. It writes no line.
-    fn recall(
+    fn reusable_lease(
         &self,
         pass: &Self::Pass,
-        terms: &RenewTerms,
+        terms: &ReuseTerms,
         now: Reading,
         order: &Order,
-    ) -> Result<Option<Standing>, ServeError>
+    ) -> Result<Option<ReusableLease>, ServeError>
         ensures recalled { IsRecalled may_have terms.now now (receipts pass.now) order.now result };
 }

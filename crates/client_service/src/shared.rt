@@ -1,8 +1,8 @@
 //! A book behind a lock.
 
-use crate::service::Service;
-use crate::standing::Standing;
-use crate::terms::RenewTerms;
+use crate::reusable_lease::ReusableLease;
+use crate::service::BookService;
+use crate::terms::ReuseTerms;
 use lead_time::Reading;
 use locked_book::{BookName, Pass, Receipt, ServeError, SharedBook};
 use order_book::Order;
@@ -12,12 +12,12 @@ use std::sync::Wait;
 /// Serves a book behind a lock, by passes to it. Between two orders others may add lines: what is known of the journal
 /// is that it has the line of the pass's last receipt.
 #[derive(Drop)]
-pub struct Shared<'a, N: BookName, R: Wait> {
+pub struct SharedService<'a, N: BookName, R: Wait> {
     pub rt: &'a R,
     pub book: &'a SharedBook<N>,
 }
 
-impl<N: BookName, R: Wait> Service for Shared<'_, N, R> {
+impl<N: BookName, R: Wait> BookService for SharedService<'_, N, R> {
     type Pass = Pass<N>;
 
     ghost receipts = { λ p. p.receipts };
@@ -54,13 +54,13 @@ impl<N: BookName, R: Wait> Service for Shared<'_, N, R> {
     }
 
     /// Nothing is told again of a book that many share.
-    fn recall(
+    fn reusable_lease(
         &self,
         _pass: &Pass<N>,
-        _terms: &RenewTerms,
+        _terms: &ReuseTerms,
         _now: Reading,
         _order: &Order,
-    ) -> Result<Option<Standing>, ServeError> {
+    ) -> Result<Option<ReusableLease>, ServeError> {
         Ok(None)
     }
 }

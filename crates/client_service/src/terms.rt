@@ -4,7 +4,7 @@ use lead_time::{Skew, Transit};
 
 /// By what a grant is told again: how young it is, and how far clocks and answers may be off.
 #[derive(Clone, Copy, Debug, PartialEq, Eq)]
-pub struct RenewTerms {
+pub struct ReuseTerms {
     /// A grant of this age or more is never told again, in seconds: with 0 none is.
     pub floor: u32,
     /// The most by which the server's clock and true time differ.

@@ -6,7 +6,7 @@ use thiserror::Error;
 
 /// Why there is no answer.
 #[derive(Debug, Drop, Error)]
-pub(crate) enum Fault {
+pub(crate) enum DeskFault {
     #[error("{0}")]
     Usage(UsageError),
     #[error("{0}")]
@@ -19,25 +19,25 @@ pub(crate) enum Fault {
     Zone(String),
 }
 
-impl Fault {
+impl DeskFault {
     /// A growth was refused.
-    pub(crate) fn memory() -> Fault {
-        Fault::Desk(DeskError::Memory)
+    pub(crate) fn memory() -> DeskFault {
+        DeskFault::Desk(DeskError::Memory)
     }
 
     /// The system has no zone of this name.
-    pub(crate) fn zone(alloc: Global, name: &str) -> Fault {
+    pub(crate) fn zone(alloc: Global, name: &str) -> DeskFault {
         match format!(in alloc; "{name}") {
-            Ok(name) => Fault::Zone(name),
-            Err(_) => Fault::memory(),
+            Ok(name) => DeskFault::Zone(name),
+            Err(_) => DeskFault::memory(),
         }
     }
 
     /// What this path names can't be read.
-    pub(crate) fn at(alloc: Global, path: &str) -> Fault {
+    pub(crate) fn at(alloc: Global, path: &str) -> DeskFault {
         match format!(in alloc; "{path}") {
-            Ok(path) => Fault::Path(path),
-            Err(_) => Fault::memory(),
+            Ok(path) => DeskFault::Path(path),
+            Err(_) => DeskFault::memory(),
         }
     }
 }

@@ -9,9 +9,9 @@ mod over_input;
 mod writing;
 mod zones;
 
-use attribution_desk::{Order, Request, Source, UsageError, order_of};
-use desk_words::{AnswerForm, advice_of};
-use fault::Fault;
+use attribution_desk::{DeskRequest, InputSource, Invocation, UsageError, invocation_of};
+use desk_args::{AnswerForm, advice_of};
+use fault::DeskFault;
 use over_files::{FilesAsked, octets_of};
 use std::net::Net;
 use std::process::ExitCode;
@@ -37,23 +37,25 @@ fn usage_fault(error: io::Error) -> UsageError {
 fn answered_input(
     rt: &HostRuntime,
     handles: &(impl Threads + Wait + Sync),
-    request: &Request,
-) -> Result<u8, Fault> {
+    request: &DeskRequest,
+) -> Result<u8, DeskFault> {
     match request {
-        Request::Answer(command, AnswerForm::Plain) => over_input::answered(rt, handles, command),
-        Request::Answer(command, AnswerForm::Json) => over_input::answered_json(
+        DeskRequest::Answer(command, AnswerForm::Plain) => over_input::answered(
             rt, handles, command,
         ),
-        Request::Explain {
+        DeskRequest::Answer(command, AnswerForm::Json) => over_input::answered_json(
+            rt, handles, command,
+        ),
+        DeskRequest::Explain {
             skew,
             transit,
             telling,
         } => over_input::explained(rt, handles, *skew, *transit, telling),
-        Request::ExplainHolder(query, settings, telling) => {
+        DeskRequest::ExplainHolder(query, settings, telling) => {
             over_input::holder_explained(rt, handles, query, *settings, telling)
         }
         // (volumes are put together out of files alone)
-        Request::Join(_) => Err(Fault::Usage(UsageError::Usage)),
+        DeskRequest::Join(_) => Err(DeskFault::Usage(UsageError::Usage)),
     }
 }
 
@@ -61,25 +63,25 @@ fn answered_input(
 fn answered_files(
     rt: &HostRuntime,
     handles: &(impl Threads + Wait + Net + Sync),
-    request: &Request,
+    request: &DeskRequest,
     asked: &FilesAsked,
-) -> Result<u8, Fault> {
+) -> Result<u8, DeskFault> {
     match request {
-        Request::Answer(command, AnswerForm::Plain) => {
+        DeskRequest::Answer(command, AnswerForm::Plain) => {
             over_files::answered(rt, handles, command, asked)
         }
-        Request::Answer(command, AnswerForm::Json) => {
+        DeskRequest::Answer(command, AnswerForm::Json) => {
             over_files::answered_json(rt, handles, command, asked)
         }
-        Request::Explain {
+        DeskRequest::Explain {
             skew,
             transit,
             telling,
         } => over_files::explained(rt, handles, *skew, *transit, telling, asked),
-        Request::ExplainHolder(query, settings, telling) => {
+        DeskRequest::ExplainHolder(query, settings, telling) => {
             over_files::holder_explained(rt, handles, query, *settings, telling, asked)
         }
-        Request::Join(query) => over_files::joined(rt, handles, query, asked),
+        DeskRequest::Join(query) => over_files::joined(rt, handles, query, asked),
     }
 }
 
@@ -88,18 +90,18 @@ fn answered(
     rt: &HostRuntime,
     handles: &(impl Threads + Wait + Net + Sync),
     words: &[String],
-) -> Result<u8, Fault> {
-    let order = order_of(rt.alloc(), words).map_err(Fault::Usage)?;
+) -> Result<u8, DeskFault> {
+    let order = invocation_of(rt.alloc(), words).map_err(DeskFault::Usage)?;
     match &order.source {
-        Source::Input => answered_input(rt, handles, &order.request),
-        Source::Journals(paths) => {
+        InputSource::Input => answered_input(rt, handles, &order.request),
+        InputSource::Journals(paths) => {
             let asked = FilesAsked {
                 paths,
                 certificates: b"",
             };
             answered_files(rt, handles, &order.request, &asked)
         }
-        Source::Certified(paths, file) => {
+        InputSource::Certified(paths, file) => {
             let certificates = octets_of(rt, file)?;
             let asked = FilesAsked {
                 paths,
@@ -111,9 +113,9 @@ fn answered(
 }
 
 /// Says on standard error why there is no answer; of words that order nothing, what would do too.
-fn tell(rt: &HostRuntime, words: &[String], fault: &Fault) {
+fn tell(rt: &HostRuntime, words: &[String], fault: &DeskFault) {
     let _ = eprintln!(rt; "{fault}");
-    if let Fault::Usage(UsageError::Usage) = fault {
+    if let DeskFault::Usage(UsageError::Usage) = fault {
         if let Ok(advice) = advice_of(rt.alloc(), words) {
             let _ = eprintln!(rt; "{advice}");
         }

@@ -1,13 +1,13 @@
 //! Answering over the journals of files.
 
-use crate::fault::Fault;
+use crate::fault::DeskFault;
 use crate::writing::{write_json, write_out};
 use crate::zones::{style_of, zone_named};
-use archive_desk::{Question, Told, answer, failure};
+use archive_desk::{ArchiveQuestion, CommandOutput, answer, failure};
 use archive_files::FilesError;
 use attribution_desk::{Command, UsageError};
+use desk_args::{JoinQuery, ReportOptions, SettingsCheck};
 use desk_reports::{explain_files, holder_in_files};
-use desk_words::{JoinQuery, Settings, Telling};
 use join_desk::join_files;
 use journal_paths::{JournalPaths, PathError};
 use lead_time::{Skew, Transit};
@@ -26,17 +26,21 @@ pub(crate) struct FilesAsked<'a> {
 }
 
 /// What a command asks over files, with the certificates that it judges; `None` where it asks nothing of files.
-fn question_of<'a>(command: &Command, certificates: &'a [u8]) -> Option<Question<'a>> {
+fn question_of<'a>(command: &Command, certificates: &'a [u8]) -> Option<ArchiveQuestion<'a>> {
     match command {
-        Command::Who(query, settings) => Some(Question::Who(*query, *settings)),
-        Command::Find(query) => Some(Question::Find(*query)),
-        Command::Timeline => Some(Question::Timeline),
-        Command::Audit { skew, transit } => Some(Question::Audit(certificates, *skew, *transit)),
+        Command::Who(query, settings) => Some(ArchiveQuestion::Who(*query, *settings)),
+        Command::Find(query) => Some(ArchiveQuestion::Find(*query)),
+        Command::Timeline => Some(ArchiveQuestion::Timeline),
+        Command::Audit { skew, transit } => Some(ArchiveQuestion::Audit(
+            certificates,
+            *skew,
+            *transit,
+        )),
         Command::Batch {
             skew,
             transit,
             workers,
-        } => Some(Question::Batch(certificates, *skew, *transit, *workers)),
+        } => Some(ArchiveQuestion::Batch(certificates, *skew, *transit, *workers)),
         Command::Clocks => None,
     }
 }
@@ -46,12 +50,12 @@ fn files_at<'a>(
     rt: &'a HostRuntime,
     net: &impl Net,
     paths: &[&str],
-) -> Result<JournalPaths<'a>, Fault> {
+) -> Result<JournalPaths<'a>, DeskFault> {
     match JournalPaths::at(rt, net, paths) {
         Ok(files) => Ok(files),
         Err(PathError { word, .. }) => {
             let path = paths.get(word).copied().unwrap_or("");
-            Err(Fault::at(rt.alloc(), path))
+            Err(DeskFault::at(rt.alloc(), path))
         }
     }
 }
@@ -71,7 +75,7 @@ fn files_asked<'a>(
     rt: &'a HostRuntime,
     net: &impl Net,
     asked: &FilesAsked,
-) -> Result<JournalPaths<'a>, Fault> {
+) -> Result<JournalPaths<'a>, DeskFault> {
     let files = files_at(rt, net, asked.paths)?;
     warn_of_silent(rt, &files);
     Ok(files)
@@ -81,11 +85,11 @@ fn files_asked<'a>(
 fn told_or_why(
     rt: &HostRuntime,
     files: &JournalPaths,
-    told: Result<Told, FilesError>,
-) -> Result<Told, Fault> {
+    told: Result<CommandOutput, FilesError>,
+) -> Result<CommandOutput, DeskFault> {
     match told {
         Ok(told) => Ok(told),
-        Err(error) => failure(rt.alloc(), files.paths(), &error).map_err(|_| Fault::memory()),
+        Err(error) => failure(rt.alloc(), files.paths(), &error).map_err(|_| DeskFault::memory()),
     }
 }
 
@@ -95,9 +99,9 @@ fn answer_of(
     handles: &(impl Threads + Wait + Net + Sync),
     command: &Command,
     asked: &FilesAsked,
-) -> Result<Told, Fault> {
+) -> Result<CommandOutput, DeskFault> {
     let Some(question) = question_of(command, asked.certificates) else {
-        return Err(Fault::Usage(UsageError::Usage));
+        return Err(DeskFault::Usage(UsageError::Usage));
     };
     let files = files_asked(rt, handles, asked)?;
     let told = answer(handles, rt.alloc(), &files, files.paths(), &question);
@@ -110,7 +114,7 @@ pub(crate) fn answered(
     handles: &(impl Threads + Wait + Net + Sync),
     command: &Command,
     asked: &FilesAsked,
-) -> Result<u8, Fault> {
+) -> Result<u8, DeskFault> {
     let told = answer_of(rt, handles, command, asked)?;
     write_out(rt, &told)
 }
@@ -121,7 +125,7 @@ pub(crate) fn answered_json(
     handles: &(impl Threads + Wait + Net + Sync),
     command: &Command,
     asked: &FilesAsked,
-) -> Result<u8, Fault> {
+) -> Result<u8, DeskFault> {
     let told = answer_of(rt, handles, command, asked)?;
     write_json(rt, command, &told)
 }
@@ -132,9 +136,9 @@ pub(crate) fn explained(
     handles: &(impl Threads + Wait + Net + Sync),
     skew: Skew,
     transit: Transit,
-    telling: &Telling,
+    telling: &ReportOptions,
     asked: &FilesAsked,
-) -> Result<u8, Fault> {
+) -> Result<u8, DeskFault> {
     let zone = zone_named(rt, telling.zone)?;
     let files = files_asked(rt, handles, asked)?;
     let told = explain_files(
@@ -155,10 +159,10 @@ pub(crate) fn holder_explained(
     rt: &HostRuntime,
     handles: &(impl Threads + Wait + Net + Sync),
     query: &HolderQuery,
-    settings: Settings,
-    telling: &Telling,
+    settings: SettingsCheck,
+    telling: &ReportOptions,
     asked: &FilesAsked,
-) -> Result<u8, Fault> {
+) -> Result<u8, DeskFault> {
     let zone = zone_named(rt, telling.zone)?;
     let files = files_asked(rt, handles, asked)?;
     let style = style_of(telling, &zone);
@@ -180,16 +184,16 @@ pub(crate) fn joined(
     net: &impl Net,
     query: &JoinQuery,
     asked: &FilesAsked,
-) -> Result<u8, Fault> {
+) -> Result<u8, DeskFault> {
     let files = files_asked(rt, net, asked)?;
     let told = join_files(rt.alloc(), &files, files.paths(), query);
     write_out(rt, &told_or_why(rt, &files, told)?)
 }
 
 /// The octets of a file. `Path` where it can't be read.
-pub(crate) fn octets_of(rt: &HostRuntime, path: &str) -> Result<Vec<u8>, Fault> {
+pub(crate) fn octets_of(rt: &HostRuntime, path: &str) -> Result<Vec<u8>, DeskFault> {
     match fs::read(rt, Path::new(path)) {
         Ok(octets) => Ok(octets),
-        Err(_) => Err(Fault::at(rt.alloc(), path)),
+        Err(_) => Err(DeskFault::at(rt.alloc(), path)),
     }
 }

@@ -4,15 +4,15 @@ ghost use Rattle.std.specs.Prelude.{IfOk};
 ghost use Rattle.std.specs.Result.{ForOk};
 ghost use Rattle.journal_text.specs.Closed.{IsClosed};
 
-use crate::fault::Fault;
+use crate::fault::DeskFault;
 use crate::writing::{write_json, write_out};
 use crate::zones::{style_of, zone_named};
-use archive_desk::Told;
+use archive_desk::CommandOutput;
 use attribution_desk::{
     Command, DeskError, Intake, PairIntake, ReadInput, ReadPair, Watched, run, take_all,
 };
+use desk_args::{ReportOptions, SettingsCheck};
 use desk_reports::{explain_told, holder_told};
-use desk_words::{Settings, Telling};
 use journal_text::{text_gives_what_it_spells, written_is_closed};
 use lead_time::{Skew, Transit};
 use plain_search::HolderQuery;
@@ -24,10 +24,12 @@ pub(crate) fn answered(
     rt: &HostRuntime,
     threads: &(impl Threads + Wait + Sync),
     command: &Command,
-) -> Result<u8, Fault> {
+) -> Result<u8, DeskFault> {
     let mut reader = Watched::new(rt.stdin());
     let mut writer = Watched::new(rt.stdout());
-    let outcome = run(threads, rt.alloc(), command, &mut reader, &mut writer).map_err(Fault::Desk)?;
+    let outcome = run(threads, rt.alloc(), command, &mut reader, &mut writer).map_err(
+        DeskFault::Desk,
+    )?;
     // (the answer is written: it stands, whether anybody reads a warning or not)
     let _ = rt.stderr().write_all(&outcome.warnings);
     Ok(outcome.status)
@@ -38,11 +40,13 @@ pub(crate) fn answered_json(
     rt: &HostRuntime,
     threads: &(impl Threads + Wait + Sync),
     command: &Command,
-) -> Result<u8, Fault> {
+) -> Result<u8, DeskFault> {
     let mut reader = Watched::new(rt.stdin());
     let mut writer = Watched::new(Vec::new(rt.alloc()));
-    let outcome = run(threads, rt.alloc(), command, &mut reader, &mut writer).map_err(Fault::Desk)?;
-    let told = Told {
+    let outcome = run(threads, rt.alloc(), command, &mut reader, &mut writer).map_err(
+        DeskFault::Desk,
+    )?;
+    let told = CommandOutput {
         text: writer.into_device(),
         status: outcome.status,
         notes: outcome.warnings,
@@ -85,10 +89,10 @@ pub(crate) fn explained(
     threads: &(impl Threads + Wait + Sync),
     skew: Skew,
     transit: Transit,
-    telling: &Telling,
-) -> Result<u8, Fault> {
+    telling: &ReportOptions,
+) -> Result<u8, DeskFault> {
     let zone = zone_named(rt, telling.zone)?;
-    let input = input_of(rt, threads).map_err(Fault::Desk)?;
+    let input = input_of(rt, threads).map_err(DeskFault::Desk)?;
     let pair = ReadPair {
         primary: input.primary,
         secondary: input.secondary,
@@ -102,7 +106,7 @@ pub(crate) fn explained(
         transit,
         &style_of(telling, &zone),
     );
-    write_out(rt, &told.map_err(Fault::Desk)?)
+    write_out(rt, &told.map_err(DeskFault::Desk)?)
 }
 
 /// Who held a prefix, and a report on that.
@@ -110,12 +114,12 @@ pub(crate) fn holder_explained(
     rt: &HostRuntime,
     threads: &(impl Threads + Wait + Sync),
     query: &HolderQuery,
-    settings: Settings,
-    telling: &Telling,
-) -> Result<u8, Fault> {
+    settings: SettingsCheck,
+    telling: &ReportOptions,
+) -> Result<u8, DeskFault> {
     let zone = zone_named(rt, telling.zone)?;
-    let pair = pair_of(rt, threads).map_err(Fault::Desk)?;
+    let pair = pair_of(rt, threads).map_err(DeskFault::Desk)?;
     let style = style_of(telling, &zone);
     let told = holder_told(threads, rt.alloc(), &pair, query, settings, &style);
-    write_out(rt, &told.map_err(Fault::Desk)?)
+    write_out(rt, &told.map_err(DeskFault::Desk)?)
 }

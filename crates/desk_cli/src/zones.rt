@@ -1,8 +1,8 @@
 //! Time zones, by the system's zone files.
 
-use crate::fault::Fault;
-use desk_reports::Style;
-use desk_words::Telling;
+use crate::fault::DeskFault;
+use desk_args::ReportOptions;
+use desk_reports::ReportStyle;
 use std::alloc::Global;
 use std::fs;
 use std::path::Path;
@@ -20,35 +20,38 @@ fn is_name(name: &str) -> bool {
 }
 
 /// The path of a zone's file.
-fn path_of(alloc: Global, name: &str) -> Result<String, Fault> {
+fn path_of(alloc: Global, name: &str) -> Result<String, DeskFault> {
     match format!(in alloc; "{FOLDER}{name}") {
         Ok(path) => Ok(path),
-        Err(_) => Err(Fault::memory()),
+        Err(_) => Err(DeskFault::memory()),
     }
 }
 
 /// The zone of this name, if one is named. `Zone` where the system has no such zone.
-pub(crate) fn zone_named(rt: &HostRuntime, name: Option<&str>) -> Result<Option<ZoneFile>, Fault> {
+pub(crate) fn zone_named(
+    rt: &HostRuntime,
+    name: Option<&str>,
+) -> Result<Option<ZoneFile>, DeskFault> {
     let Some(name) = name else {
         return Ok(None);
     };
     if !is_name(name) {
-        return Err(Fault::zone(rt.alloc(), name));
+        return Err(DeskFault::zone(rt.alloc(), name));
     }
     let path = path_of(rt.alloc(), name)?;
     let Ok(octets) = fs::read(rt, Path::new(path.as_str())) else {
-        return Err(Fault::zone(rt.alloc(), name));
+        return Err(DeskFault::zone(rt.alloc(), name));
     };
     match ZoneFile::read(rt.alloc(), &octets) {
         Ok(zone) => Ok(Some(zone)),
-        Err(ZoneError::Memory) => Err(Fault::memory()),
-        Err(ZoneError::NoZone) => Err(Fault::zone(rt.alloc(), name)),
+        Err(ZoneError::Memory) => Err(DeskFault::memory()),
+        Err(ZoneError::NoZone) => Err(DeskFault::zone(rt.alloc(), name)),
     }
 }
 
 /// How a report is told, by the zone that was found.
-pub(crate) fn style_of<'a>(telling: &Telling, zone: &'a Option<ZoneFile>) -> Style<'a> {
-    Style {
+pub(crate) fn style_of<'a>(telling: &ReportOptions, zone: &'a Option<ZoneFile>) -> ReportStyle<'a> {
+    ReportStyle {
         form: telling.form,
         zone: zone.as_ref(),
     }

@@ -10,16 +10,16 @@ use Rattle.certificate.specs.declared.error.CertificateError.TheVariants.{Fault}
 use Rattle.attribution.specs.declared.verdict.Verdict.{Verdict as VerdictValue}
 use Rattle.attribution.specs.declared.verdict.Verdict.TheVariants.{Journal, Certificate}
 use Rattle.attribution.specs.FirstRefusal.{IsVerdict}
-use Rattle.pair_ruling.specs.declared.ruling.Ruling.TheVariants.{Verdict}
-use Rattle.pair_ruling.specs.Ruled.{IsRuledOut, IsFit}
+use Rattle.pair_judgement.specs.declared.judging.Judgement.TheVariants.{Verdict}
+use Rattle.pair_judgement.specs.PairJudgements.{IsRuledOut, IsFit}
 use Rattle.evidence_report.specs.declared.report.Report.{Report}
 use Rattle.evidence_report.specs.Reports.{IsReport}
 use Rattle.evidence_report.specs.Failures.{IsFailureOf}
-use Rattle.report_words.specs.declared.document.Explanation.{Explanation}
+use Rattle.report_document.specs.declared.document.Explanation.{Explanation}
 
 -- the verdict on the certificate, all that this shows, and the comparison that a refusal rests on
-abbrev pub IsShown : Journals → (skew transit : ℕ) → Claim → Explanation → Type 0
-IsShown js skew transit claim shown =
+abbrev pub IsFullExplanation : Journals → (skew transit : ℕ) → Claim → Explanation → Type 0
+IsFullExplanation js skew transit claim shown =
     (v : VerdictValue) × (r : Report) × (shown.ruling ≡ Verdict v) × IsVerdict js skew transit claim v
     × (shown.report ≡ Some r) × IsReport js skew transit claim r
     × IsFailureOf js skew transit claim v shown.failure
@@ -32,7 +32,7 @@ IsBare shown = (shown.report ≡ None) × (shown.failure ≡ None)
 abbrev pub IsExplained : Lines → Lines → (skew transit : ℕ) → Claim → Explanation → Type 0
 IsExplained a b skew transit claim shown =
     (IsRuledOut a b skew shown.ruling × IsBare shown)
-    ⊎ (IsFit a b skew × IsShown (journals_of a b) skew transit claim shown)
+    ⊎ (IsFit a b skew × IsFullExplanation (journals_of a b) skew transit claim shown)
 
 -- the fault of a text before all of that
 abbrev pub IsFaulty : VerdictValue → Explanation → Type 0

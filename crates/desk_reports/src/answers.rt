@@ -1,6 +1,6 @@
 //! An answer of the desk as JSON.
 
-use archive_desk::Told;
+use archive_desk::CommandOutput;
 use attribution_desk::Command;
 use report_data::{Object, text_of, time_of};
 use serde_json::Value;
@@ -9,7 +9,7 @@ use text_fields::number_of;
 
 /// What the lines of an answer are, in their order.
 #[derive(Drop)]
-struct Parts {
+struct AnswerParts {
     /// Lines that say one thing, as `accepted`, `none` or `refused ..`.
     lines: Vec<Value>,
     holder: Value,
@@ -21,9 +21,9 @@ struct Parts {
     access: Vec<Value>,
 }
 
-impl Parts {
-    fn new(alloc: Global) -> Parts {
-        Parts {
+impl AnswerParts {
+    fn new(alloc: Global) -> AnswerParts {
+        AnswerParts {
             lines: Vec::new(alloc),
             holder: Value::Null,
             from: Value::Null,
@@ -109,13 +109,17 @@ fn name_of(command: &Command) -> &'static str {
 
 /// Writes what is told of a command as one JSON object, and a line feed: the lines that say one thing, who held the
 /// prefix and when, the certificates, the access records, and the notes. `AllocError` where a growth was refused.
-pub fn answer_data(alloc: Global, command: &Command, told: &Told) -> Result<Vec<u8>, AllocError> {
-    let mut parts = Parts::new(alloc);
+pub fn answer_data(
+    alloc: Global,
+    command: &Command,
+    told: &CommandOutput,
+) -> Result<Vec<u8>, AllocError> {
+    let mut parts = AnswerParts::new(alloc);
     let text = told.text.strip_suffix(b"\n").unwrap_or(&told.text);
     for line in text.split(|octet| *octet == b'\n') {
         parts.take(alloc, line)?;
     }
-    let Parts {
+    let AnswerParts {
         lines,
         holder,
         from,

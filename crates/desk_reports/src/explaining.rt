@@ -3,10 +3,10 @@
 ghost use Rattle.std.specs.Prelude.{◌≡◌, IfOk, IfErr, None};
 ghost use Rattle.std.specs.Result.{ForOk};
 ghost use Rattle.journal_text.specs.Closed.{IsClosed};
-ghost use Rattle.desk_reports.specs.Explaining.{IsShown, IsExplained, IsExplainedOfRead};
+ghost use Rattle.desk_reports.specs.Explaining.{IsFullExplanation, IsExplained, IsExplainedOfRead};
 
 use attribution::Verdict;
-use attribution_desk::{Case, DeskError};
+use attribution_desk::{DeskError, IndexedPair};
 use auditor::audit;
 use binding_rules::Role;
 use causal_order::Certificate;
@@ -15,13 +15,13 @@ use evidence_report::{failure_of, report_on};
 use journal_lines::{Journal, JournalFault};
 use lead_time::{Skew, Transit};
 use line_index::LineIndex;
-use pair_ruling::Ruling;
-use report_words::Explanation;
+use pair_judgement::Judgement;
+use report_document::Explanation;
 use std::alloc::Global;
 use std::thread::Threads;
 
 /// A ruling before anything of the certificate is looked at.
-pub fn bare<'a>(ruling: Ruling) -> Explanation<'a>
+pub fn bare<'a>(ruling: Judgement) -> Explanation<'a>
     ensures ruling { result.ruling ≡ ruling }
     ensures report { result.report ≡ None }
     ensures failure { result.failure ≡ None }
@@ -41,7 +41,7 @@ fn explain_indexed<'a>(
     skew: Skew,
     transit: Transit,
 ) -> Result<Explanation<'a>, DeskError>
-    ensures shown { IfOk result (IsShown index.now.journals skew transit claim.entry.now) }
+    ensures shown { IfOk result (IsFullExplanation index.now.journals skew transit claim.entry.now) }
     ensures refused { IfErr result (λ e. e ≡ DeskError.Memory) }
 {
     let verdict = audit(index, claim, skew, transit);
@@ -50,7 +50,7 @@ fn explain_indexed<'a>(
     };
     let failure = failure_of(index, &report, &verdict);
     Ok(Explanation {
-        ruling: Ruling::Verdict(verdict),
+        ruling: Judgement::Verdict(verdict),
         report: Some(report),
         failure,
     })
@@ -72,10 +72,10 @@ pub fn explain_journals<'a>(
     ensures explained { IfOk result (IsExplained primary.now secondary.now skew transit claim.entry.now) }
     ensures refused { IfErr result (λ e. e ≡ DeskError.Memory) }
 {
-    let case = Case::of(rt, alloc, primary, secondary, skew)?;
+    let case = IndexedPair::of(rt, alloc, primary, secondary, skew)?;
     match &case {
-        Case::Open(index) => explain_indexed(alloc, index, claim, skew, transit),
-        Case::Refused(ruling) => Ok(bare(*ruling)),
+        IndexedPair::Open(index) => explain_indexed(alloc, index, claim, skew, transit),
+        IndexedPair::Refused(ruling) => Ok(bare(*ruling)),
     }
 }
 
@@ -98,16 +98,19 @@ pub fn explain_read<'a>(
 {
     let primary = match a {
         Ok(journal) => journal,
-        Err(fault) => return Ok(bare(Ruling::Verdict(Verdict::Journal(Role::Primary, *fault)))),
+        Err(fault) => return Ok(bare(Judgement::Verdict(Verdict::Journal(Role::Primary, *fault)))),
     };
     let secondary = match b {
         Ok(journal) => journal,
-        Err(fault) => return Ok(bare(Ruling::Verdict(Verdict::Journal(Role::Secondary, *fault)))),
+        Err(fault) => return Ok(bare(Judgement::Verdict(Verdict::Journal(
+            Role::Secondary,
+            *fault,
+        )))),
     };
     match claim {
         Ok(claim) => explain_journals(rt, alloc, primary, secondary, claim, skew, transit),
         Err(CertificateError::Fault(fault)) => {
-            Ok(bare(Ruling::Verdict(Verdict::Certificate(*fault))))
+            Ok(bare(Judgement::Verdict(Verdict::Certificate(*fault))))
         }
         Err(CertificateError::Memory) => Err(DeskError::Memory),
     }

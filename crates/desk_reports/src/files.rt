@@ -6,21 +6,23 @@ ghost use Rattle.journal_text.specs.Closed.{IsClosed};
 ghost use Rattle.archive_files.specs.Showing.{AreClosed};
 
 use crate::holders::holder_told;
-use crate::telling::{Style, explain_told};
-use archive_desk::{Bounds, Told, expect_read, lack_line, passed_over, push_journals, push_lack};
+use crate::telling::{ReportStyle, explain_told};
+use archive_desk::{
+    CommandOutput, TimingBounds, expect_read, gap_line, passed_over, push_gap_name, push_journals,
+};
 use archive_files::{
-    Agreement, FilesError, JournalFiles, PassedOver, Shown, catalogue_of, shown_at,
+    FilesError, JournalFiles, SettingsScope, ShownJournals, SkippedFile, catalogue_of, shown_at,
 };
 use attribution::Verdict;
 use attribution_desk::{DeskError, ReadPair};
 use binding_rules::Role;
 use causal_order::CertificateFault;
 use certificate::CertificateError;
-use desk_words::Settings;
-use journal_archive::{Archive, Lack, Pair, ShownPair};
+use desk_args::SettingsCheck;
+use journal_archive::{Archive, CoverageGap, PairJournals, VolumePair};
 use journal_lines::Journal;
 use lead_time::{Skew, Transit};
-use pair_ruling::{Ruling, ruling_line};
+use pair_judgement::{Judgement, judgement_line};
 use plain_search::HolderQuery;
 use std::alloc::{AllocError, Global};
 use std::path::PathBuf;
@@ -31,14 +33,14 @@ fn lacking(
     alloc: Global,
     names: &[PathBuf],
     side: Role,
-    lack: &Lack,
-    bounds: &Bounds,
-) -> Result<Told, AllocError> {
+    lack: &CoverageGap,
+    bounds: &TimingBounds,
+) -> Result<CommandOutput, AllocError> {
     let mut text = Vec::new(alloc);
-    push_lack(&mut text, side, lack)?;
+    push_gap_name(&mut text, side, lack)?;
     text.push(b'\n')?;
-    let notes = lack_line(alloc, names, side, lack, bounds)?;
-    Ok(Told {
+    let notes = gap_line(alloc, names, side, lack, bounds)?;
+    Ok(CommandOutput {
         text,
         status: 1,
         notes,
@@ -52,7 +54,7 @@ fn has_lines(journal: &Journal) -> bool
 }
 
 /// The journals that two volumes show. `Changed` where one of them has no line any longer.
-fn read_pair(pair: &Pair, shown: ShownPair) -> Result<ReadPair, FilesError>
+fn read_pair(pair: &VolumePair, shown: PairJournals) -> Result<ReadPair, FilesError>
     requires { AreClosed shown }
     ensures primary { IfOk result (λ read. ForOk read.primary (λ journal. IsClosed journal.lines)) }
     ensures secondary { IfOk result (λ read. ForOk read.secondary (λ journal. IsClosed journal.lines)) }
@@ -74,9 +76,9 @@ fn read_pair(pair: &Pair, shown: ShownPair) -> Result<ReadPair, FilesError>
 }
 
 /// What is told of a text that is no certificate: the ruling's line.
-fn faulty_told(alloc: Global, fault: CertificateFault) -> Result<Told, AllocError> {
-    let text = ruling_line(alloc, &Ruling::Verdict(Verdict::Certificate(fault)))?;
-    Ok(Told {
+fn faulty_told(alloc: Global, fault: CertificateFault) -> Result<CommandOutput, AllocError> {
+    let text = judgement_line(alloc, &Judgement::Verdict(Verdict::Certificate(fault)))?;
+    Ok(CommandOutput {
         text,
         status: 1,
         notes: Vec::new(alloc),
@@ -87,16 +89,16 @@ fn faulty_told(alloc: Global, fault: CertificateFault) -> Result<Told, AllocErro
 fn noted(
     alloc: Global,
     names: &[PathBuf],
-    pair: &Pair,
-    told: Result<Told, DeskError>,
-) -> Result<Told, FilesError> {
+    pair: &VolumePair,
+    told: Result<CommandOutput, DeskError>,
+) -> Result<CommandOutput, FilesError> {
     let Ok(told) = told else {
         return Err(FilesError::Memory);
     };
     let mut notes = Vec::new(alloc);
     push_journals(&mut notes, names, pair)?;
     notes.extend_from_slice(&told.notes)?;
-    Ok(Told {
+    Ok(CommandOutput {
         text: told.text,
         status: told.status,
         notes,
@@ -112,9 +114,9 @@ fn explain_over<F: JournalFiles>(
     names: &[PathBuf],
     archive: &Archive,
     certificate: &[u8],
-    bounds: &Bounds,
-    style: &Style,
-) -> Result<Told, FilesError> {
+    bounds: &TimingBounds,
+    style: &ReportStyle,
+) -> Result<CommandOutput, FilesError> {
     let claim = match certificate::read(alloc, certificate) {
         Ok(claim) => claim,
         Err(CertificateError::Fault(fault)) => {
@@ -125,7 +127,7 @@ fn explain_over<F: JournalFiles>(
     };
     let moment = claim.from.milliseconds();
     match shown_at(alloc, files, archive, moment, bounds.skew, bounds.transit)? {
-        Shown::Journals(pair, shown) => {
+        ShownJournals::Journals(pair, shown) => {
             let read = read_pair(&pair, shown)?;
             let told = explain_told(
                 rt,
@@ -138,7 +140,7 @@ fn explain_over<F: JournalFiles>(
             );
             noted(alloc, names, &pair, told)
         }
-        Shown::Lacking(side, lack) => {
+        ShownJournals::Lacking(side, lack) => {
             let told = lacking(alloc, names, side, &lack, bounds)?;
             Ok(told)
         }
@@ -153,21 +155,21 @@ fn holder_over<F: JournalFiles>(
     names: &[PathBuf],
     archive: &Archive,
     query: &HolderQuery,
-    settings: Settings,
-    style: &Style,
-) -> Result<Told, FilesError> {
-    let bounds = Bounds {
+    settings: SettingsCheck,
+    style: &ReportStyle,
+) -> Result<CommandOutput, FilesError> {
+    let bounds = TimingBounds {
         skew: query.skew,
         transit: query.transit,
     };
     let moment = query.at.milliseconds();
     match shown_at(alloc, files, archive, moment, query.skew, query.transit)? {
-        Shown::Journals(pair, shown) => {
+        ShownJournals::Journals(pair, shown) => {
             let read = read_pair(&pair, shown)?;
             let told = holder_told(rt, alloc, &read, query, settings, style);
             noted(alloc, names, &pair, told)
         }
-        Shown::Lacking(side, lack) => {
+        ShownJournals::Lacking(side, lack) => {
             let told = lacking(alloc, names, side, &lack, &bounds)?;
             Ok(told)
         }
@@ -178,12 +180,12 @@ fn holder_over<F: JournalFiles>(
 fn behind_passed(
     alloc: Global,
     names: &[PathBuf],
-    passed: &[PassedOver],
-    told: Told,
-) -> Result<Told, FilesError> {
+    passed: &[SkippedFile],
+    told: CommandOutput,
+) -> Result<CommandOutput, FilesError> {
     let mut notes = passed_over(alloc, names, passed)?;
     notes.extend_from_slice(&told.notes)?;
-    Ok(Told {
+    Ok(CommandOutput {
         text: told.text,
         status: told.status,
         notes,
@@ -199,10 +201,10 @@ pub fn explain_files<F: JournalFiles>(
     certificate: &[u8],
     skew: Skew,
     transit: Transit,
-    style: &Style,
-) -> Result<Told, FilesError> {
-    let bounds = Bounds { skew, transit };
-    let catalogue = catalogue_of(alloc, files, Agreement::OfEach)?;
+    style: &ReportStyle,
+) -> Result<CommandOutput, FilesError> {
+    let bounds = TimingBounds { skew, transit };
+    let catalogue = catalogue_of(alloc, files, SettingsScope::OfEach)?;
     expect_read(names, &catalogue.passed_over)?;
     let told = explain_over(
         rt,
@@ -224,12 +226,12 @@ pub fn holder_in_files<F: JournalFiles>(
     files: &F,
     names: &[PathBuf],
     query: &HolderQuery,
-    settings: Settings,
-    style: &Style,
-) -> Result<Told, FilesError> {
+    settings: SettingsCheck,
+    style: &ReportStyle,
+) -> Result<CommandOutput, FilesError> {
     let agreement = match settings {
-        Settings::MustAgree => Agreement::OfBoth,
-        Settings::MayDiffer => Agreement::OfEach,
+        SettingsCheck::MustAgree => SettingsScope::OfBoth,
+        SettingsCheck::MayDiffer => SettingsScope::OfEach,
     };
     let catalogue = catalogue_of(alloc, files, agreement)?;
     expect_read(names, &catalogue.passed_over)?;

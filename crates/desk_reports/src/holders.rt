@@ -4,15 +4,15 @@ ghost use Rattle.std.specs.Result.{ForOk};
 ghost use Rattle.journal_text.specs.Closed.{IsClosed};
 
 use crate::explaining::explain_read;
-use crate::telling::{Style, Subject, page_told, written};
+use crate::telling::{ReportStyle, ReportSubject, page_told, written};
 use crate::why_data::why_data;
-use archive_desk::Told;
-use attribution_desk::{Case, DeskError, ReadPair, Search, Searched, search_pair};
-use desk_words::{ReportForm, Settings};
-use near_leases::{NearLease, WhyNobody, near_leases, why_nobody};
+use archive_desk::CommandOutput;
+use attribution_desk::{DeskError, IndexedPair, ReadPair, Search, SearchAnswer, search_pair};
+use candidate_leases::{CandidateLease, NoHolderReason, candidate_leases, no_holder_reason};
+use desk_args::{ReportForm, SettingsCheck};
 use plain_search::HolderQuery;
-use report_render::{Spelling, passages_of, text_of};
-use report_words::why_blocks;
+use report_document::why_blocks;
+use report_render::{RenderedText, passages_of, text_of};
 use std::alloc::{AllocError, Global};
 use std::thread::Threads;
 
@@ -30,9 +30,9 @@ fn certificate_in(line: &[u8]) -> &[u8] {
 
 /// Why a search names nobody, with the delegations near the moment.
 #[derive(Drop)]
-pub struct Reasons {
-    pub why: WhyNobody,
-    pub leases: Vec<NearLease>,
+pub struct NoHolderReport {
+    pub why: NoHolderReason,
+    pub leases: Vec<CandidateLease>,
 }
 
 /// Why a search names nobody over two journals that fit; nothing where they don't.
@@ -41,20 +41,20 @@ fn reasons_over(
     alloc: Global,
     pair: &ReadPair,
     query: &HolderQuery,
-) -> Result<Option<Reasons>, DeskError>
+) -> Result<Option<NoHolderReport>, DeskError>
     requires primary_closed { ForOk pair.now.primary (λ journal. IsClosed journal.lines) }
     requires secondary_closed { ForOk pair.now.secondary (λ journal. IsClosed journal.lines) }
 {
     let (Ok(primary), Ok(secondary)) = (&pair.primary, &pair.secondary) else {
         return Ok(None);
     };
-    match &Case::of(rt, alloc, primary, secondary, query.skew)? {
-        Case::Open(index) => {
-            let leases = near_leases(alloc, index, query)?;
-            let why = why_nobody(index, &leases, query);
-            Ok(Some(Reasons { why, leases }))
+    match &IndexedPair::of(rt, alloc, primary, secondary, query.skew)? {
+        IndexedPair::Open(index) => {
+            let leases = candidate_leases(alloc, index, query)?;
+            let why = no_holder_reason(index, &leases, query);
+            Ok(Some(NoHolderReport { why, leases }))
         }
-        Case::Refused(_) => Ok(None),
+        IndexedPair::Refused(_) => Ok(None),
     }
 }
 
@@ -63,15 +63,15 @@ fn spelled_reasons(
     alloc: Global,
     query: &HolderQuery,
     line: Vec<u8>,
-    reasons: &Option<Reasons>,
-    style: &Style,
-) -> Result<Spelling, AllocError> {
+    reasons: &Option<NoHolderReport>,
+    style: &ReportStyle,
+) -> Result<RenderedText, AllocError> {
     let blocks = match reasons {
-        Some(Reasons { why, leases }) => why_blocks(alloc, query, why, leases)?,
+        Some(NoHolderReport { why, leases }) => why_blocks(alloc, query, why, leases)?,
         None => Vec::new(alloc),
     };
     let passages = passages_of(alloc, &blocks, style.zone)?;
-    Ok(Spelling { line, passages })
+    Ok(RenderedText { line, passages })
 }
 
 /// A report on a search that names nobody, in the form that is asked for.
@@ -80,8 +80,8 @@ fn why_written(
     pair: &ReadPair,
     query: &HolderQuery,
     line: Vec<u8>,
-    reasons: &Option<Reasons>,
-    style: &Style,
+    reasons: &Option<NoHolderReport>,
+    style: &ReportStyle,
 ) -> Result<Vec<u8>, DeskError> {
     if style.form == ReportForm::Json {
         let data = why_data(alloc, query, &line, reasons)?;
@@ -89,7 +89,7 @@ fn why_written(
     }
     let spelling = spelled_reasons(alloc, query, line, reasons, style)?;
     if style.form == ReportForm::Page {
-        let subject = Subject {
+        let subject = ReportSubject {
             pair,
             certificate: b"",
             skew: query.skew,
@@ -107,16 +107,16 @@ fn why_told(
     alloc: Global,
     pair: &ReadPair,
     query: &HolderQuery,
-    found: Searched,
-    style: &Style,
-) -> Result<Told, DeskError>
+    found: SearchAnswer,
+    style: &ReportStyle,
+) -> Result<CommandOutput, DeskError>
     requires primary_closed { ForOk pair.now.primary (λ journal. IsClosed journal.lines) }
     requires secondary_closed { ForOk pair.now.secondary (λ journal. IsClosed journal.lines) }
 {
-    let Searched { line, status, note } = found;
+    let SearchAnswer { line, status, note } = found;
     let reasons = reasons_over(rt, alloc, pair, query)?;
     let text = why_written(alloc, pair, query, line, &reasons, style)?;
-    Ok(Told {
+    Ok(CommandOutput {
         text,
         status,
         notes: note,
@@ -130,9 +130,9 @@ pub fn holder_told(
     alloc: Global,
     pair: &ReadPair,
     query: &HolderQuery,
-    settings: Settings,
-    style: &Style,
-) -> Result<Told, DeskError>
+    settings: SettingsCheck,
+    style: &ReportStyle,
+) -> Result<CommandOutput, DeskError>
     requires primary_closed { ForOk pair.now.primary (λ journal. IsClosed journal.lines) }
     requires secondary_closed { ForOk pair.now.secondary (λ journal. IsClosed journal.lines) }
 {
@@ -151,14 +151,14 @@ pub fn holder_told(
         query.skew,
         query.transit,
     )?;
-    let subject = Subject {
+    let subject = ReportSubject {
         pair,
         certificate,
         skew: query.skew,
         transit: query.transit,
     };
     let text = written(alloc, &explanation, &subject, style)?;
-    Ok(Told {
+    Ok(CommandOutput {
         text,
         status: found.status,
         notes: found.note,

@@ -21,4 +21,4 @@ pub use answers::answer_data;
 pub use explaining::{explain_journals, explain_read};
 pub use files::{explain_files, holder_in_files};
 pub use holders::holder_told;
-pub use telling::{Style, explain_told};
+pub use telling::{ReportStyle, explain_told};

@@ -4,23 +4,25 @@ ghost use Rattle.std.specs.Result.{ForOk};
 ghost use Rattle.journal_text.specs.Closed.{IsClosed};
 
 use crate::explaining::explain_read;
-use archive_desk::Told;
+use archive_desk::CommandOutput;
 use attribution_desk::{DeskError, ReadPair};
-use desk_words::ReportForm;
+use desk_args::ReportForm;
 use journal_lines::{Journal, JournalFault};
 use journal_text::write;
 use lead_time::{Skew, Transit};
-use pair_ruling::{status_of, warnings};
+use pair_judgement::{status_of, warnings};
 use report_data::data_of;
-use report_render::{Origin, Page, Spelling, page_of, picture_of, spelled, svg_of, text_of};
-use report_words::{Explanation, document_of};
+use report_document::{Explanation, document_of};
+use report_render::{
+    Page, Provenance, RenderedText, page_of, picture_of, spelled, svg_of, text_of,
+};
 use std::alloc::{AllocError, Global};
 use std::thread::Threads;
 use zone_times::ZoneFile;
 
 /// How a report is told.
 #[derive(Clone, Copy)]
-pub struct Style<'a> {
+pub struct ReportStyle<'a> {
     pub form: ReportForm,
     /// The zone in whose local time moments are told too.
     pub zone: Option<&'a ZoneFile>,
@@ -31,7 +33,7 @@ pub const PROGRAM: &str = "fengtuyas-desk of 2026-11-27";
 
 /// What a question was asked of: two texts as journals, a certificate's text, and the bounds on clocks and answers.
 #[derive(Clone, Copy)]
-pub struct Subject<'a> {
+pub struct ReportSubject<'a> {
     pub pair: &'a ReadPair,
     pub certificate: &'a [u8],
     pub skew: Skew,
@@ -55,13 +57,13 @@ fn journal_text(
 /// A report as a page, with this picture.
 pub fn page_told<'a>(
     alloc: Global,
-    spelling: &'a Spelling,
+    spelling: &'a RenderedText,
     picture: &'a [u8],
-    subject: &'a Subject<'a>,
+    subject: &'a ReportSubject<'a>,
 ) -> Result<Vec<u8>, DeskError> {
     let primary = journal_text(alloc, &subject.pair.primary)?;
     let secondary = journal_text(alloc, &subject.pair.secondary)?;
-    let origin = Origin {
+    let origin = Provenance {
         program: PROGRAM,
         primary: &primary,
         secondary: &secondary,
@@ -90,8 +92,8 @@ fn picture_told(alloc: Global, explanation: &Explanation) -> Result<Vec<u8>, All
 pub fn written<'a>(
     alloc: Global,
     explanation: &Explanation,
-    subject: &'a Subject<'a>,
-    style: &Style,
+    subject: &'a ReportSubject<'a>,
+    style: &ReportStyle,
 ) -> Result<Vec<u8>, DeskError> {
     let document = document_of(alloc, explanation)?;
     let spelling = spelled(alloc, &document, style.zone)?;
@@ -135,8 +137,8 @@ pub fn explain_told(
     certificate: &[u8],
     skew: Skew,
     transit: Transit,
-    style: &Style,
-) -> Result<Told, DeskError>
+    style: &ReportStyle,
+) -> Result<CommandOutput, DeskError>
     requires primary_closed { ForOk pair.now.primary (λ journal. IsClosed journal.lines) }
     requires secondary_closed { ForOk pair.now.secondary (λ journal. IsClosed journal.lines) }
 {
@@ -150,7 +152,7 @@ pub fn explain_told(
         skew,
         transit,
     )?;
-    let subject = Subject {
+    let subject = ReportSubject {
         pair,
         certificate,
         skew,
@@ -158,7 +160,7 @@ pub fn explain_told(
     };
     let text = written(alloc, &explanation, &subject, style)?;
     let notes = warnings_on(alloc, pair, skew, transit)?;
-    Ok(Told {
+    Ok(CommandOutput {
         text,
         status: status_of(&explanation.ruling),
         notes,

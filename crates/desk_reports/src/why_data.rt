@@ -1,10 +1,12 @@
 //! Why nobody is named, as JSON.
 
-use crate::holders::Reasons;
+use crate::holders::NoHolderReport;
 use attribution::Lasting;
-use evidence_report::Mark;
+use candidate_leases::{
+    AtMoment, CandidateLease, NoHolderReason, begun_by, ends_by, lasts_from, may_begin,
+};
+use evidence_report::LineReading;
 use lead_time::Reading;
-use near_leases::{AtMoment, NearLease, WhyNobody, begun_by, ends_by, lasts_from, may_begin};
 use plain_search::HolderQuery;
 use report_data::{
     Object, association_of, client_of, line_of, prefix_of, side_of, text_of, time_of,
@@ -17,9 +19,9 @@ fn reason(alloc: Global, name: &'static str) -> Object {
     Object::new(alloc).with("reason", name)
 }
 
-fn why_of(alloc: Global, why: &WhyNobody) -> Result<Value, AllocError> {
+fn why_of(alloc: Global, why: &NoHolderReason) -> Result<Value, AllocError> {
     match why {
-        WhyNobody::PastEnd {
+        NoHolderReason::PastEnd {
             side,
             needed,
             closed,
@@ -30,15 +32,15 @@ fn why_of(alloc: Global, why: &WhyNobody) -> Result<Value, AllocError> {
                 .with_made("closed", time_of(alloc, closed.milliseconds()))
                 .into_value()
         }
-        WhyNobody::BeforeOpen { side, needed } => {
+        NoHolderReason::BeforeOpen { side, needed } => {
             reason(alloc, "before_open")
                 .with("side", side_of(*side))
                 .with_made("needed", time_of(alloc, *needed))
                 .into_value()
         }
-        WhyNobody::Nobody => reason(alloc, "nobody").into_value(),
-        WhyNobody::NotShown => reason(alloc, "not_shown").into_value(),
-        WhyNobody::Several => reason(alloc, "several").into_value(),
+        NoHolderReason::Nobody => reason(alloc, "nobody").into_value(),
+        NoHolderReason::NotShown => reason(alloc, "not_shown").into_value(),
+        NoHolderReason::Several => reason(alloc, "several").into_value(),
     }
 }
 
@@ -55,7 +57,11 @@ fn state(alloc: Global, name: &'static str) -> Object {
 }
 
 /// A lease that was given back, by its release.
-fn given_back(alloc: Global, name: &'static str, release: &Mark) -> Result<Value, AllocError> {
+fn given_back(
+    alloc: Global,
+    name: &'static str,
+    release: &LineReading,
+) -> Result<Value, AllocError> {
     state(alloc, name)
         .with_made("release", line_of(alloc, release.at))
         .into_value()
@@ -99,7 +105,11 @@ fn state_of(alloc: Global, found: &AtMoment, at: Reading) -> Result<Value, Alloc
 }
 
 /// From when to when a lease can be shown; null where it is carried.
-fn shown_of(alloc: Global, lease: &NearLease, query: &HolderQuery) -> Result<Value, AllocError> {
+fn shown_of(
+    alloc: Global,
+    lease: &CandidateLease,
+    query: &HolderQuery,
+) -> Result<Value, AllocError> {
     let Lasting::For(valid) = lease.delegation.lasting else {
         return Ok(Value::Null);
     };
@@ -115,7 +125,11 @@ fn shown_of(alloc: Global, lease: &NearLease, query: &HolderQuery) -> Result<Val
 }
 
 /// From when to when it may have been.
-fn possible_of(alloc: Global, lease: &NearLease, query: &HolderQuery) -> Result<Value, AllocError> {
+fn possible_of(
+    alloc: Global,
+    lease: &CandidateLease,
+    query: &HolderQuery,
+) -> Result<Value, AllocError> {
     let lasting = &lease.delegation.lasting;
     let reading = lease.line.reading;
     let from = match lasting {
@@ -129,7 +143,11 @@ fn possible_of(alloc: Global, lease: &NearLease, query: &HolderQuery) -> Result<
         .into_value()
 }
 
-fn lease_of(alloc: Global, lease: &NearLease, query: &HolderQuery) -> Result<Value, AllocError> {
+fn lease_of(
+    alloc: Global,
+    lease: &CandidateLease,
+    query: &HolderQuery,
+) -> Result<Value, AllocError> {
     Object::new(alloc)
         .with_made("line", line_of(alloc, lease.line.at))
         .with_made("reading", time_of(alloc, lease.line.reading.milliseconds()))
@@ -144,7 +162,7 @@ fn lease_of(alloc: Global, lease: &NearLease, query: &HolderQuery) -> Result<Val
 
 fn leases_of(
     alloc: Global,
-    leases: &[NearLease],
+    leases: &[CandidateLease],
     query: &HolderQuery,
 ) -> Result<Value, AllocError> {
     let mut values = Vec::new(alloc);
@@ -159,11 +177,14 @@ pub fn why_data(
     alloc: Global,
     query: &HolderQuery,
     line: &[u8],
-    reasons: &Option<Reasons>,
+    reasons: &Option<NoHolderReport>,
 ) -> Result<Vec<u8>, AllocError> {
     let answer = line.strip_suffix(b"\n").unwrap_or(line);
     let (why, leases) = match reasons {
-        Some(Reasons { why, leases }) => (why_of(alloc, why), leases_of(alloc, leases, query)),
+        Some(NoHolderReport { why, leases }) => (
+            why_of(alloc, why),
+            leases_of(alloc, leases, query),
+        ),
         None => (Ok(Value::Null), Ok(Value::Null)),
     };
     let line = Object::new(alloc)

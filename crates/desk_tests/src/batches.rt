@@ -7,7 +7,7 @@ use journal_merge::merge;
 use journal_text::{read, written_is_closed};
 use lead_time::{Skew, Transit};
 use line_index::LineIndex;
-use parallel_check::{CheckError, Open, audit_all};
+use parallel_check::{CheckError, OpenGate, audit_all};
 use std::alloc::Global;
 use std::process::Abort;
 use std::sync::Wait;
@@ -45,7 +45,7 @@ fn check_workers<S: LineSource + Sync>(
             skew,
             Transit::ZERO,
             workers,
-            &Open,
+            &OpenGate,
         )?;
         assert_eq!(rt; verdicts.len(), count);
         check_in_turn(rt, alloc, &verdicts)?;
@@ -86,7 +86,7 @@ fn no_workers_and_too_many_are_refused(rt: HostRuntime) -> Result<(), Fail> {
                 skew,
                 Transit::ZERO,
                 workers,
-                &Open,
+                &OpenGate,
             );
             assert!(rt; matches!(&verdicts, Err(CheckError::Workers)));
         }
@@ -117,7 +117,7 @@ fn the_transit_is_asked(rt: HostRuntime) -> Result<(), Fail> {
             skew,
             transit,
             2,
-            &Open,
+            &OpenGate,
         )?;
         assert!(rt; verdicts.as_slice() == [verdict].as_slice());
     }

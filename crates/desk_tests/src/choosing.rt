@@ -2,7 +2,7 @@
 
 use crate::volumes::closed;
 use binding_rules::Role;
-use journal_archive::{Answer, Archive, ArchiveError, Lack};
+use journal_archive::{Archive, ArchiveError, CoverageGap, PairLookup};
 use lead_time::{Reading, Skew, Transit};
 use std::test::Fail;
 
@@ -23,21 +23,21 @@ fn names_the_pair_and_the_gap_of_a_roll(rt: HostRuntime) -> Result<(), Fail> {
         Transit::ZERO,
     )?;
     assert_eq!(rt; spans.len(), 4);
-    assert!(rt; matches!(spans[0].answer, Answer::Shown(pair) if pair.primary.file == 2));
+    assert!(rt; matches!(spans[0].answer, PairLookup::Shown(pair) if pair.primary.file == 2));
     assert_eq!(rt; spans[0].to, 9500);
     assert!(rt;
         matches!(
             spans[1].answer,
-            Answer::Lacking(Role::Primary, Lack::Roll(..))
+            PairLookup::Lacking(Role::Primary, CoverageGap::Roll(..))
         )
     );
     assert_eq!(rt; spans[1].to, 10_500);
-    assert!(rt; matches!(spans[2].answer, Answer::Shown(pair) if pair.primary.file == 0));
+    assert!(rt; matches!(spans[2].answer, PairLookup::Shown(pair) if pair.primary.file == 0));
     assert_eq!(rt; spans[2].to, 19_500);
     assert!(rt;
         matches!(
             spans[3].answer,
-            Answer::Lacking(Role::Primary, Lack::Later(_))
+            PairLookup::Lacking(Role::Primary, CoverageGap::Later(_))
         )
     );
     Ok(())
@@ -51,7 +51,12 @@ fn says_what_is_missing_and_what_cannot_be(rt: HostRuntime) -> Result<(), Fail> 
     let partner = closed(2, Role::Primary, 1, 1000, 30_000)?;
     let archive = Archive::new(rt.alloc(), &[first, third, partner])?;
     let answer = archive.at(12_000, skew, Transit::ZERO);
-    assert!(rt; matches!(answer, Answer::Lacking(Role::Secondary, Lack::Missing(..))));
+    assert!(rt;
+        matches!(
+            answer,
+            PairLookup::Lacking(Role::Secondary, CoverageGap::Missing(..))
+        )
+    );
     let again = closed(3, Role::Secondary, 3, 15_000, 20_001)?;
     let refused = Archive::new(rt.alloc(), &[first, third, again]);
     assert!(rt;

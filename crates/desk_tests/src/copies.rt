@@ -3,7 +3,8 @@
 ghost use Rattle.std.specs.Prelude.{⊤, length};
 
 use archive_files::{
-    Agreement, FileEnd, FilesError, Found, JournalFiles, Shown, Unreadable, catalogue_of, shown_at,
+    FileContent, FileEnd, FilesError, JournalFiles, SettingsScope, ShownJournals, Unreadable,
+    catalogue_of, shown_at,
 };
 use journal_archive::ArchiveError;
 use journal_lines::Journal;
@@ -100,9 +101,9 @@ fn shows_two_copies_as_far_as_each_bears_out_the_other(rt: HostRuntime) -> Resul
         texts: &["", SECONDARY, "no journal\n", PRIMARY],
     };
     let skew = Skew::new(500)?;
-    let catalogue = catalogue_of(rt.alloc(), &texts, Agreement::OfBoth)?;
+    let catalogue = catalogue_of(rt.alloc(), &texts, SettingsScope::OfBoth)?;
     assert_eq!(rt; catalogue.passed_over.len(), 2);
-    assert!(rt; matches!(catalogue.passed_over[1].found, Found::NoJournal));
+    assert!(rt; matches!(catalogue.passed_over[1].found, FileContent::NoJournal));
     let shown = shown_at(
         rt.alloc(),
         &texts,
@@ -111,7 +112,7 @@ fn shows_two_copies_as_far_as_each_bears_out_the_other(rt: HostRuntime) -> Resul
         skew,
         Transit::ZERO,
     )?;
-    let Shown::Journals(_pair, shown) = shown else {
+    let ShownJournals::Journals(_pair, shown) = shown else {
         panic!(rt; "no pair shows it");
     };
     assert_eq!(rt;
@@ -130,12 +131,12 @@ fn refuses_two_copies_of_one_volume_that_differ_within(rt: HostRuntime) -> Resul
     let same = Texts {
         texts: &[PRIMARY, SECONDARY, PRIMARY],
     };
-    let catalogue = catalogue_of(rt.alloc(), &same, Agreement::OfBoth)?;
+    let catalogue = catalogue_of(rt.alloc(), &same, SettingsScope::OfBoth)?;
     assert_eq!(rt; catalogue.archive.primary.volumes().len(), 1);
     let altered = Texts {
         texts: &[PRIMARY, SECONDARY, PRIMARY_ALTERED],
     };
-    let refused = catalogue_of(rt.alloc(), &altered, Agreement::OfBoth);
+    let refused = catalogue_of(rt.alloc(), &altered, SettingsScope::OfBoth);
     assert!(rt;
         matches!(
             refused,

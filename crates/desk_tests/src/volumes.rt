@@ -1,7 +1,7 @@
 //! Volumes as files of an archive have them.
 
 use binding_rules::Role;
-use journal_archive::{Ending, Filed, Outline};
+use journal_archive::{FiledVolume, VolumeEnding, VolumeOutline};
 use lead_time::{LeadTimeError, Reading};
 
 /// A closed volume that stands in a file of its count, with these readings of its first and last line.
@@ -11,14 +11,14 @@ pub(crate) fn closed(
     number: u32,
     opened: u64,
     last: u64,
-) -> Result<Filed, LeadTimeError> {
-    let outline = Outline {
+) -> Result<FiledVolume, LeadTimeError> {
+    let outline = VolumeOutline {
         side,
         number,
         opened: Reading::new(opened)?,
         last: Reading::new(last)?,
-        ending: Ending::Closed,
+        ending: VolumeEnding::Closed,
         octets: 1000,
     };
-    Ok(Filed { file, outline })
+    Ok(FiledVolume { file, outline })
 }

@@ -12,11 +12,11 @@ use Rattle.dhcp6_pd.specs.declared.error.PdFault.TheVariants.{Short, TooDeep, Ig
 use Rattle.dhcp6_pd.specs.declared.numbers.TheConstants.{CLIENT_ID, SERVER_ID, RELAY_MESSAGE, INTERFACE_ID}
 use Rattle.dhcp6_pd.specs.declared.numbers.TheConstants.{REMOTE_ID, RELAY_FORWARD}
 use Rattle.dhcp6_pd.specs.declared.message.ClientKind.{ClientKind}
-use Rattle.dhcp6_pd.specs.declared.reads.Reads.TheVariants.{Leases}
-use Rattle.dhcp6_pd.specs.declared.reads.MessageKind.{MessageKind}
-use Rattle.dhcp6_pd.specs.declared.reads.MessageKind.TheVariants.{Lease, Information}
+use Rattle.dhcp6_pd.specs.declared.message_class.MessageClass.TheVariants.{Leases}
+use Rattle.dhcp6_pd.specs.declared.message_class.MessageKind.{MessageKind}
+use Rattle.dhcp6_pd.specs.declared.message_class.MessageKind.TheVariants.{Lease, Information}
 use Rattle.dhcp6_pd.specs.declared.relay_options.RelayOptions.{RelayOptions}
-use Rattle.dhcp6_pd.specs.declared.untested.UntestedMessage.{UntestedMessage}
+use Rattle.dhcp6_pd.specs.declared.unvalidated.UnvalidatedMessage.{UnvalidatedMessage}
 use Rattle.dhcp6_pd.specs.Layout.{option_octets}
 use Rattle.dhcp6_pd.specs.Options.{DhcpOption, IsOption, octets_of, data_of}
 use Rattle.dhcp6_pd.specs.Rows.{Row, Done, Broken, Next, row_of, code_of, folded}
@@ -189,33 +189,33 @@ found_again octets inside h =
     (up_again h.before no_relay_options last inside h.behind h.each h.is adds refl h.first)
 
 -- the message that a relay's message holds, where it has the fault
-pub record FailsInside (parse : List ℕ → Result UntestedMessage PdFault) (octets : List ℕ) (fault : PdFault) :
+pub record FailsInside (parse : List ℕ → Result UnvalidatedMessage PdFault) (octets : List ℕ) (fault : PdFault) :
     Type 0 where
   pub inside : List ℕ
   pub fits : AreOctets inside
   pub carries : Carries octets inside
   pub fails : parse inside ≡ Err fault
 
-relay_fails : (parse : List ℕ → Result UntestedMessage PdFault) (octets : List ℕ) (fault : PdFault) → AreOctets octets
+relay_fails : (parse : List ℕ → Result UnvalidatedMessage PdFault) (octets : List ℕ) (fault : PdFault) → AreOctets octets
     → slice_index octets 0 ≡ RELAY_FORWARD → (OfOptions fault → ⊥) → relay_in parse octets ≡ Err fault
     → FailsInside parse octets fault
 unfolding relay_in
 relay_fails parse octets fault fits kind never e = by (nat_lt (length octets) 34) refl e
   where
-    same : (other : PdFault) → (let r : Result UntestedMessage PdFault = Err other in r) ≡ Err fault → other ≡ fault
+    same : (other : PdFault) → (let r : Result UnvalidatedMessage PdFault = Err other in r) ≡ Err fault → other ≡ fault
     same other e = cc
 
-    not_of : (other : PdFault) → OfOptions other → (let r : Result UntestedMessage PdFault = Err other in r)
+    not_of : (other : PdFault) → OfOptions other → (let r : Result UnvalidatedMessage PdFault = Err other in r)
         ≡ Err fault → ⊥
     not_of other h e = never (subst OfOptions (same other e) h)
 
-    rest : (l : RelayOptions) (u : UntestedMessage) (r : Result RelayOptions PdFault) → Faults OfOptions r
+    rest : (l : RelayOptions) (u : UnvalidatedMessage) (r : Result RelayOptions PdFault) → Faults OfOptions r
         → (r >>! λ kept. Ok (by_relay (relay_of octets kept) u)) ≡ Err fault → ⊥
     rest l u (Ok kept) h e = cc
     rest l u (Err other) h e = not_of other h e
 
     held : (l : RelayOptions) (inside : List ℕ) (row : Row) → Carries octets inside → RowFaults row
-        → (r : Result UntestedMessage PdFault) → parse inside ≡ r
+        → (r : Result UnvalidatedMessage PdFault) → parse inside ≡ r
         → (r >>! λ u. folded relay_option l row >>! λ kept. Ok (by_relay (relay_of octets kept) u)) ≡ Err fault
         → FailsInside parse octets fault
     held l inside row c rows (Ok u) is e = absurd
@@ -245,7 +245,7 @@ relay_fails parse octets fault fits kind never e = by (nat_lt (length octets) 34
     by false t e = found (ltb-false (length octets) 34 t) (to_message no_relay_options (row_of (drop 34 octets))) refl
         (to_message_faults no_relay_options (row_of (drop 34 octets)) (row_faults 0 (drop 34 octets))) e
 
-fails_relay : (parse : List ℕ → Result UntestedMessage PdFault) (octets inside : List ℕ) (fault : PdFault)
+fails_relay : (parse : List ℕ → Result UnvalidatedMessage PdFault) (octets inside : List ℕ) (fault : PdFault)
     → Carries octets inside → parse inside ≡ Err fault → relay_in parse octets ≡ Err fault
 unfolding relay_in
 fails_relay parse octets inside fault h e = let f = found_again octets inside h in
@@ -355,7 +355,7 @@ none_of x other = by (kind_of Leases x) refl
     by (Some (Lease kind)) e = absurd (other kind (kind_takes Leases x (Lease kind) e).0)
     by (Some Information) e = absurd (kind_takes Leases x Information e).1
 
-typed : (relay : List ℕ → Result UntestedMessage PdFault) (octets : List ℕ) → 0 < length octets
+typed : (relay : List ℕ → Result UnvalidatedMessage PdFault) (octets : List ℕ) → 0 < length octets
     → slice_index octets 0 ≢ RELAY_FORWARD → ((kind : ClientKind) → slice_index octets 0 ≢ lease_type kind)
     → by_type Leases relay octets ≡ Err Ignored
 typed relay [] some never other = absurd (omega arith)

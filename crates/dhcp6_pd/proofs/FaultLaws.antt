@@ -12,16 +12,16 @@ use Rattle.dhcp6_pd.specs.declared.error.PdFault.TheVariants.{Short, OptionLengt
 use Rattle.dhcp6_pd.specs.declared.error.PdFault.TheVariants.{ServerIdPresent, ServerIdMissing, NotOurs, TooDeep}
 use Rattle.dhcp6_pd.specs.declared.error.PdFault.TheVariants.{TooManyIas, Ignored, BadPrefixLength}
 use Rattle.dhcp6_pd.specs.declared.numbers.TheConstants.{IA_PREFIX, RELAY_MESSAGE, RELAY_FORWARD}
-use Rattle.dhcp6_pd.specs.declared.reads.Reads.{Reads}
-use Rattle.dhcp6_pd.specs.declared.reads.MessageKind.{MessageKind}
-use Rattle.dhcp6_pd.specs.declared.wishes.Wishes.{Wishes}
+use Rattle.dhcp6_pd.specs.declared.message_class.MessageClass.{MessageClass}
+use Rattle.dhcp6_pd.specs.declared.message_class.MessageKind.{MessageKind}
+use Rattle.dhcp6_pd.specs.declared.requested_items.RequestedItems.{RequestedItems}
 use Rattle.dhcp6_pd.specs.declared.numbers.TheConstants.{OPTION_REQUEST, IA_NA, IA_TA, IA_PD}
-use Rattle.dhcp6_pd.specs.Wishes.{request_in, request_once, wish_option, no_wishes}
+use Rattle.dhcp6_pd.specs.RequestedItems.{request_in, request_once, wish_option, no_wishes}
 use Rattle.dhcp6_pd.specs.declared.option_code.OptionCode.{OptionCode}
 use Rattle.dhcp6_pd.specs.declared.option_code.OptionCode.TheVariants as codes
 use Rattle.dhcp6_pd.specs.declared.client_options.ClientOptions.{ClientOptions}
 use Rattle.dhcp6_pd.specs.declared.relay_options.RelayOptions.{RelayOptions}
-use Rattle.dhcp6_pd.specs.declared.untested.UntestedMessage.{UntestedMessage}
+use Rattle.dhcp6_pd.specs.declared.unvalidated.UnvalidatedMessage.{UnvalidatedMessage}
 use Rattle.dhcp6_pd.specs.Options.{DhcpOption}
 use Rattle.dhcp6_pd.specs.Rows.{Row, Done, Broken, Next, row_behind, row_of, code_of, folded}
 use Rattle.dhcp6_pd.specs.Associations.{prefix_in, with_hint, ia_in}
@@ -197,7 +197,7 @@ request_faults None octets = bind_faults OfOptions (request_in octets) _
     (if_faults OfOptions (length octets % 2 == 0) _ _ tt tt) (λ _. tt)
 request_faults (Some codes) octets = tt
 
-wish_faults : (w : Wishes) (o : DhcpOption) → Faults OfOptions (wish_option w o)
+wish_faults : (w : RequestedItems) (o : DhcpOption) → Faults OfOptions (wish_option w o)
 unfolding wish_option
 wish_faults w o = if_faults OfOptions (o.code == OPTION_REQUEST) _ _
     (bind_faults OfOptions (request_once w.requested o.octets) _ (request_faults w.requested o.octets) (λ _. tt))
@@ -251,7 +251,7 @@ of_octets TooManyIas h = tt
 of_octets BadPrefixLength h = tt
 of_octets other h = absurd h
 
-behind_faults : (parse : List ℕ → Result UntestedMessage PdFault) (octets : List ℕ)
+behind_faults : (parse : List ℕ → Result UnvalidatedMessage PdFault) (octets : List ℕ)
     (found : Result (RelayOptions × Option (List ℕ × Row)) PdFault)
     → ((inside : List ℕ) → Faults OfOctets (parse inside)) → Within Rest OfOptions found
     → Faults OfOctets (behind parse octets found)
@@ -268,13 +268,13 @@ ignored_faults None octets = tt
 ignored_faults (Some kind) octets = wider _ OfOptions OfOctets (client_in kind octets) of_octets
     (client_in_faults kind octets)
 
-type_faults : (reads : Reads) (relay : List ℕ → Result UntestedMessage PdFault) (octets : List ℕ)
+type_faults : (reads : MessageClass) (relay : List ℕ → Result UnvalidatedMessage PdFault) (octets : List ℕ)
     → Faults OfOctets (relay octets) → Faults OfOctets (by_type reads relay octets)
 type_faults reads relay [] h = tt
 type_faults reads relay (x ∷ octets) h = if_faults OfOctets (x == RELAY_FORWARD) _ _ h
     (ignored_faults (kind_of reads x) (x ∷ octets))
 
-pub message_faults : (reads : Reads) (left : ℕ) (octets : List ℕ) → Faults OfOctets (message_in reads left octets)
+pub message_faults : (reads : MessageClass) (left : ℕ) (octets : List ℕ) → Faults OfOctets (message_in reads left octets)
 unfolding message_in relay_in
 message_faults reads zero octets = type_faults reads (λ _. Err TooDeep) octets tt
 message_faults reads (suc left) octets =

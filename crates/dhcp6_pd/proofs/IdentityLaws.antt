@@ -10,28 +10,28 @@ use Rattle.dhcp6_pd.specs.declared.error.PdFault.TheVariants.{NotOurs}
 use Rattle.dhcp6_pd.specs.declared.error.PdError.{PdError}
 use Rattle.dhcp6_pd.specs.declared.message.ClientKind.{ClientKind}
 use Rattle.dhcp6_pd.specs.declared.message.ClientKind.TheVariants.{Solicit, Request, Renew, Rebind, Release}
-use Rattle.dhcp6_pd.specs.declared.reads.Reads.{Reads}
-use Rattle.dhcp6_pd.specs.declared.reads.Reads.TheVariants.{Leases}
-use Rattle.dhcp6_pd.specs.declared.reads.MessageKind.{MessageKind}
-use Rattle.dhcp6_pd.specs.declared.reads.MessageKind.TheVariants.{Lease, Information}
+use Rattle.dhcp6_pd.specs.declared.message_class.MessageClass.{MessageClass}
+use Rattle.dhcp6_pd.specs.declared.message_class.MessageClass.TheVariants.{Leases}
+use Rattle.dhcp6_pd.specs.declared.message_class.MessageKind.{MessageKind}
+use Rattle.dhcp6_pd.specs.declared.message_class.MessageKind.TheVariants.{Lease, Information}
 use Rattle.dhcp6_pd.specs.Refusals.{IsRead}
 use Rattle.dhcp6_pd.specs.declared.message.ClientMessage.{ClientMessage}
-use Rattle.dhcp6_pd.specs.declared.untested.UntestedMessage.{UntestedMessage}
+use Rattle.dhcp6_pd.specs.declared.unvalidated.UnvalidatedMessage.{UnvalidatedMessage}
 use Rattle.dhcp6_pd.specs.declared.numbers.TheConstants.{MAX_RELAYS}
-use Rattle.dhcp6_pd.specs.Grammar.{SpellsUntested, server_for, addressed, Spells}
+use Rattle.dhcp6_pd.specs.Grammar.{SpellsUnvalidated, server_for, addressed, Spells}
 use Rattle.dhcp6_pd.specs.Faults.{message_in, for_server, or_no_client, lease_or_ignored, identified}
 use Rattle.dhcp6_pd.specs.Faults.{message_of}
 use Rattle.dhcp6_pd.specs.Answers.{Gives}
 use Rattle.dhcp6_pd.proofs.Binds.{bind_ok, allowed, ok_is}
 use Rattle.dhcp6_pd.proofs.MessageLaws.{message_takes, message_again}
 
-pub untested_takes : (reads : Reads) (octets : List ℕ) (u : UntestedMessage) → AreOctets octets
-    → message_in reads MAX_RELAYS octets ≡ Ok u → SpellsUntested octets u × IsRead reads u.kind
+pub untested_takes : (reads : MessageClass) (octets : List ℕ) (u : UnvalidatedMessage) → AreOctets octets
+    → message_in reads MAX_RELAYS octets ≡ Ok u → SpellsUnvalidated octets u × IsRead reads u.kind
 untested_takes reads octets u fits e =
     let h = message_takes reads MAX_RELAYS octets u fits e in (record { spelled = h.0; few = h.1 }, h.2)
 
-pub untested_again : (reads : Reads) (octets : List ℕ) (u : UntestedMessage) → IsRead reads u.kind
-    → SpellsUntested octets u → message_in reads MAX_RELAYS octets ≡ Ok u
+pub untested_again : (reads : MessageClass) (octets : List ℕ) (u : UnvalidatedMessage) → IsRead reads u.kind
+    → SpellsUnvalidated octets u → message_in reads MAX_RELAYS octets ≡ Ok u
 untested_again reads octets u read h = message_again reads u.relays MAX_RELAYS octets u read h.spelled h.few
 
 -- ---- the identifiers
@@ -71,7 +71,7 @@ lease_is : (kind : MessageKind) (k : ClientKind) → lease_or_ignored kind ≡ O
 lease_is (Lease kind) k e = ap (λ (x : ClientKind). Lease x) (ok_is kind k e)
 lease_is Information k e = absurd cc
 
-identified_takes : (own : List ℕ) (u : UntestedMessage) (m : ClientMessage) → identified own u ≡ Ok m
+identified_takes : (own : List ℕ) (u : UnvalidatedMessage) (m : ClientMessage) → identified own u ≡ Ok m
     → u ≡ addressed own m
 unfolding identified
 identified_takes own u m e =
@@ -93,7 +93,7 @@ pub message_of_takes : (own octets : List ℕ) (m : ClientMessage) → AreOctets
     → Spells own octets m
 message_of_takes own octets m fits e =
     let b = bind_ok (message_in Leases MAX_RELAYS octets) (identified own) m e in
-    subst (SpellsUntested octets) (identified_takes own b.0 m b.2) (untested_takes Leases octets b.0 fits b.1).0
+    subst (SpellsUnvalidated octets) (identified_takes own b.0 m b.2) (untested_takes Leases octets b.0 fits b.1).0
 
 pub message_of_again : (own octets : List ℕ) (m : ClientMessage) → Spells own octets m → message_of own octets ≡ Ok m
 message_of_again own octets m h = rw (untested_again Leases octets (addressed own m) tt h) (identified_again own m)

@@ -10,12 +10,12 @@ use Rattle.dhcp6_pd.specs.declared.error.PdFault.TheVariants.{NotOurs, Ignored}
 use Rattle.dhcp6_pd.specs.declared.error.PdError.{PdError}
 use Rattle.dhcp6_pd.specs.declared.message.IaPd.{IaPd}
 use Rattle.dhcp6_pd.specs.declared.message.InformationRequest.{InformationRequest}
-use Rattle.dhcp6_pd.specs.declared.reads.Reads.TheVariants as which
-use Rattle.dhcp6_pd.specs.declared.reads.MessageKind.{MessageKind}
-use Rattle.dhcp6_pd.specs.declared.reads.MessageKind.TheVariants.{Lease, Information}
-use Rattle.dhcp6_pd.specs.declared.untested.UntestedMessage.{UntestedMessage}
+use Rattle.dhcp6_pd.specs.declared.message_class.MessageClass.TheVariants as which
+use Rattle.dhcp6_pd.specs.declared.message_class.MessageKind.{MessageKind}
+use Rattle.dhcp6_pd.specs.declared.message_class.MessageKind.TheVariants.{Lease, Information}
+use Rattle.dhcp6_pd.specs.declared.unvalidated.UnvalidatedMessage.{UnvalidatedMessage}
 use Rattle.dhcp6_pd.specs.declared.numbers.TheConstants.{MAX_RELAYS}
-use Rattle.dhcp6_pd.specs.Grammar.{SpellsUntested, inquiry, NamesOnly, SpellsInformation}
+use Rattle.dhcp6_pd.specs.Grammar.{SpellsUnvalidated, inquiry, NamesOnly, SpellsInformation}
 use Rattle.dhcp6_pd.specs.Refusals.{IsRead}
 use Rattle.dhcp6_pd.specs.Faults.{message_in, for_any, is_none, has_no_ia, inquired, information_of}
 use Rattle.dhcp6_pd.specs.Answers.{Gives}
@@ -40,7 +40,7 @@ names_takes own None e = tt
 names_takes own (Some server) e =
     (bytes_eq-Decides server own).0 (allowed {A = Unit {0}} (bytes_eq server own) NotOurs (Ok tt) tt e).0
 
-inquired_takes : (own : List ℕ) (u : UntestedMessage) (i : InformationRequest) → IsRead which.Information u.kind
+inquired_takes : (own : List ℕ) (u : UnvalidatedMessage) (i : InformationRequest) → IsRead which.Information u.kind
     → inquired own u ≡ Ok i → NamesOnly own u.server × (u ≡ inquiry u.server i)
 unfolding inquired
 inquired_takes own u i read e =
@@ -73,7 +73,7 @@ information_takes own octets i fits e =
     let u = b.0 in
     let t = untested_takes which.Information octets u fits b.1 in
     let q = inquired_takes own u i t.1 b.2 in
-    (u.server, q.0, subst (SpellsUntested octets) q.1 t.0)
+    (u.server, q.0, subst (SpellsUnvalidated octets) q.1 t.0)
 
 information_again : (own octets : List ℕ) (i : InformationRequest) → SpellsInformation own octets i
     → information_of own octets ≡ Ok i

@@ -17,20 +17,20 @@ use Rattle.dhcp6_pd.specs.declared.message.IaPd.{IaPd}
 use Rattle.dhcp6_pd.specs.declared.message.Relay.{Relay}
 use Rattle.dhcp6_pd.specs.declared.client_options.ClientOptions.{ClientOptions}
 use Rattle.dhcp6_pd.specs.declared.relay_options.RelayOptions.{RelayOptions}
-use Rattle.dhcp6_pd.specs.declared.untested.UntestedMessage.{UntestedMessage}
-use Rattle.dhcp6_pd.specs.declared.reads.Reads.{Reads}
-use Rattle.dhcp6_pd.specs.declared.reads.Reads.TheVariants.{Leases}
-use Rattle.dhcp6_pd.specs.declared.reads.Reads.TheVariants as which
-use Rattle.dhcp6_pd.specs.declared.reads.MessageKind.{MessageKind}
-use Rattle.dhcp6_pd.specs.declared.reads.MessageKind.TheVariants.{Lease, Information}
+use Rattle.dhcp6_pd.specs.declared.unvalidated.UnvalidatedMessage.{UnvalidatedMessage}
+use Rattle.dhcp6_pd.specs.declared.message_class.MessageClass.{MessageClass}
+use Rattle.dhcp6_pd.specs.declared.message_class.MessageClass.TheVariants.{Leases}
+use Rattle.dhcp6_pd.specs.declared.message_class.MessageClass.TheVariants as which
+use Rattle.dhcp6_pd.specs.declared.message_class.MessageKind.{MessageKind}
+use Rattle.dhcp6_pd.specs.declared.message_class.MessageKind.TheVariants.{Lease, Information}
 use Rattle.dhcp6_pd.specs.Refusals.{IsRead}
-use Rattle.dhcp6_pd.specs.declared.wishes.Wishes.{Wishes}
+use Rattle.dhcp6_pd.specs.declared.requested_items.RequestedItems.{RequestedItems}
 use Rattle.dhcp6_pd.specs.Options.{DhcpOption, IsOption, data_of}
 use Rattle.dhcp6_pd.specs.Rows.{Row, row_of, folded}
 use Rattle.dhcp6_pd.specs.Grammar.{lease_type, type_of, listed, SpellIas, SpellsClient, SpellsRelay, SpellsFrom}
 use Rattle.dhcp6_pd.specs.Faults.{client_option, no_client_options, lease_kind, kind_of, client_message, client_in}
 use Rattle.dhcp6_pd.specs.Faults.{relay_option}
-use Rattle.dhcp6_pd.specs.Wishes.{wish_option, no_wishes}
+use Rattle.dhcp6_pd.specs.RequestedItems.{wish_option, no_wishes}
 use Rattle.dhcp6_pd.specs.Faults.{no_relay_options, to_message, or_short, relay_of, by_relay, relay_in, or_ignored}
 use Rattle.dhcp6_pd.specs.Faults.{by_type, message_in}
 use Rattle.dhcp6_pd.proofs.Binds.{bind_ok, passed, ok_is}
@@ -66,10 +66,10 @@ lease_takes x kind e = by (x == SOLICIT) (x == REQUEST) (x == RENEW) (x == REBIN
     by false false false false false ta tb tc td tf e = absurd cc
 
 -- a message's type is one that is read
-abbrev pub Types : Reads → ℕ → MessageKind → Type 0
+abbrev pub Types : MessageClass → ℕ → MessageKind → Type 0
 Types reads x kind = (x ≡ type_of kind) × IsRead reads kind
 
-pub kind_takes : (reads : Reads) (x : ℕ) (kind : MessageKind) → kind_of reads x ≡ Some kind → Types reads x kind
+pub kind_takes : (reads : MessageClass) (x : ℕ) (kind : MessageKind) → kind_of reads x ≡ Some kind → Types reads x kind
 unfolding kind_of
 kind_takes Leases x kind e = by (lease_kind x) refl e
   where
@@ -84,7 +84,7 @@ kind_takes which.Information x kind e = by (x == INFORMATION_REQUEST) refl e
         subst (Types which.Information x) same (eqb-true x INFORMATION_REQUEST t, tt)
     by false t e = absurd cc
 
-pub kind_again : (reads : Reads) (kind : MessageKind) → IsRead reads kind
+pub kind_again : (reads : MessageClass) (kind : MessageKind) → IsRead reads kind
     → ((type_of kind == RELAY_FORWARD) ≡ false) × (kind_of reads (type_of kind) ≡ Some kind)
 unfolding kind_of lease_kind
 kind_again Leases (Lease Solicit) h = (refl, refl)
@@ -131,7 +131,7 @@ once_again (Some duid) all is h = rw is (refl, h.0, refl, refl)
 ias_of : (all : List (List ℕ)) (ias : List IaPd) → AddsIas [] all ias → SpellIas all ias
 ias_of all ias h = subst (SpellIas all) (sym h.joined) h.spelled
 
-client_takes : (kind : MessageKind) (octets : List ℕ) (u : UntestedMessage) → AreOctets octets
+client_takes : (kind : MessageKind) (octets : List ℕ) (u : UnvalidatedMessage) → AreOctets octets
     → slice_index octets 0 ≡ type_of kind → client_in kind octets ≡ Ok u
     → (u.relays ≡ []) × SpellsClient octets u × (u.kind ≡ kind)
 unfolding client_in
@@ -148,7 +148,7 @@ client_takes kind octets u fits type e =
     let asks = wishes_takes all.0 no_wishes wishes options.each (ap (folded wish_option no_wishes) (sym all.1) ∙ w.1) in
     let client = once_listed kept.client (data_of CLIENT_ID all.0) adds.client in
     let server = once_listed kept.server (data_of SERVER_ID all.0) adds.server in
-    subst (λ (x : UntestedMessage). (x.relays ≡ []) × SpellsClient octets x × (x.kind ≡ kind))
+    subst (λ (x : UnvalidatedMessage). (x.relays ≡ []) × SpellsClient octets x × (x.kind ≡ kind))
     (ok_is (client_message kind octets kept wishes) u w.2) (
       refl,
       record {
@@ -173,7 +173,7 @@ client_takes kind octets u fits type e =
       refl,
     )
 
-client_again : (octets : List ℕ) (u : UntestedMessage) → SpellsClient octets u
+client_again : (octets : List ℕ) (u : UnvalidatedMessage) → SpellsClient octets u
     → client_in u.kind octets ≡ Ok (record u { relays = [] })
 unfolding client_in
 client_again octets u h =
@@ -195,7 +195,7 @@ client_again octets u h =
     ap (folded client_option no_client_options) (row_is (drop 4 octets) h.options h.spelled)
     ∙ client_options_again h.options no_client_options kept h.few adds in
     let asked = asks_of (data_of OPTION_REQUEST h.options) u.requested h.requested in
-    let wishes : Wishes = record {
+    let wishes : RequestedItems = record {
       requested = asked_in (data_of OPTION_REQUEST h.options) u.requested;
       addresses = u.addresses;
       temporaries = u.temporaries;
@@ -231,9 +231,9 @@ stands_listed : (after : Option (List ℕ)) (all : List (List ℕ)) → Stands N
 stands_listed after [] h = ap listed (sym h)
 stands_listed after (octets ∷ all) h = ap (λ (xs : List (List ℕ)). octets ∷ xs) h.1 ∙ ap listed (sym h.2)
 
-relay_takes : (parse : List ℕ → Result UntestedMessage PdFault) (octets : List ℕ) (h : UntestedMessage)
+relay_takes : (parse : List ℕ → Result UnvalidatedMessage PdFault) (octets : List ℕ) (h : UnvalidatedMessage)
     → AreOctets octets → slice_index octets 0 ≡ RELAY_FORWARD → relay_in parse octets ≡ Ok h
-    → (u : UntestedMessage) × (r : Relay) × (inside : List ℕ) × AreOctets inside × (parse inside ≡ Ok u)
+    → (u : UnvalidatedMessage) × (r : Relay) × (inside : List ℕ) × AreOctets inside × (parse inside ≡ Ok u)
     × SpellsRelay octets r inside × (by_relay r u ≡ h)
 unfolding relay_in relay_of
 relay_takes parse octets h fits type e =
@@ -276,8 +276,8 @@ pub stands_of : (id : Option (List ℕ)) → Stands None (listed id) id
 stands_of None = refl
 stands_of (Some octets) = (refl, refl, refl)
 
-relay_again : (parse : List ℕ → Result UntestedMessage PdFault) (octets : List ℕ) (r : Relay) (inside : List ℕ)
-    (u : UntestedMessage) → SpellsRelay octets r inside → parse inside ≡ Ok u
+relay_again : (parse : List ℕ → Result UnvalidatedMessage PdFault) (octets : List ℕ) (r : Relay) (inside : List ℕ)
+    (u : UnvalidatedMessage) → SpellsRelay octets r inside → parse inside ≡ Ok u
     → relay_in parse octets ≡ Ok (by_relay r u)
 unfolding relay_in relay_of
 relay_again parse octets r inside u h e =
@@ -321,7 +321,7 @@ relay_again parse octets r inside u h e =
 -- ---- the message and its relays
 
 -- a message of a type that no relay's has
-other_takes : (reads : Reads) (x : ℕ) (octets : List ℕ) (u : UntestedMessage) → AreOctets (x ∷ octets)
+other_takes : (reads : MessageClass) (x : ℕ) (octets : List ℕ) (u : UnvalidatedMessage) → AreOctets (x ∷ octets)
     → or_ignored (kind_of reads x) (x ∷ octets) ≡ Ok u
     → (u.relays ≡ []) × SpellsClient (x ∷ octets) u × IsRead reads u.kind
 other_takes reads x octets u fits e = by (kind_of reads x) refl e
@@ -335,17 +335,17 @@ other_takes reads x octets u fits e = by (kind_of reads x) refl e
         (c.0, c.1, subst (IsRead reads) (sym c.2) k.1)
 
 -- what octets spell in at most so many relays
-abbrev SpellsIn : Reads → ℕ → List ℕ → UntestedMessage → Type 0
+abbrev SpellsIn : MessageClass → ℕ → List ℕ → UnvalidatedMessage → Type 0
 SpellsIn reads left octets u = SpellsFrom octets u.relays u × (length u.relays ≤ left) × IsRead reads u.kind
 
-no_relay : (reads : Reads) (left : ℕ) (octets : List ℕ) (u : UntestedMessage)
+no_relay : (reads : MessageClass) (left : ℕ) (octets : List ℕ) (u : UnvalidatedMessage)
     → (u.relays ≡ []) × SpellsClient octets u × IsRead reads u.kind → SpellsIn reads left octets u
 no_relay reads left octets u h =
     let none : length u.relays ≡ 0 = ap length h.0 in
     (subst (λ (rs : List Relay). SpellsFrom octets rs u) (sym h.0) h.1, omega (arith, none), h.2)
 
 -- which relays are written down does not matter inside them
-spells_by : (by : List Relay) (relays : List Relay) (octets : List ℕ) (u : UntestedMessage)
+spells_by : (by : List Relay) (relays : List Relay) (octets : List ℕ) (u : UnvalidatedMessage)
     → SpellsFrom octets relays u → SpellsFrom octets relays (record u { relays = by })
 spells_by by [] octets u h = record {
   whole = h.whole;
@@ -368,7 +368,7 @@ spells_by by [] octets u h = record {
 }
 spells_by by (r ∷ relays) octets u h = (h.0, h.1, spells_by by relays h.0 u h.2)
 
-pub message_takes : (reads : Reads) (left : ℕ) (octets : List ℕ) (u : UntestedMessage) → AreOctets octets
+pub message_takes : (reads : MessageClass) (left : ℕ) (octets : List ℕ) (u : UnvalidatedMessage) → AreOctets octets
     → message_in reads left octets ≡ Ok u → SpellsIn reads left octets u
 unfolding message_in
 message_takes reads zero [] u fits e = absurd cc
@@ -382,7 +382,7 @@ message_takes reads zero (x ∷ octets) u fits e = by (x == RELAY_FORWARD) e
 message_takes reads (suc left) (x ∷ octets) u fits e = by (x == RELAY_FORWARD) refl (message_takes reads left) e
   where
     by : (t : Bool) → (x == RELAY_FORWARD) ≡ t
-        → ((inside : List ℕ) (v : UntestedMessage) → AreOctets inside → message_in reads left inside ≡ Ok v
+        → ((inside : List ℕ) (v : UnvalidatedMessage) → AreOctets inside → message_in reads left inside ≡ Ok v
         → SpellsIn reads left inside v)
         → (if t then relay_in (message_in reads left) (x ∷ octets) else or_ignored (kind_of reads x) (x ∷ octets)) ≡ Ok u
         → SpellsIn reads (suc left) (x ∷ octets) u
@@ -398,7 +398,7 @@ message_takes reads (suc left) (x ∷ octets) u fits e = by (x == RELAY_FORWARD)
         )
     by false test again e = no_relay reads (suc left) (x ∷ octets) u (other_takes reads x octets u fits e)
 
-client_typed : (reads : Reads) (relay : List ℕ → Result UntestedMessage PdFault) (octets : List ℕ) (u : UntestedMessage)
+client_typed : (reads : MessageClass) (relay : List ℕ → Result UnvalidatedMessage PdFault) (octets : List ℕ) (u : UnvalidatedMessage)
     → IsRead reads u.kind → SpellsClient octets u → by_type reads relay octets ≡ Ok (record u { relays = [] })
 client_typed reads relay [] u read h = absurd (let w = h.whole in omega (arith, w))
 client_typed reads relay (x ∷ octets) u read h =
@@ -408,13 +408,13 @@ client_typed reads relay (x ∷ octets) u read h =
     let known : kind_of reads x ≡ Some u.kind = ap (kind_of reads) type ∙ k.1 in
     rw (other, known) (client_again (x ∷ octets) u h)
 
-pub relay_typed : (reads : Reads) (relay : List ℕ → Result UntestedMessage PdFault) (octets : List ℕ)
+pub relay_typed : (reads : MessageClass) (relay : List ℕ → Result UnvalidatedMessage PdFault) (octets : List ℕ)
     → 34 ≤ length octets → slice_index octets 0 ≡ RELAY_FORWARD → by_type reads relay octets ≡ relay octets
 relay_typed reads relay [] long type = absurd (omega (arith, long))
 relay_typed reads relay (x ∷ octets) long type =
     let this : x ≡ RELAY_FORWARD = type in rw (eq-eqb x RELAY_FORWARD this) refl
 
-pub message_again : (reads : Reads) (relays : List Relay) (left : ℕ) (octets : List ℕ) (u : UntestedMessage)
+pub message_again : (reads : MessageClass) (relays : List Relay) (left : ℕ) (octets : List ℕ) (u : UnvalidatedMessage)
     → IsRead reads u.kind → SpellsFrom octets relays u → length relays ≤ left
     → message_in reads left octets ≡ Ok (record u { relays = relays })
 unfolding message_in

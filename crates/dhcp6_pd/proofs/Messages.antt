@@ -13,23 +13,23 @@ use Rattle.dhcp6_pd.specs.declared.error.PdError.TheVariants.{Fault, TooLong, Me
 use Rattle.dhcp6_pd.specs.declared.numbers.TheConstants.{RELAY_FORWARD}
 use Rattle.dhcp6_pd.specs.declared.message.Relay.{Relay}
 use Rattle.dhcp6_pd.specs.declared.relay_options.RelayOptions.{RelayOptions}
-use Rattle.dhcp6_pd.specs.declared.reads.Reads.{Reads}
-use Rattle.dhcp6_pd.specs.declared.reads.MessageKind.{MessageKind}
+use Rattle.dhcp6_pd.specs.declared.message_class.MessageClass.{MessageClass}
+use Rattle.dhcp6_pd.specs.declared.message_class.MessageKind.{MessageKind}
 use Rattle.dhcp6_pd.specs.declared.client_options.ClientOptions.{ClientOptions}
-use Rattle.dhcp6_pd.specs.declared.wishes.Wishes.{Wishes}
-use Rattle.dhcp6_pd.specs.declared.untested.UntestedMessage.{UntestedMessage}
+use Rattle.dhcp6_pd.specs.declared.requested_items.RequestedItems.{RequestedItems}
+use Rattle.dhcp6_pd.specs.declared.unvalidated.UnvalidatedMessage.{UnvalidatedMessage}
 use Rattle.dhcp6_pd.specs.Rows.{Row, row_of, folded}
 use Rattle.dhcp6_pd.specs.Parsing.{found_in}
 use Rattle.dhcp6_pd.specs.Answers.{Gives}
 use Rattle.dhcp6_pd.specs.Faults.{kind_of, or_ignored, no_relay_options, relay_option, to_message, relay_of, by_relay}
 use Rattle.dhcp6_pd.specs.Faults.{client_options_in, client_message, client_in, behind, relay_in, message_in}
-use Rattle.dhcp6_pd.specs.Wishes.{wishes_in, or_none}
+use Rattle.dhcp6_pd.specs.RequestedItems.{wishes_in, or_none}
 
 first_same : (x y : ℕ) (rest : List ℕ) → Some x ≡ slice_get (y ∷ rest) 0 → y ≡ x
 first_same x y rest e = cc
 
 -- a client's message, or one that is not parse
-pub type_other : (reads : Reads) (left : ℕ) (octets : List ℕ) (x : ℕ) → Some x ≡ slice_get octets 0 → x ≢ RELAY_FORWARD
+pub type_other : (reads : MessageClass) (left : ℕ) (octets : List ℕ) (x : ℕ) → Some x ≡ slice_get octets 0 → x ≢ RELAY_FORWARD
     → message_in reads left octets ≡ or_ignored (kind_of reads x) octets
 unfolding message_in
 type_other reads zero [] x e ne = absurd cc
@@ -45,7 +45,7 @@ less_one : (n : ℕ) → n ≡ suc n - 1
 less_one n = omega arith
 
 -- a relay's message
-pub type_relay : (reads : Reads) (left : ℕ) (octets : List ℕ) (x : ℕ) (l : RelayOptions) (rest : List ℕ) → Some x ≡ slice_get octets 0
+pub type_relay : (reads : MessageClass) (left : ℕ) (octets : List ℕ) (x : ℕ) (l : RelayOptions) (rest : List ℕ) → Some x ≡ slice_get octets 0
     → x ≡ RELAY_FORWARD → left ≢ 0 → 34 ≤ length octets → l ≡ no_relay_options
     → rest ≡ take (length octets - 34) (drop 34 octets) → message_in reads left octets
     ≡ behind (message_in reads (left - 1)) octets (to_message l (row_of rest))
@@ -65,7 +65,7 @@ pub found_some : (r : Result (RelayOptions × Option (List ℕ × Row)) PdFault)
     → r ≡ Ok (l, Some (b.now, row))
 found_some r l row found b e is = subst (λ (f : Option (Bor (List ℕ))). r ≡ Ok (l, found_in row f)) is e
 
-pub found_none : (parse : List ℕ → Result UntestedMessage PdFault) (octets : List ℕ)
+pub found_none : (parse : List ℕ → Result UnvalidatedMessage PdFault) (octets : List ℕ)
     (r : Result (RelayOptions × Option (List ℕ × Row)) PdFault) (l : RelayOptions) (row : Row)
     (found : Option (Bor (List ℕ))) → r ≡ Ok (l, found_in row found) → found ≡ None
     → behind parse octets r ≡ Err Short
@@ -74,23 +74,23 @@ found_none parse octets r l row found e none =
 
 -- an error before the message
 pub fails_before : {X : Type 0} (view : X → RelayOptions × Option (List ℕ × Row)) (parse : List ℕ
-    → Result UntestedMessage PdFault) (octets : List ℕ) (r : Result (RelayOptions × Option (List ℕ × Row)) PdFault)
+    → Result UnvalidatedMessage PdFault) (octets : List ℕ) (r : Result (RelayOptions × Option (List ℕ × Row)) PdFault)
     (e : PdError)
     → Gives {X = X} view (Err e) r → Gives (λ u. u) (Err e) (behind parse octets r)
 fails_before view parse octets r (Fault fault) h = ap (behind parse octets) h
 fails_before view parse octets r TooLong h = h
 fails_before view parse octets r Memory h = tt
 
-inside : (parse : List ℕ → Result UntestedMessage PdFault) (octets : List ℕ)
+inside : (parse : List ℕ → Result UnvalidatedMessage PdFault) (octets : List ℕ)
     (r : Result (RelayOptions × Option (List ℕ × Row)) PdFault) (l : RelayOptions) (row : Row) (inner : List ℕ)
-    (h : Result UntestedMessage PdFault) → r ≡ Ok (l, Some (inner, row)) → parse inner ≡ h
+    (h : Result UnvalidatedMessage PdFault) → r ≡ Ok (l, Some (inner, row)) → parse inner ≡ h
     → behind parse octets r ≡ (h >>! λ u. folded relay_option l row >>! λ last. Ok (by_relay (relay_of octets last) u))
 inside parse octets r l row inner h e is = ap (behind parse octets) e
-    ∙ ap (λ (x : Result UntestedMessage PdFault). x >>! λ u. folded relay_option l row >>! λ last.
+    ∙ ap (λ (x : Result UnvalidatedMessage PdFault). x >>! λ u. folded relay_option l row >>! λ last.
     Ok (by_relay (relay_of octets last) u)) is
 
 -- an error in it
-pub fails_inside : (parse : List ℕ → Result UntestedMessage PdFault) (octets : List ℕ)
+pub fails_inside : (parse : List ℕ → Result UnvalidatedMessage PdFault) (octets : List ℕ)
     (r : Result (RelayOptions × Option (List ℕ × Row)) PdFault) (l : RelayOptions) (row : Row) (inner : List ℕ)
     (e : PdError) → r ≡ Ok (l, Some (inner, row))
     → Gives (λ u. u) (Err e) (parse inner) → Gives (λ u. u) (Err e) (behind parse octets r)
@@ -99,9 +99,9 @@ fails_inside parse octets r l row inner TooLong e h = h
 fails_inside parse octets r l row inner Memory e h = tt
 
 -- an error behind it
-pub fails_behind : (parse : List ℕ → Result UntestedMessage PdFault) (octets : List ℕ)
+pub fails_behind : (parse : List ℕ → Result UnvalidatedMessage PdFault) (octets : List ℕ)
     (r : Result (RelayOptions × Option (List ℕ × Row)) PdFault) (l new : RelayOptions) (row : Row) (inner : List ℕ)
-    (u : UntestedMessage) (e : PdError)
+    (u : UnvalidatedMessage) (e : PdError)
     → r ≡ Ok (l, Some (inner, row)) → parse inner ≡ Ok u
     → Gives {X = Unit {0}} {Y = RelayOptions} (λ _. new) (Err e) (folded relay_option l row)
     → Gives (λ u. u) (Err e) (behind parse octets r)
@@ -112,18 +112,18 @@ fails_behind parse octets r l new row inner u TooLong e is h = h
 fails_behind parse octets r l new row inner u Memory e is h = tt
 
 -- all of it
-pub is_whole : (parse : List ℕ → Result UntestedMessage PdFault) (octets : List ℕ)
+pub is_whole : (parse : List ℕ → Result UnvalidatedMessage PdFault) (octets : List ℕ)
     (r : Result (RelayOptions × Option (List ℕ × Row)) PdFault) (l : RelayOptions) (row : Row) (inner : List ℕ)
-    (u v : UntestedMessage) (relay : Relay) (last : RelayOptions)
+    (u v : UnvalidatedMessage) (relay : Relay) (last : RelayOptions)
     → r ≡ Ok (l, Some (inner, row)) → parse inner ≡ Ok u → folded relay_option l row ≡ Ok last
     → relay ≡ relay_of octets last → v ≡ record u { relays = relay ∷ u.relays } → behind parse octets r ≡ Ok v
 is_whole parse octets r l row inner u v relay last e is rest made all =
     inside parse octets r l row inner (Ok u) e is
     ∙ (ap (λ (x : Result RelayOptions PdFault). x >>! λ last. Ok (by_relay (relay_of octets last) u)) rest
-    ∙ (ap (λ (x : Relay). Ok (by_relay x u)) (sym made) ∙ ap (λ (x : UntestedMessage). Ok x) (sym all)))
+    ∙ (ap (λ (x : Relay). Ok (by_relay x u)) (sym made) ∙ ap (λ (x : UnvalidatedMessage). Ok x) (sym all)))
 
 -- a client's message by what its options say
-pub is_client : (kind : MessageKind) (octets : List ℕ) (kept : ClientOptions) (wishes : Wishes) (relays : List Relay)
+pub is_client : (kind : MessageKind) (octets : List ℕ) (kept : ClientOptions) (wishes : RequestedItems) (relays : List Relay)
     (xid requested : List ℕ) → 4 ≤ length octets → client_options_in (take (length octets - 4) (drop 4 octets)) ≡ Ok kept
     → wishes_in (take (length octets - 4) (drop 4 octets)) ≡ Ok wishes → xid ≡ take 3 (drop 1 octets)
     → requested ≡ or_none wishes.requested → relays ≡ []

@@ -15,10 +15,10 @@ use Rattle.dhcp6_pd.specs.declared.error.PdError.TheVariants.{Fault, TooLong, Me
 use Rattle.dhcp6_pd.specs.declared.message.ClientKind.{ClientKind}
 use Rattle.dhcp6_pd.specs.declared.message.ClientKind.TheVariants.{Solicit, Request, Renew, Rebind, Release}
 use Rattle.dhcp6_pd.specs.declared.message.ClientMessage.{ClientMessage}
-use Rattle.dhcp6_pd.specs.declared.reads.Reads.TheVariants.{Leases}
-use Rattle.dhcp6_pd.specs.declared.reads.MessageKind.{MessageKind}
-use Rattle.dhcp6_pd.specs.declared.reads.MessageKind.TheVariants.{Lease, Information}
-use Rattle.dhcp6_pd.specs.declared.untested.UntestedMessage.{UntestedMessage}
+use Rattle.dhcp6_pd.specs.declared.message_class.MessageClass.TheVariants.{Leases}
+use Rattle.dhcp6_pd.specs.declared.message_class.MessageKind.{MessageKind}
+use Rattle.dhcp6_pd.specs.declared.message_class.MessageKind.TheVariants.{Lease, Information}
+use Rattle.dhcp6_pd.specs.declared.unvalidated.UnvalidatedMessage.{UnvalidatedMessage}
 use Rattle.dhcp6_pd.specs.declared.numbers.TheConstants.{MAX_RELAYS}
 use Rattle.dhcp6_pd.specs.Refusals.{IsRead, Refuses, IsOfForm, IsMalformed, IsDeeper, IsOfOtherType, SpellsOne, IsToAny}
 use Rattle.dhcp6_pd.specs.Refusals.{NamesNoClient, NamesServerOfAny, NamesNoServer, NamesAnother}
@@ -29,7 +29,7 @@ use Rattle.dhcp6_pd.proofs.CarriedLaws.{deep_takes, deep_again, other_takes, oth
 use Rattle.dhcp6_pd.proofs.IdentityLaws.{untested_takes, untested_again}
 
 -- what each fault says of the identifiers
-abbrev pub Says : List ℕ → UntestedMessage → PdFault → Type 0
+abbrev pub Says : List ℕ → UnvalidatedMessage → PdFault → Type 0
 Says own u NoClientId = NamesNoClient u
 Says own u ServerIdPresent = NamesServerOfAny u
 Says own u ServerIdMissing = NamesNoServer u
@@ -43,7 +43,7 @@ Says own u TooDeep = ⊥
 Says own u Ignored = u.kind ≡ Information
 
 -- a message with these identifiers
-abbrev identifying : UntestedMessage → Option (List ℕ) → MessageKind → Option (List ℕ) → UntestedMessage
+abbrev identifying : UnvalidatedMessage → Option (List ℕ) → MessageKind → Option (List ℕ) → UnvalidatedMessage
 identifying u client kind server = record u { client = client; kind = kind; server = server }
 
 err_is : (a b : PdFault) → (let r : Result ClientMessage PdFault = Err a in r) ≡ Err b → a ≡ b
@@ -60,7 +60,7 @@ differs own server ne = by (bytes_eq server own) refl
     by true e = absurd (ne ((bytes_eq-Decides server own).0 e))
     by false e = refl
 
-says_takes : (own : List ℕ) (u : UntestedMessage) (fault : PdFault) → identified own u ≡ Err fault → Says own u fault
+says_takes : (own : List ℕ) (u : UnvalidatedMessage) (fault : PdFault) → identified own u ≡ Err fault → Says own u fault
 unfolding identified for_server
 says_takes own u fault e = by u.client u.kind u.server e
   where
@@ -97,7 +97,7 @@ says_takes own u fault e = by u.client u.kind u.server e
     by (Some client) (Lease Renew) server e = to_one client Renew server (λ one. one) _ e
     by (Some client) (Lease Release) server e = to_one client Release server (λ one. one) _ e
 
-present : (own : List ℕ) (u : UntestedMessage) (client : Option (List ℕ)) (kind : MessageKind)
+present : (own : List ℕ) (u : UnvalidatedMessage) (client : Option (List ℕ)) (kind : MessageKind)
     (server : Option (List ℕ)) → IsSome client → IsToAny kind → IsSome server
     → identified own (identifying u client kind server) ≡ Err ServerIdPresent
 unfolding identified for_server
@@ -110,7 +110,7 @@ present own u (Some client) (Lease Renew) (Some server) is any some = absurd any
 present own u (Some client) (Lease Release) (Some server) is any some = absurd any
 present own u (Some client) Information (Some server) is any some = absurd any
 
-missing : (own : List ℕ) (u : UntestedMessage) (client : Option (List ℕ)) (kind : MessageKind) → IsRead Leases kind
+missing : (own : List ℕ) (u : UnvalidatedMessage) (client : Option (List ℕ)) (kind : MessageKind) → IsRead Leases kind
     → IsSome client → (IsToAny kind → ⊥) → identified own (identifying u client kind None) ≡ Err ServerIdMissing
 unfolding identified for_server
 missing own u None kind read is one = absurd (let e : false ≡ true = is in cc)
@@ -121,7 +121,7 @@ missing own u (Some client) (Lease Renew) read is one = refl
 missing own u (Some client) (Lease Release) read is one = refl
 missing own u (Some client) Information read is one = absurd read
 
-another : (own : List ℕ) (u : UntestedMessage) (client : Option (List ℕ)) (kind : MessageKind)
+another : (own : List ℕ) (u : UnvalidatedMessage) (client : Option (List ℕ)) (kind : MessageKind)
     (server : Option (List ℕ)) → IsRead Leases kind → IsSome client → (IsToAny kind → ⊥)
     → IsSomeAnd server (λ s. s ≢ own) → identified own (identifying u client kind server) ≡ Err NotOurs
 unfolding identified for_server
@@ -134,13 +134,13 @@ another own u (Some client) (Lease Renew) (Some server) read is one ne = rw (dif
 another own u (Some client) (Lease Release) (Some server) read is one ne = rw (differs own server ne) refl
 another own u (Some client) Information (Some server) read is one ne = absurd read
 
-nobody : (own : List ℕ) (u : UntestedMessage) (kind : MessageKind) (server : Option (List ℕ)) → IsRead Leases kind
+nobody : (own : List ℕ) (u : UnvalidatedMessage) (kind : MessageKind) (server : Option (List ℕ)) → IsRead Leases kind
     → identified own (identifying u None kind server) ≡ Err NoClientId
 unfolding identified
 nobody own u (Lease kind) server read = refl
 nobody own u Information server read = absurd read
 
-says_again : (own : List ℕ) (u : UntestedMessage) (fault : PdFault) → IsRead Leases u.kind → Says own u fault
+says_again : (own : List ℕ) (u : UnvalidatedMessage) (fault : PdFault) → IsRead Leases u.kind → Says own u fault
     → identified own u ≡ Err fault
 unfolding identified
 says_again own u NoClientId read h = rw h (nobody own u u.kind u.server read)
@@ -160,7 +160,7 @@ message_fails : (own octets : List ℕ) (fault : PdFault) → AreOctets octets �
 message_fails own octets fault fits last e =
     by (message_in Leases MAX_RELAYS octets) refl (message_faults Leases MAX_RELAYS octets) e
   where
-    by : (r : Result UntestedMessage PdFault) → message_in Leases MAX_RELAYS octets ≡ r → Faults OfOctets r
+    by : (r : Result UnvalidatedMessage PdFault) → message_in Leases MAX_RELAYS octets ≡ r → Faults OfOctets r
         → (r >>! identified own) ≡ Err fault → SpellsOne octets (λ u. Says own u fault)
     by (Ok u) is h e =
         let t = untested_takes Leases octets u fits is in (u, t.0, t.1, says_takes own u fault e)
@@ -175,7 +175,7 @@ pub deeper_fails : (own octets : List ℕ) → AreOctets octets → message_of o
     → IsDeeper MAX_RELAYS octets
 deeper_fails own octets fits e = by (message_in Leases MAX_RELAYS octets) refl e
   where
-    by : (r : Result UntestedMessage PdFault) → message_in Leases MAX_RELAYS octets ≡ r
+    by : (r : Result UnvalidatedMessage PdFault) → message_in Leases MAX_RELAYS octets ≡ r
         → (r >>! identified own) ≡ Err TooDeep → IsDeeper MAX_RELAYS octets
     by (Ok u) is e = absurd (says_takes own u TooDeep e)
     by (Err fault) is e = deep_takes MAX_RELAYS octets fits (is ∙ cc)
@@ -184,7 +184,7 @@ pub other_fails : (own octets : List ℕ) → AreOctets octets → message_of ow
     → IsOfOtherType MAX_RELAYS octets
 other_fails own octets fits e = by (message_in Leases MAX_RELAYS octets) refl e
   where
-    by : (r : Result UntestedMessage PdFault) → message_in Leases MAX_RELAYS octets ≡ r
+    by : (r : Result UnvalidatedMessage PdFault) → message_in Leases MAX_RELAYS octets ≡ r
         → (r >>! identified own) ≡ Err Ignored → IsOfOtherType MAX_RELAYS octets
     by (Ok u) is e =
         absurd (subst (IsRead Leases) (says_takes own u Ignored e) (untested_takes Leases octets u fits is).1)
@@ -211,7 +211,7 @@ refuses (Err (Fault other)) parsed fault h takes again no_memory = (
 refuses (Err TooLong) parsed fault h takes again no_memory = absurd h
 refuses (Err Memory) parsed fault h takes again no_memory = absurd (no_memory refl)
 
-no_form : (own : List ℕ) (u : UntestedMessage) (fault : PdFault) → IsOfForm fault → Says own u fault → ⊥
+no_form : (own : List ℕ) (u : UnvalidatedMessage) (fault : PdFault) → IsOfForm fault → Says own u fault → ⊥
 no_form own u NoClientId form says = form
 no_form own u ServerIdPresent form says = form
 no_form own u ServerIdMissing form says = form
@@ -228,7 +228,7 @@ malformed : (own octets : List ℕ) (fault : PdFault) → IsOfForm fault → mes
     → IsMalformed octets
 malformed own octets fault form e u read h =
     no_form own u fault form (says_takes own u fault
-    (sym (ap (λ (r : Result UntestedMessage PdFault). r >>! identified own) (untested_again Leases octets u read h)) ∙ e))
+    (sym (ap (λ (r : Result UnvalidatedMessage PdFault). r >>! identified own) (untested_again Leases octets u read h)) ∙ e))
 
 -- each refusal of a function whose answer is what parsing gives
 pub record RefusesEach (own octets : List ℕ) (r : Result ClientMessage PdError) : Type 0 where

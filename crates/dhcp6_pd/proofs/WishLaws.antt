@@ -8,13 +8,13 @@ use Rattle.byteorder.specs.Endian.{big_bytes, big_number}
 use Rattle.byteorder.specs.Numbers.{big_number-reads_back}
 use Rattle.text_fields.specs.Octets.{AreOctets}
 use Rattle.dhcp6_pd.specs.declared.numbers.TheConstants.{OPTION_REQUEST, IA_NA, IA_TA, IA_PD}
-use Rattle.dhcp6_pd.specs.declared.wishes.Wishes.{Wishes}
+use Rattle.dhcp6_pd.specs.declared.requested_items.RequestedItems.{RequestedItems}
 use Rattle.dhcp6_pd.specs.declared.message.IaPd.{IaPd}
 use Rattle.dhcp6_pd.specs.Options.{DhcpOption, IsOption, data_of}
 use Rattle.dhcp6_pd.specs.Rows.{folded}
 use Rattle.dhcp6_pd.specs.Associations.{prefixes_in}
 use Rattle.dhcp6_pd.specs.Grammar.{AreCodes, SpellsRequest, iaids_in}
-use Rattle.dhcp6_pd.specs.Wishes.{codes_of, request_in, request_once, with_iaid, wish_option, or_none}
+use Rattle.dhcp6_pd.specs.RequestedItems.{codes_of, request_in, request_once, with_iaid, wish_option, or_none}
 use Rattle.dhcp6_pd.proofs.Binds.{bind_ok, allowed, ok_is, put}
 use Rattle.dhcp6_pd.proofs.Codes.{option_of}
 use Rattle.dhcp6_pd.proofs.Wholes.{whole, two_octets}
@@ -135,19 +135,19 @@ by_code P request address temporary association other code =
     ]
 
 -- what options add to what is known of a client's wishes
-pub record AddsWishes (w : Wishes) (options : List DhcpOption) (t : Wishes) : Type 0 where
+pub record AddsWishes (w : RequestedItems) (options : List DhcpOption) (t : RequestedItems) : Type 0 where
   pub requested : Asks w.requested (data_of OPTION_REQUEST options) t.requested
   pub addresses : t.addresses ≡ w.addresses ++ iaids_in 12 (data_of IA_NA options)
   pub temporaries : t.temporaries ≡ w.temporaries ++ iaids_in 4 (data_of IA_TA options)
   pub prefixes : t.prefixes ≡ w.prefixes ++ flat_map prefixes_in (data_of IA_PD options)
 
-other_wish : (code : ℕ) (w : Wishes) (octets : List ℕ) → IsOtherWish code → wish_option w (option_of code octets) ≡ Ok w
+other_wish : (code : ℕ) (w : RequestedItems) (octets : List ℕ) → IsOtherWish code → wish_option w (option_of code octets) ≡ Ok w
 unfolding wish_option
 other_wish code w octets h = rw (h.request, h.address, h.temporary, h.association) refl
 
 -- ---- one option before others
 
-wish_step : (w more t : Wishes) (octets : List ℕ) (options : List DhcpOption) (code : ℕ) → AreOctets octets
+wish_step : (w more t : RequestedItems) (octets : List ℕ) (options : List DhcpOption) (code : ℕ) → AreOctets octets
     → AddsWishes more options t → wish_option w (option_of code octets) ≡ Ok more
     → AddsWishes w (option_of code octets ∷ options) t
 unfolding wish_option
@@ -191,10 +191,10 @@ wish_step w more t octets options code fits h =
     }))
     code
   where
-    Adds : Wishes → Type 0
+    Adds : RequestedItems → Type 0
     Adds m = AddsWishes m options t
 
-pub wishes_takes : (options : List DhcpOption) (w t : Wishes) → AllByRecursion IsOption options
+pub wishes_takes : (options : List DhcpOption) (w t : RequestedItems) → AllByRecursion IsOption options
     → folded wish_option w (whole options) ≡ Ok t → AddsWishes w options t
 unfolding folded
 wishes_takes [] w t each e = rw (sym (ok_is _ _ e)) (record {
@@ -209,12 +209,12 @@ wishes_takes (o ∷ options) w t each e =
 
 -- ---- and back
 
-record NextWish (w : Wishes) (octets : List ℕ) (code : ℕ) (options : List DhcpOption) (t : Wishes) : Type 0 where
-  more : Wishes
+record NextWish (w : RequestedItems) (octets : List ℕ) (code : ℕ) (options : List DhcpOption) (t : RequestedItems) : Type 0 where
+  more : RequestedItems
   found : wish_option w (option_of code octets) ≡ Ok more
   later : AddsWishes more options t
 
-wish_next : (w t : Wishes) (octets : List ℕ) (options : List DhcpOption) (code : ℕ)
+wish_next : (w t : RequestedItems) (octets : List ℕ) (options : List DhcpOption) (code : ℕ)
     → AddsWishes w (option_of code octets ∷ options) t → NextWish w octets code options t
 unfolding wish_option
 wish_next w t octets options code =
@@ -272,7 +272,7 @@ wish_next w t octets options code =
     })
     code
 
-wish_same : (w t : Wishes) → AddsWishes w [] t → w ≡ t
+wish_same : (w t : RequestedItems) → AddsWishes w [] t → w ≡ t
 wish_same w t h =
     ap (λ (x : Option (List ℕ)). record w { requested = x }) (sym h.requested)
     ∙ (ap (λ (x : List ℕ). record w { requested = t.requested; addresses = x })
@@ -281,10 +281,10 @@ wish_same w t h =
     (sym (h.temporaries ∙ append-nil w.temporaries))
     ∙ ap (λ (x : List IaPd). record t { prefixes = x }) (sym (h.prefixes ∙ append-nil w.prefixes))))
 
-pub wishes_again : (options : List DhcpOption) (w t : Wishes) → AddsWishes w options t
+pub wishes_again : (options : List DhcpOption) (w t : RequestedItems) → AddsWishes w options t
     → folded wish_option w (whole options) ≡ Ok t
 unfolding folded
-wishes_again [] w t h = ap (λ (x : Wishes). Ok x) (wish_same w t h)
+wishes_again [] w t h = ap (λ (x : RequestedItems). Ok x) (wish_same w t h)
 wishes_again (o ∷ options) w t h =
     let k = wish_next w t o.octets options o.code h in
     rw k.found (wishes_again options k.more t k.later)

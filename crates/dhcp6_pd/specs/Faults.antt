@@ -16,24 +16,24 @@ use Rattle.dhcp6_pd.specs.declared.message.ClientKind.{ClientKind}
 use Rattle.dhcp6_pd.specs.declared.message.ClientKind.TheVariants.{Solicit, Request, Renew, Rebind, Release}
 use Rattle.dhcp6_pd.specs.declared.message.ClientMessage.{ClientMessage}
 use Rattle.dhcp6_pd.specs.declared.message.InformationRequest.{InformationRequest}
-use Rattle.dhcp6_pd.specs.declared.reads.Reads.{Reads}
-use Rattle.dhcp6_pd.specs.declared.reads.Reads.TheVariants.{Leases}
-use Rattle.dhcp6_pd.specs.declared.reads.Reads.TheVariants as reads
-use Rattle.dhcp6_pd.specs.declared.reads.MessageKind.{MessageKind}
-use Rattle.dhcp6_pd.specs.declared.reads.MessageKind.TheVariants.{Lease, Information}
-use Rattle.dhcp6_pd.specs.declared.wishes.Wishes.{Wishes}
+use Rattle.dhcp6_pd.specs.declared.message_class.MessageClass.{MessageClass}
+use Rattle.dhcp6_pd.specs.declared.message_class.MessageClass.TheVariants.{Leases}
+use Rattle.dhcp6_pd.specs.declared.message_class.MessageClass.TheVariants as reads
+use Rattle.dhcp6_pd.specs.declared.message_class.MessageKind.{MessageKind}
+use Rattle.dhcp6_pd.specs.declared.message_class.MessageKind.TheVariants.{Lease, Information}
+use Rattle.dhcp6_pd.specs.declared.requested_items.RequestedItems.{RequestedItems}
 use Rattle.dhcp6_pd.specs.declared.message.IaPd.{IaPd}
 use Rattle.dhcp6_pd.specs.declared.message.Relay.{Relay}
 use Rattle.dhcp6_pd.specs.declared.client_options.ClientOptions.{ClientOptions}
 use Rattle.dhcp6_pd.specs.declared.relay_options.RelayOptions.{RelayOptions}
-use Rattle.dhcp6_pd.specs.declared.untested.UntestedMessage.{UntestedMessage}
+use Rattle.dhcp6_pd.specs.declared.unvalidated.UnvalidatedMessage.{UnvalidatedMessage}
 use Rattle.dhcp6_pd.specs.declared.numbers.TheConstants.{RELAY_MESSAGE, SOLICIT, REQUEST, RENEW, REBIND}
 use Rattle.dhcp6_pd.specs.declared.numbers.TheConstants.{RELEASE, INFORMATION_REQUEST, RELAY_FORWARD, MAX_IAS}
 use Rattle.dhcp6_pd.specs.declared.numbers.TheConstants.{MAX_RELAYS}
 use Rattle.dhcp6_pd.specs.Options.{DhcpOption}
 use Rattle.dhcp6_pd.specs.Rows.{Row, Done, Broken, Next, row_of, code_of, folded}
 use Rattle.dhcp6_pd.specs.Associations.{ia_in}
-use Rattle.dhcp6_pd.specs.Wishes.{wishes_in, or_none}
+use Rattle.dhcp6_pd.specs.RequestedItems.{wishes_in, or_none}
 
 -- ---- the options of a client's message
 
@@ -89,12 +89,12 @@ lease_kind octet =
     else None
 
 -- a message's type, where such messages are read
-unfoldable pub kind_of : Reads → ℕ → Option MessageKind
+unfoldable pub kind_of : MessageClass → ℕ → Option MessageKind
 kind_of Leases octet = option_map (λ kind. Lease kind) (lease_kind octet)
 kind_of reads.Information octet = if octet == INFORMATION_REQUEST then Some Information else None
 
 -- a message's type, transaction identifier, and what its options say
-abbrev pub client_message : MessageKind → List ℕ → ClientOptions → Wishes → UntestedMessage
+abbrev pub client_message : MessageKind → List ℕ → ClientOptions → RequestedItems → UnvalidatedMessage
 client_message kind octets kept wishes =
     record {
       relays = [];
@@ -110,7 +110,7 @@ client_message kind octets kept wishes =
     }
 
 -- Type, transaction identifier of three octets, options. Faults of what is asked for beside prefixes come last.
-unfoldable pub client_in : MessageKind → List ℕ → Result UntestedMessage PdFault
+unfoldable pub client_in : MessageKind → List ℕ → Result UnvalidatedMessage PdFault
 client_in kind octets =
     if nat_lt (length octets) 4 then Err Short
     else (client_options_in (drop 4 octets) >>! λ kept. wishes_in (drop 4 octets) >>! λ wishes.
@@ -162,12 +162,12 @@ relay_of octets kept = record {
   remote = kept.remote;
 }
 
-abbrev pub by_relay : Relay → UntestedMessage → UntestedMessage
+abbrev pub by_relay : Relay → UnvalidatedMessage → UnvalidatedMessage
 by_relay r u = record u { relays = r ∷ u.relays }
 
 -- a relay's message behind its fixed part, of which the options up to the message were parsed
-abbrev pub behind : (List ℕ → Result UntestedMessage PdFault) → List ℕ
-    → Result (RelayOptions × Option (List ℕ × Row)) PdFault → Result UntestedMessage PdFault
+abbrev pub behind : (List ℕ → Result UnvalidatedMessage PdFault) → List ℕ
+    → Result (RelayOptions × Option (List ℕ × Row)) PdFault → Result UnvalidatedMessage PdFault
 behind parse octets found =
     found >>! λ up.
     or_short up.1 >>! λ held.
@@ -177,23 +177,23 @@ behind parse octets found =
 
 -- A relay's message that holds a message, which is parsed where it stands: what is wrong with it comes before the
 -- faults of the options behind it.
-unfoldable pub relay_in : (List ℕ → Result UntestedMessage PdFault) → List ℕ → Result UntestedMessage PdFault
+unfoldable pub relay_in : (List ℕ → Result UnvalidatedMessage PdFault) → List ℕ → Result UnvalidatedMessage PdFault
 relay_in parse octets =
     if nat_lt (length octets) 34 then Err Short
     else behind parse octets (to_message no_relay_options (row_of (drop 34 octets)))
 
-abbrev pub or_ignored : Option MessageKind → List ℕ → Result UntestedMessage PdFault
+abbrev pub or_ignored : Option MessageKind → List ℕ → Result UnvalidatedMessage PdFault
 or_ignored None octets = Err Ignored
 or_ignored (Some kind) octets = client_in kind octets
 
 -- a message by its type, which its first octet is: a relay's is RELAY-FORW
-abbrev pub by_type : Reads → (List ℕ → Result UntestedMessage PdFault) → List ℕ → Result UntestedMessage PdFault
+abbrev pub by_type : MessageClass → (List ℕ → Result UnvalidatedMessage PdFault) → List ℕ → Result UnvalidatedMessage PdFault
 by_type which relay [] = Err Short
 by_type which relay (x ∷ octets) =
     if x == RELAY_FORWARD then relay (x ∷ octets) else or_ignored (kind_of which x) (x ∷ octets)
 
 -- a message that at most so many relays hold
-unfoldable pub message_in : Reads → ℕ → List ℕ → Result UntestedMessage PdFault
+unfoldable pub message_in : MessageClass → ℕ → List ℕ → Result UnvalidatedMessage PdFault
 message_in which zero octets = by_type which (λ _. Err TooDeep) octets
 message_in which (suc left) octets = by_type which (relay_in (message_in which left)) octets
 
@@ -217,7 +217,7 @@ abbrev pub lease_or_ignored : MessageKind → Result ClientKind PdFault
 lease_or_ignored (Lease kind) = Ok kind
 lease_or_ignored Information = Err Ignored
 
-unfoldable pub identified : List ℕ → UntestedMessage → Result ClientMessage PdFault
+unfoldable pub identified : List ℕ → UnvalidatedMessage → Result ClientMessage PdFault
 identified own u =
     lease_or_ignored u.kind >>! λ kind.
     or_no_client u.client >>! λ client.
@@ -250,10 +250,10 @@ is_none [] = true
 is_none (x ∷ xs) = false
 
 -- no identity association stands there
-abbrev pub has_no_ia : UntestedMessage → Bool
+abbrev pub has_no_ia : UnvalidatedMessage → Bool
 has_no_ia u = is_none u.ias && (is_none u.prefixes && (is_none u.addresses && is_none u.temporaries))
 
-unfoldable pub inquired : List ℕ → UntestedMessage → Result InformationRequest PdFault
+unfoldable pub inquired : List ℕ → UnvalidatedMessage → Result InformationRequest PdFault
 inquired own u =
     for_any own u.server >>! λ _.
     if has_no_ia u

@@ -9,9 +9,9 @@ use Rattle.dhcp6_pd.specs.declared.message.ClientKind.{ClientKind}
 use Rattle.dhcp6_pd.specs.declared.message.ClientKind.TheVariants.{Solicit, Request, Renew, Rebind, Release}
 use Rattle.dhcp6_pd.specs.declared.message.ClientMessage.{ClientMessage}
 use Rattle.dhcp6_pd.specs.declared.message.InformationRequest.{InformationRequest}
-use Rattle.dhcp6_pd.specs.declared.reads.MessageKind.{MessageKind}
-use Rattle.dhcp6_pd.specs.declared.reads.MessageKind.TheVariants.{Lease, Information}
-use Rattle.dhcp6_pd.specs.declared.untested.UntestedMessage.{UntestedMessage}
+use Rattle.dhcp6_pd.specs.declared.message_class.MessageKind.{MessageKind}
+use Rattle.dhcp6_pd.specs.declared.message_class.MessageKind.TheVariants.{Lease, Information}
+use Rattle.dhcp6_pd.specs.declared.unvalidated.UnvalidatedMessage.{UnvalidatedMessage}
 use Rattle.dhcp6_pd.specs.declared.numbers.TheConstants.{CLIENT_ID, SERVER_ID, RELAY_MESSAGE, INTERFACE_ID, IA_PD}
 use Rattle.dhcp6_pd.specs.declared.numbers.TheConstants.{IA_PREFIX, SOLICIT, REQUEST, RENEW, REBIND, RELEASE}
 use Rattle.dhcp6_pd.specs.declared.numbers.TheConstants.{REMOTE_ID, RELAY_FORWARD, MAX_IAS, MAX_RELAYS, IA_NA}
@@ -94,7 +94,7 @@ iaids_in least (octets ∷ all) =
 
 -- The type, three octets of transaction identifier, options. What may stand once stands once, IA_PDs at most 16 times.
 -- Whom the identifiers name isn't asked.
-pub record SpellsClient (octets : List ℕ) (u : UntestedMessage) : Type 0 where
+pub record SpellsClient (octets : List ℕ) (u : UnvalidatedMessage) : Type 0 where
   pub whole : 4 ≤ length octets
   pub kind : slice_index octets 0 ≡ type_of u.kind
   pub xid : u.xid ≡ take 3 (drop 1 octets)
@@ -133,12 +133,12 @@ pub record SpellsRelay (octets : List ℕ) (r : Relay) (inside : List ℕ) : Typ
 -- ---- the whole datagram
 
 -- the message, in as many relays' messages, the first of them outermost
-abbrev pub SpellsFrom : List ℕ → List Relay → UntestedMessage → Type 0
+abbrev pub SpellsFrom : List ℕ → List Relay → UnvalidatedMessage → Type 0
 SpellsFrom octets [] u = SpellsClient octets u
 SpellsFrom octets (r ∷ relays) u = (inside : List ℕ) × SpellsRelay octets r inside × SpellsFrom inside relays u
 
 -- the octets are this message, whatever its identifiers are
-pub record SpellsUntested (octets : List ℕ) (u : UntestedMessage) : Type 0 where
+pub record SpellsUnvalidated (octets : List ℕ) (u : UnvalidatedMessage) : Type 0 where
   pub spelled : SpellsFrom octets u.relays u
   pub few : length u.relays ≤ MAX_RELAYS
 
@@ -153,7 +153,7 @@ server_for own Renew = Some own
 server_for own Release = Some own
 
 -- a message with the identifiers that it has to have
-abbrev pub addressed : List ℕ → ClientMessage → UntestedMessage
+abbrev pub addressed : List ℕ → ClientMessage → UnvalidatedMessage
 addressed own m = record {
   relays = m.relays;
   kind = Lease m.kind;
@@ -169,12 +169,12 @@ addressed own m = record {
 
 -- the octets are this message for the server with this identifier
 abbrev pub Spells : List ℕ → List ℕ → ClientMessage → Type 0
-Spells own octets m = SpellsUntested octets (addressed own m)
+Spells own octets m = SpellsUnvalidated octets (addressed own m)
 
 -- ---- requests for options alone (section 16.12)
 
 -- a request with this server identifier, or none, and without identity associations
-abbrev pub inquiry : Option (List ℕ) → InformationRequest → UntestedMessage
+abbrev pub inquiry : Option (List ℕ) → InformationRequest → UnvalidatedMessage
 inquiry server i = record {
   relays = i.relays;
   kind = Information;
@@ -196,4 +196,4 @@ NamesOnly own (Some server) = server ≡ own
 -- the octets are this request to the server with this identifier, or to any
 abbrev pub SpellsInformation : List ℕ → List ℕ → InformationRequest → Type 0
 SpellsInformation own octets i =
-    (server : Option (List ℕ)) × NamesOnly own server × SpellsUntested octets (inquiry server i)
+    (server : Option (List ℕ)) × NamesOnly own server × SpellsUnvalidated octets (inquiry server i)

@@ -5,7 +5,7 @@ pub mod Grammar
 pub mod Rows
 pub mod Associations
 pub mod Refusals
-pub mod Wishes
+pub mod RequestedItems
 pub mod Faults
 pub mod Answers
 pub mod Parsing

@@ -9,17 +9,17 @@ use Rattle.dhcp6_pd.specs.declared.error.PdError.{PdError}
 use Rattle.dhcp6_pd.specs.declared.error.PdError.TheVariants.{Fault, Memory}
 use Rattle.dhcp6_pd.specs.declared.message.ClientKind.{ClientKind}
 use Rattle.dhcp6_pd.specs.declared.message.ClientKind.TheVariants.{Solicit, Request, Renew, Rebind, Release}
-use Rattle.dhcp6_pd.specs.declared.untested.UntestedMessage.{UntestedMessage}
+use Rattle.dhcp6_pd.specs.declared.unvalidated.UnvalidatedMessage.{UnvalidatedMessage}
 use Rattle.dhcp6_pd.specs.declared.numbers.TheConstants.{CLIENT_ID, SERVER_ID, RELAY_MESSAGE, INTERFACE_ID}
 use Rattle.dhcp6_pd.specs.declared.numbers.TheConstants.{REMOTE_ID, RELAY_FORWARD}
 use Rattle.dhcp6_pd.specs.Layout.{option_octets}
 use Rattle.dhcp6_pd.specs.Options.{DhcpOption, IsOption, octets_of, data_of}
-use Rattle.dhcp6_pd.specs.declared.reads.Reads.{Reads}
-use Rattle.dhcp6_pd.specs.declared.reads.Reads.TheVariants.{Leases}
-use Rattle.dhcp6_pd.specs.declared.reads.Reads.TheVariants as reads
-use Rattle.dhcp6_pd.specs.declared.reads.MessageKind.{MessageKind}
-use Rattle.dhcp6_pd.specs.declared.reads.MessageKind.TheVariants.{Lease, Information}
-use Rattle.dhcp6_pd.specs.Grammar.{lease_type, SpellsUntested}
+use Rattle.dhcp6_pd.specs.declared.message_class.MessageClass.{MessageClass}
+use Rattle.dhcp6_pd.specs.declared.message_class.MessageClass.TheVariants.{Leases}
+use Rattle.dhcp6_pd.specs.declared.message_class.MessageClass.TheVariants as reads
+use Rattle.dhcp6_pd.specs.declared.message_class.MessageKind.{MessageKind}
+use Rattle.dhcp6_pd.specs.declared.message_class.MessageKind.TheVariants.{Lease, Information}
+use Rattle.dhcp6_pd.specs.Grammar.{lease_type, SpellsUnvalidated}
 
 -- the answer is this fault exactly where that holds, unless a growth was refused
 abbrev pub Refuses : {X : Type 0} → Result X PdError → PdFault → Type 0 → Type 0
@@ -37,7 +37,7 @@ IsOfForm BadPrefixLength = Unit {0}
 IsOfForm other = ⊥
 
 -- messages of this type are read
-abbrev pub IsRead : Reads → MessageKind → Type 0
+abbrev pub IsRead : MessageClass → MessageKind → Type 0
 IsRead Leases (Lease kind) = Unit {0}
 IsRead Leases Information = ⊥
 IsRead reads.Information (Lease kind) = ⊥
@@ -45,7 +45,7 @@ IsRead reads.Information Information = Unit {0}
 
 -- the octets are no message about prefixes, whatever its identifiers would be
 abbrev pub IsMalformed : List ℕ → Type 0
-IsMalformed octets = (u : UntestedMessage) → IsRead Leases u.kind → ¬ (SpellsUntested octets u)
+IsMalformed octets = (u : UnvalidatedMessage) → IsRead Leases u.kind → ¬ (SpellsUnvalidated octets u)
 
 -- ---- the innermost message
 
@@ -93,8 +93,8 @@ pub record IsOfOtherType (most : ℕ) (octets : List ℕ) : Type 0 where
 -- ---- the identifiers
 
 -- the octets are a message about prefixes, whatever its identifiers are, of which this holds
-abbrev pub SpellsOne : List ℕ → (UntestedMessage → Type 0) → Type 0
-SpellsOne octets P = (u : UntestedMessage) × SpellsUntested octets u × IsRead Leases u.kind × P u
+abbrev pub SpellsOne : List ℕ → (UnvalidatedMessage → Type 0) → Type 0
+SpellsOne octets P = (u : UnvalidatedMessage) × SpellsUnvalidated octets u × IsRead Leases u.kind × P u
 
 -- types of messages to any server; all others are to one
 abbrev pub IsToAny : MessageKind → Type 0
@@ -106,17 +106,17 @@ IsToAny (Lease Release) = ⊥
 IsToAny Information = ⊥
 
 -- it has no client identifier
-abbrev pub NamesNoClient : UntestedMessage → Type 0
+abbrev pub NamesNoClient : UnvalidatedMessage → Type 0
 NamesNoClient u = u.client ≡ None
 
 -- it is to any server and has a server identifier
-abbrev pub NamesServerOfAny : UntestedMessage → Type 0
+abbrev pub NamesServerOfAny : UnvalidatedMessage → Type 0
 NamesServerOfAny u = IsSome u.client × IsToAny u.kind × IsSome u.server
 
 -- it is to one server and has no server identifier
-abbrev pub NamesNoServer : UntestedMessage → Type 0
+abbrev pub NamesNoServer : UnvalidatedMessage → Type 0
 NamesNoServer u = IsSome u.client × (¬ (IsToAny u.kind)) × (u.server ≡ None)
 
 -- it is to one server, and its server identifier is not this server's
-abbrev pub NamesAnother : List ℕ → UntestedMessage → Type 0
+abbrev pub NamesAnother : List ℕ → UnvalidatedMessage → Type 0
 NamesAnother own u = IsSome u.client × (¬ (IsToAny u.kind)) × IsSomeAnd u.server (λ server. server ≢ own)

@@ -7,7 +7,7 @@ ghost use Rattle.dhcp6_pd.specs.Faults.{once, seen_once, with_ia, client_option,
 
 use crate::error::{PdError, PdFault};
 use crate::ia::ia_in;
-use crate::keeping::{Keeps, keep_all};
+use crate::keeping::{OptionSink, store_options};
 use crate::message_lists::IaPdList;
 use crate::numbers::MAX_IAS;
 use crate::option_code::OptionCode;
@@ -91,16 +91,16 @@ impl ClientOptions {
         ensures { Gives (λ s. s) result (client_options_in octets.now) }
     {
         let mut kept = ClientOptions::none(alloc);
-        keep_all(&mut kept, alloc, Options::new(octets))?;
+        store_options(&mut kept, alloc, Options::new(octets))?;
         Ok(kept)
     }
 }
 
-impl Keeps for ClientOptions {
+impl OptionSink for ClientOptions {
     ghost step = { client_option };
 
     #[tactic(auto, unfolding(crate::specs::Faults::client_option))]
-    fn keep(&mut self, alloc: Global, option: &RawOption<'_>) -> Result<(), PdError> {
+    fn store_option(&mut self, alloc: Global, option: &RawOption<'_>) -> Result<(), PdError> {
         match OptionCode::of(option.code) {
             OptionCode::ClientId => keep_once(&mut self.client, option.octets)?,
             OptionCode::ServerId => keep_once(&mut self.server, option.octets)?,

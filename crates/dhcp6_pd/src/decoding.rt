@@ -12,9 +12,9 @@ ghost use Rattle.dhcp6_pd.specs.declared.message.ClientMessage.{ClientMessage as
 
 use crate::error::{PdError, PdFault};
 use crate::message::{ClientKind, ClientMessage};
+use crate::message_class::{MessageClass, MessageKind};
 use crate::numbers::MAX_RELAYS;
-use crate::reads::{MessageKind, Reads};
-use crate::untested::{UntestedMessage, message_in};
+use crate::unvalidated::{UnvalidatedMessage, message_in};
 use client_id::Duid;
 use std::alloc::Global;
 
@@ -39,10 +39,10 @@ fn for_server(own: &Duid, kind: ClientKind, server: &Option<Duid>) -> Result<(),
 
 /// A message about prefixes whose identifiers are as its type asks for.
 #[tactic(auto, unfolding(crate::specs::Faults::identified))]
-fn identified(message: UntestedMessage, own: &Duid) -> Result<ClientMessage, PdFault>
+fn identified(message: UnvalidatedMessage, own: &Duid) -> Result<ClientMessage, PdFault>
     ensures { result ≡ identified own.now message }
 {
-    let UntestedMessage {
+    let UnvalidatedMessage {
         relays,
         kind,
         xid,
@@ -75,7 +75,7 @@ fn identified(message: UntestedMessage, own: &Duid) -> Result<ClientMessage, PdF
 fn decoded(alloc: Global, octets: &[u8], own: &Duid) -> Result<ClientMessage, PdError>
     ensures { Gives (λ m. m) result (message_of own.now octets.now) }
 {
-    let untested = message_in(alloc, Reads::Leases, octets, MAX_RELAYS)?;
+    let untested = message_in(alloc, MessageClass::Leases, octets, MAX_RELAYS)?;
     let message = identified(untested, own)?;
     Ok(message)
 }

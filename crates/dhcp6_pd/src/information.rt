@@ -8,9 +8,9 @@ ghost use Rattle.dhcp6_pd.specs.declared.message.InformationRequest.{Information
 
 use crate::error::{PdError, PdFault};
 use crate::message::InformationRequest;
+use crate::message_class::MessageClass;
 use crate::numbers::MAX_RELAYS;
-use crate::reads::Reads;
-use crate::untested::{UntestedMessage, message_in};
+use crate::unvalidated::{UnvalidatedMessage, message_in};
 use client_id::Duid;
 use std::alloc::Global;
 
@@ -41,7 +41,7 @@ fn is_none<T>(items: &[T]) -> bool
 }
 
 /// Returns whether no identity association stands there.
-fn has_no_ia(message: &UntestedMessage) -> bool
+fn has_no_ia(message: &UnvalidatedMessage) -> bool
     ensures { result ≡ has_no_ia message.now }
 {
     is_none(message.ias.as_slice())
@@ -52,14 +52,14 @@ fn has_no_ia(message: &UntestedMessage) -> bool
 
 /// A request that names no other server and has no identity association.
 #[tactic(auto, unfolding(crate::specs::Faults::inquired))]
-fn inquired(message: UntestedMessage, own: &Duid) -> Result<InformationRequest, PdFault>
+fn inquired(message: UnvalidatedMessage, own: &Duid) -> Result<InformationRequest, PdFault>
     ensures { result ≡ inquired own.now message }
 {
     for_any(own, &message.server)?;
     if !has_no_ia(&message) {
         return Err(PdFault::Ignored);
     }
-    let UntestedMessage {
+    let UnvalidatedMessage {
         relays,
         xid,
         client,
@@ -77,7 +77,7 @@ fn inquired(message: UntestedMessage, own: &Duid) -> Result<InformationRequest, 
 fn asked(alloc: Global, octets: &[u8], own: &Duid) -> Result<InformationRequest, PdError>
     ensures { Gives (λ i. i) result (information_of own.now octets.now) }
 {
-    let untested = message_in(alloc, Reads::Information, octets, MAX_RELAYS)?;
+    let untested = message_in(alloc, MessageClass::Information, octets, MAX_RELAYS)?;
     let request = inquired(untested, own)?;
     Ok(request)
 }

@@ -12,21 +12,25 @@ use crate::options::{Options, RawOption};
 use std::alloc::Global;
 
 /// What is known of a message, by the options that were parsed.
-pub trait Keeps {
+pub trait OptionSink {
     ghost step: { Self → DhcpOption → Result Self PdFaultValue };
 
     /// Keeps what an option says.
-    fn keep(&mut self, alloc: Global, option: &RawOption<'_>) -> Result<(), PdError>
+    fn store_option(&mut self, alloc: Global, option: &RawOption<'_>) -> Result<(), PdError>
         ensures { Gives (λ _. self.new) result (step self.old (plain option.now)) };
 }
 
 /// Keeps what all options say that are left, or gives the first fault.
-pub fn keep_all<K: Keeps>(kept: &mut K, alloc: Global, options: Options<'_>) -> Result<(), PdError>
+pub fn store_options<K: OptionSink>(
+    kept: &mut K,
+    alloc: Global,
+    options: Options<'_>,
+) -> Result<(), PdError>
     ensures { Gives (λ _. kept.new) result (folded K.step kept.old (row_of options.entry.rest.now)) }
 {
     let mut options = options;
     while let Some(option) = options.next_option()? {
-        kept.keep(alloc, &option)?;
+        kept.store_option(alloc, &option)?;
     }
     Ok(())
 }

@@ -24,15 +24,15 @@ mod ia;
 mod information;
 mod keeping;
 mod message;
+mod message_class;
 mod message_lists;
 mod numbers;
 mod option_code;
 mod options;
-mod reads;
 mod relay_options;
+mod requested_items;
 mod size;
-mod untested;
-mod wishes;
+mod unvalidated;
 mod writing;
 
 pub use decoding::decode;

@@ -8,7 +8,7 @@ ghost use Rattle.dhcp6_pd.specs.Faults.{relay_id_once, relay_option, no_relay_op
 
 use crate::client_options::see_once;
 use crate::error::{PdError, PdFault};
-use crate::keeping::Keeps;
+use crate::keeping::OptionSink;
 use crate::message::Relay;
 use crate::message_lists::{InterfaceId, RelayId, RemoteId};
 use crate::numbers::RELAY_MESSAGE;
@@ -74,7 +74,7 @@ impl RelayOptions {
             (to_message self.old (row_of options.old.rest.now)) }
     {
         while let Some(option) = options.next_option()? {
-            self.keep(alloc, &option)?;
+            self.store_option(alloc, &option)?;
             if option.code == RELAY_MESSAGE {
                 return Ok(Some(option.octets));
             }
@@ -98,11 +98,11 @@ impl RelayOptions {
     }
 }
 
-impl Keeps for RelayOptions {
+impl OptionSink for RelayOptions {
     ghost step = { relay_option };
 
     #[tactic(auto, unfolding(crate::specs::Faults::relay_option))]
-    fn keep(&mut self, alloc: Global, option: &RawOption<'_>) -> Result<(), PdError> {
+    fn store_option(&mut self, alloc: Global, option: &RawOption<'_>) -> Result<(), PdError> {
         match OptionCode::of(option.code) {
             OptionCode::ClientId => see_once(&mut self.client)?,
             OptionCode::ServerId => see_once(&mut self.server)?,

@@ -4,7 +4,7 @@ ghost use Rattle.std.specs.Prelude.{◌≡◌, [], ◌∷◌, IfOk};
 ghost use Rattle.disk_model.specs.Disk.{opened};
 
 use crate::error::FolderError;
-use crate::file::{Found, RealFile};
+use crate::file::{OpenedFile, RealFile};
 use std::fs::{self, File};
 use std::io::{self, ErrorKind};
 use std::path::{Path, PathBuf};
@@ -32,7 +32,7 @@ impl RealFolder {
 
     /// Opens the file of this name, or makes it, and reads all of it. What was found, and the file's own entry in the
     /// directory, is on the disk before it is told.
-    pub fn open_file(&self, rt: &HostRuntime, name: &str) -> io::Result<Found>
+    pub fn open_file(&self, rt: &HostRuntime, name: &str) -> io::Result<OpenedFile>
         ensures { IfOk result (λ f. f.file.noted.calls ≡ opened f.content.items ∷ []) }
     {
         let path = self.path.as_path().join(rt.alloc(), name)?;

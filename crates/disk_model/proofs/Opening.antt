@@ -6,7 +6,7 @@ use Rattle.disk_model.specs.Disk.{Call, opened, cut, flushed, failed, file_after
 use Rattle.disk_model.specs.Disk.{at_first, then_also}
 use Rattle.disk_model.specs.Devices.{Notes, NotesSync}
 use Rattle.disk_model.specs.declared.device.DeviceError.{DeviceError}
-use Rattle.disk_model.specs.Lines.{text_of, recovered, IsWhole}
+use Rattle.disk_model.specs.Lines.{text_of, recovered, IsWholeLines}
 use Rattle.disk_model.specs.Open.{lines_in, synced_in, IsOpen}
 use Rattle.disk_model.proofs.Lines.{parts, recovered_text}
 use Rattle.disk_model.proofs.Left.{left_same}
@@ -66,14 +66,14 @@ module _ (content : List ℕ) (n : ℕ) (is : n ≡ length (text_of (recovered c
   lines_cut : lines_in shorter ≡ recovered content
   lines_cut = ap recovered cut_text ∙ recovered_text (recovered content) (parts content).lines
 
-  whole_cut : IsWhole (take n content)
+  whole_cut : IsWholeLines (take n content)
   whole_cut = cut_text ∙ ap text_of (sym lines_cut)
 
   pub open_cut : IsOpen (flushed ∷ shorter)
   open_cut = record {
     usable = refl;
     whole = whole_cut;
-    synced = subst IsWhole (sym (take_all (length (take n content)) (take n content) (omega arith))) whole_cut;
+    synced = subst IsWholeLines (sym (take_all (length (take n content)) (take n content) (omega arith))) whole_cut;
     within = omega arith;
     settled = refl;
   }

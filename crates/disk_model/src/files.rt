@@ -6,7 +6,7 @@ use std::alloc::Global;
 
 /// A file couldn't be read.
 #[derive(Clone, Copy, Debug, PartialEq, Eq)]
-pub struct Unread;
+pub struct ReadFailed;
 
 /// The files of a folder of volumes, the first volume's first, as far as a reader knows them.
 pub trait Files {
@@ -18,7 +18,7 @@ pub trait Files {
         ensures { (contents : List (List ℕ)) → may_have self.now contents → result ≡ length contents };
 
     /// Returns what a file holds; files are counted from 0.
-    fn read(&self, alloc: Global, place: usize) -> Result<Vec<u8>, Unread>
+    fn read(&self, alloc: Global, place: usize) -> Result<Vec<u8>, ReadFailed>
         ensures { IfOk result (λ content. (contents : List (List ℕ)) → may_have self.now contents
             → slice_get contents place ≡ Some content.items) };
 

@@ -3,7 +3,7 @@
 ghost use Rattle.std.specs.Prelude.{◌≡◌, ◌+◌, ◌<◌, ◌≤◌, ◌^◌, length, map};
 ghost use Rattle.disk_model.specs.LastFiles.{AreLast, some_are_last};
 
-use crate::files::{Files, Unread};
+use crate::files::{Files, ReadFailed};
 use std::alloc::Global;
 
 /// The contents of the last files of a folder, and how many files stand before them.
@@ -37,16 +37,16 @@ impl Files for LastFiles {
         self.unread + self.contents.len()
     }
 
-    fn read(&self, alloc: Global, place: usize) -> Result<Vec<u8>, Unread> {
+    fn read(&self, alloc: Global, place: usize) -> Result<Vec<u8>, ReadFailed> {
         if place < self.unread {
-            return Err(Unread);
+            return Err(ReadFailed);
         }
         let Some(content) = self.contents.get(place - self.unread) else {
-            return Err(Unread);
+            return Err(ReadFailed);
         };
         match content.to_vec(alloc) {
             Ok(content) => Ok(content),
-            Err(_) => Err(Unread),
+            Err(_) => Err(ReadFailed),
         }
     }
 }

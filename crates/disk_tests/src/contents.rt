@@ -5,7 +5,7 @@ use journal_lines::Head;
 use std::alloc::{AllocError, Global};
 use std::process::Abort;
 use std::test::Fail;
-use volume_store::{FoundBook, RecoveryError, recover};
+use volume_store::{RecoveredBook, RecoveryError, recover};
 
 /// A first volume of the primary's, to its end line: 117 octets to the end of the first line behind its head lines,
 /// then 13 of its close line and 6 of its end line.
@@ -56,12 +56,12 @@ const CONTENTS: [(&[u8], &str); 10] = [
 ];
 
 /// What was found, in words.
-fn said(alloc: Global, found: Result<FoundBook, RecoveryError>) -> Result<String, AllocError> {
+fn said(alloc: Global, found: Result<RecoveredBook, RecoveryError>) -> Result<String, AllocError> {
     match found {
-        Ok(FoundBook::NeverTold) => format!(in alloc; "never told"),
-        Ok(FoundBook::Open(book)) => format!(in alloc; "open {}", book.journal().len()),
-        Ok(FoundBook::Closed(book)) => format!(in alloc; "closed {}", book.journal().len()),
-        Ok(FoundBook::Ended(book)) => format!(in alloc; "ended {}", book.journal().len()),
+        Ok(RecoveredBook::Unpublished) => format!(in alloc; "never told"),
+        Ok(RecoveredBook::Open(book)) => format!(in alloc; "open {}", book.journal().len()),
+        Ok(RecoveredBook::Closed(book)) => format!(in alloc; "closed {}", book.journal().len()),
+        Ok(RecoveredBook::Ended(book)) => format!(in alloc; "ended {}", book.journal().len()),
         Err(error) => format!(in alloc; "{error}"),
     }
 }

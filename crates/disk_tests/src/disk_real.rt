@@ -5,17 +5,17 @@ ghost use Rattle.disk_model.specs.Disk.{opened};
 
 use crate::words::{WORDS, Word};
 use commit_queue::Committer;
-use disk_files::{FolderError, Found, RealFolder};
+use disk_files::{FolderError, OpenedFile, RealFolder};
 use disk_model::JournalFile;
 use std::alloc::Global;
 use std::test::Fail;
 use std::{env, fs, process};
 
 /// Commits so many words to a journal that was opened. Returns how many lines it had, or `None` where the file failed.
-fn commit_first(alloc: Global, found: Found, count: u64) -> Option<usize>
+fn commit_first(alloc: Global, found: OpenedFile, count: u64) -> Option<usize>
     requires { found.file.noted.calls ≡ opened found.content.items ∷ [] }
 {
-    let Found { file, content } = found;
+    let OpenedFile { file, content } = found;
     let Ok((file, lines)) = JournalFile::open(file, &content) else {
         return None;
     };

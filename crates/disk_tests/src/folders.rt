@@ -6,7 +6,9 @@ use binding_rules::Role;
 use std::alloc::{AllocError, Global};
 use std::process::Abort;
 use std::test::Fail;
-use volume_store::{Files, FolderBook, FolderRecoveryError, NextStep, Unread, recover_folder};
+use volume_store::{
+    Files, FolderRecoveryError, ReadFailed, RecoveredFolder, ResumeStep, recover_folder,
+};
 
 /// The primary's first volume, to its end line.
 const FIRST: &[u8] = b"pd-journal 1 A
@@ -95,13 +97,13 @@ impl Files for HeldFiles<'_> {
         self.files.len()
     }
 
-    fn read(&self, alloc: Global, place: usize) -> Result<Vec<u8>, Unread> {
+    fn read(&self, alloc: Global, place: usize) -> Result<Vec<u8>, ReadFailed> {
         let Some(content) = self.files.get(place) else {
-            return Err(Unread);
+            return Err(ReadFailed);
         };
         match content.to_vec(alloc) {
             Ok(content) => Ok(content),
-            Err(_) => Err(Unread),
+            Err(_) => Err(ReadFailed),
         }
     }
 }
@@ -109,25 +111,25 @@ impl Files for HeldFiles<'_> {
 /// What is gone on with, in words.
 fn said(
     alloc: Global,
-    found: Result<FolderBook, FolderRecoveryError>,
+    found: Result<RecoveredFolder, FolderRecoveryError>,
 ) -> Result<String, AllocError> {
-    let FolderBook { step, volumes } = match found {
+    let RecoveredFolder { step, volumes } = match found {
         Ok(found) => found,
         Err(error) => return format!(in alloc; "{error}"),
     };
     match step {
-        NextStep::BeginFirst => format!(in alloc; "begin the first volume"),
-        NextStep::GoOn(book) => {
+        ResumeStep::BeginFirst => format!(in alloc; "begin the first volume"),
+        ResumeStep::GoOn(book) => {
             format!(in alloc;
                 "go on with volume {} of {} lines",
                 volumes,
                 book.journal().len()
             )
         }
-        NextStep::End(book) => {
+        ResumeStep::End(book) => {
             format!(in alloc; "end volume {} of {} lines", volumes, book.journal().len())
         }
-        NextStep::BeginNext(book) => {
+        ResumeStep::BeginNext(book) => {
             format!(in alloc;
                 "begin the volume behind {} of {} lines",
                 volumes,

@@ -1,7 +1,7 @@
 //! Losses of power while three volumes are written.
 
 use crate::story::{Written, three_volumes};
-use crate::writing::{Told, write_volumes};
+use crate::writing::{PublishedState, write_volumes};
 use binding_rules::Role;
 use disk_model::extent_of;
 use order_book::Book;
@@ -9,7 +9,7 @@ use std::alloc::Global;
 use std::process::Abort;
 use std::test::Fail;
 use test_support::{Contents, TestFile, TestFolder};
-use volume_store::{FolderBook, NextStep, recover_folder};
+use volume_store::{RecoveredFolder, ResumeStep, recover_folder};
 
 /// More calls than writing the volumes takes: six to begin the first one, eight for each roll, and two for each of 18
 /// batches.
@@ -23,14 +23,14 @@ const SEEDS: u64 = 200;
 struct Lost {
     folder: TestFolder,
     files: Vec<TestFile>,
-    told: Told,
+    told: PublishedState,
 }
 
 /// Writes the volumes to an empty folder, of whose calls, and of whose files', so many are answered. Where a file
 /// couldn't be made it may still be there, empty.
 fn lose(alloc: Global, volumes: &[Written], calls: usize) -> Result<Lost, Fail> {
     let mut folder = TestFolder::new(alloc, 0, calls)?;
-    let mut told = Told::none();
+    let mut told = PublishedState::none();
     let mut reached = write_volumes(alloc, &mut folder, volumes, &mut told)?;
     if reached.is_unmade {
         reached.files.push(TestFile::new(alloc, &[], 0)?)?;
@@ -62,12 +62,12 @@ fn left_of(rt: &impl Abort, volumes: &[Written], lost: &Lost, seed: u64) -> Resu
 }
 
 /// Returns the book of a step, if there is one.
-fn book_of(step: NextStep) -> Option<Book> {
+fn book_of(step: ResumeStep) -> Option<Book> {
     match step {
-        NextStep::BeginFirst => None,
-        NextStep::GoOn(book) => Some(book),
-        NextStep::End(book) => Some(book),
-        NextStep::BeginNext(book) => Some(book),
+        ResumeStep::BeginFirst => None,
+        ResumeStep::GoOn(book) => Some(book),
+        ResumeStep::End(book) => Some(book),
+        ResumeStep::BeginNext(book) => Some(book),
     }
 }
 
@@ -81,7 +81,7 @@ fn goes_on(
     contents: &Contents,
 ) -> Result<(), Fail> {
     let Ok(
-        FolderBook {
+        RecoveredFolder {
             step,
             volumes: count,
         },

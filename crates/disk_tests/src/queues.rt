@@ -2,7 +2,7 @@
 
 ghost use Rattle.std.specs.Prelude.{◌≡◌, ◌++◌, [], ◌∷◌};
 
-use crate::runs::{Run, left_of};
+use crate::runs::{FileRun, left_of};
 use crate::words::{COUNT, Word};
 use commit_queue::{Committer, Durable};
 use commit_thread::{Outlet, commit_queued};
@@ -17,12 +17,12 @@ use test_support::TestFile;
 
 /// Keeps what is sent.
 #[derive(Drop)]
-struct Kept<'a, A: Abort> {
+struct SentWords<'a, A: Abort> {
     rt: &'a A,
     words: Vec<Word>,
 }
 
-impl<A: Abort> Outlet<Word> for Kept<'_, A> {
+impl<A: Abort> Outlet<Word> for SentWords<'_, A> {
     ghost sent = { λ k. k.words.items };
 
     fn send(&mut self, answer: Durable<Word>)
@@ -49,14 +49,14 @@ fn commit_from(
     alloc: Global,
     queue: Receiver<Word>,
     calls: usize,
-) -> Option<Run> {
+) -> Option<FileRun> {
     let file = TestFile::new(alloc, &[], calls).ok()?;
     let (file, lines) = match JournalFile::open(file, &[]) {
         Ok(opened) => opened,
-        Err((_, file)) => return Some(Run { told: 0, file }),
+        Err((_, file)) => return Some(FileRun { told: 0, file }),
     };
     let mut committer = Committer::new(alloc, file, lines);
-    let mut outlet = Kept {
+    let mut outlet = SentWords {
         rt,
         words: Vec::new(alloc),
     };
@@ -66,7 +66,7 @@ fn commit_from(
     }
     let told = outlet.words.len() as u64;
     let file = committer.into_file().into_device();
-    Some(Run { told, file })
+    Some(FileRun { told, file })
 }
 
 #[test]

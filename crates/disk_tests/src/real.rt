@@ -5,9 +5,9 @@ ghost use Rattle.disk_model.specs.Names.{held};
 
 use crate::story::{Written, three_volumes};
 use crate::texts::whole;
-use crate::writing::{Told, write_volumes};
+use crate::writing::{PublishedState, write_volumes};
 use binding_rules::Role;
-use disk_files::{FolderError, Found, RealFolder, RealVolumes};
+use disk_files::{FolderError, OpenedFile, RealFolder, RealVolumes};
 use disk_model::JournalFile;
 use std::alloc::{AllocError, Global};
 use std::fs::{self, OpenOptions};
@@ -16,7 +16,7 @@ use std::os::unix::fs::symlink;
 use std::path::{Path, PathBuf};
 use std::test::Fail;
 use std::{env, process};
-use volume_store::{FolderBook, NextStep, recover_folder};
+use volume_store::{RecoveredFolder, ResumeStep, recover_folder};
 
 /// Makes a directory for one test.
 fn directory(rt: &HostRuntime, name: &str) -> Result<PathBuf, Fail> {
@@ -49,19 +49,19 @@ fn open(rt: HostRuntime, path: Path<'_>) -> Result<RealVolumes, FolderError>
 
 /// Writes three volumes to a directory that has none, and lets go of all files. Returns how far it told.
 #[tactic(auto, using(crate::proofs::Opened::held_is_settled, crate::proofs::Opened::held_none))]
-fn write_all(rt: HostRuntime, path: Path<'_>, volumes: &[Written]) -> Result<Told, Fail> {
+fn write_all(rt: HostRuntime, path: Path<'_>, volumes: &[Written]) -> Result<PublishedState, Fail> {
     let mut folder = open(rt, path)?;
     if folder.count() != 0 {
         return Err(Fail::from("files are there already"));
     }
-    let mut told = Told::none();
+    let mut told = PublishedState::none();
     write_volumes(rt.alloc(), &mut folder, volumes, &mut told)?;
     Ok(told)
 }
 
 /// What a start goes on with, or why it doesn't, in words.
 fn said(alloc: Global, folder: &RealVolumes, written: &[Written]) -> Result<String, Fail> {
-    let FolderBook { step, volumes } = match recover_folder(
+    let RecoveredFolder { step, volumes } = match recover_folder(
         alloc,
         Role::Primary,
         &folder.last_files()?,
@@ -70,10 +70,10 @@ fn said(alloc: Global, folder: &RealVolumes, written: &[Written]) -> Result<Stri
         Err(error) => return Ok(format!(in alloc; "{error}")?),
     };
     let (words, book) = match step {
-        NextStep::BeginFirst => return Ok(format!(in alloc; "begin the first volume")?),
-        NextStep::GoOn(book) => ("go on with", book),
-        NextStep::End(book) => ("end", book),
-        NextStep::BeginNext(book) => ("begin the next behind", book),
+        ResumeStep::BeginFirst => return Ok(format!(in alloc; "begin the first volume")?),
+        ResumeStep::GoOn(book) => ("go on with", book),
+        ResumeStep::End(book) => ("end", book),
+        ResumeStep::BeginNext(book) => ("begin the next behind", book),
     };
     let volume = written.get(volumes.wrapping_sub(1)).ok_or("no volume")?;
     if !volume.lines.starts_with(book.journal()) {
@@ -135,7 +135,7 @@ fn what_was_written_is_found_in_a_directory(rt: HostRuntime) -> Result<(), Fail>
     let last = file_of(alloc, path.as_path(), 3)?;
     append(&rt, last.as_path(), b"361 1000000 gra")?;
     assert_eq!(rt; said(alloc, &folder, &volumes)?.as_str(), GOES_ON);
-    let Found { file, content } = folder.open_last()?;
+    let OpenedFile { file, content } = folder.open_last()?;
     let Ok((mut file, _)) = JournalFile::open(file, &content) else {
         return Err(Fail::from("the file failed"));
     };

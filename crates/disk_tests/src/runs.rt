@@ -12,7 +12,7 @@ use test_support::TestFile;
 
 /// A file after a run, and how many of its lines were told of.
 #[derive(Drop)]
-pub(crate) struct Run {
+pub(crate) struct FileRun {
     pub told: u64,
     pub file: TestFile,
 }
@@ -34,21 +34,21 @@ fn commit_words(alloc: Global, committer: &mut Committer<TestFile, Word>) -> u64
 }
 
 /// Opens a file over this content, of which so many calls are answered, and commits the words to it.
-pub(crate) fn run_over(alloc: Global, content: &[u8], calls: usize) -> Result<Run, Fail> {
+pub(crate) fn run_over(alloc: Global, content: &[u8], calls: usize) -> Result<FileRun, Fail> {
     let found = extent_of(content).lines as u64;
     let file = TestFile::new(alloc, content, calls)?;
     let (file, lines) = match JournalFile::open(file, content) {
         Ok(opened) => opened,
-        Err((_, file)) => return Ok(Run { told: found, file }),
+        Err((_, file)) => return Ok(FileRun { told: found, file }),
     };
     let mut committer = Committer::new(alloc, file, lines);
     let told = commit_words(alloc, &mut committer);
     let file = committer.into_file().into_device();
-    Ok(Run { told, file })
+    Ok(FileRun { told, file })
 }
 
 /// Draws what a loss of power leaves of a run: the first words, and no fewer than were told of.
-pub(crate) fn left_of(rt: &impl Abort, run: &Run, seed: u64) -> Result<Vec<u8>, Fail> {
+pub(crate) fn left_of(rt: &impl Abort, run: &FileRun, seed: u64) -> Result<Vec<u8>, Fail> {
     let content = run.file.left(seed)?;
     let whole = extent_of(&content);
     assert!(rt; whole.lines as u64 >= run.told);

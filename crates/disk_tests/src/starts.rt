@@ -6,7 +6,7 @@ use journal_lines::{Event, Line};
 use lead_time::Reading;
 use order_book::Book;
 use server_settings::read_settings;
-use server_start::{Start, StartError, start_with};
+use server_start::{StartAction, StartError, start_with};
 use std::alloc::{AllocError, Global};
 use std::process::Abort;
 use std::test::Fail;
@@ -147,12 +147,12 @@ fn said_of_book(alloc: Global, book: &Book) -> Result<String, AllocError> {
 }
 
 /// What is done, in words.
-fn said(alloc: Global, start: Result<Start, StartError>) -> Result<String, AllocError> {
+fn said(alloc: Global, start: Result<StartAction, StartError>) -> Result<String, AllocError> {
     match start {
-        Ok(Start::First) => format!(in alloc; "the first book is opened"),
-        Ok(Start::GoOn(book)) => said_of_book(alloc, &book),
-        Ok(Start::End(_)) => format!(in alloc; "ends the volume, and begins the next"),
-        Ok(Start::Next(_)) => format!(in alloc; "begins the next volume"),
+        Ok(StartAction::First) => format!(in alloc; "the first book is opened"),
+        Ok(StartAction::GoOn(book)) => said_of_book(alloc, &book),
+        Ok(StartAction::End(_)) => format!(in alloc; "ends the volume, and begins the next"),
+        Ok(StartAction::Next(_)) => format!(in alloc; "begins the next volume"),
         Err(error) => format!(in alloc; "{error}"),
     }
 }

@@ -5,7 +5,7 @@ use client_id::{Duid, Iaid};
 use journal_lines::Line;
 use journal_text::write;
 use lead_time::Reading;
-use server_book::{Asked, Book, Order, read_settings};
+use server_book::{Book, LeaseRequest, Order, read_settings};
 use std::alloc::Global;
 use std::test::Fail;
 
@@ -50,7 +50,7 @@ impl Written {
 fn request(turn: u64) -> Option<Order> {
     let octets = [0, 3, 0, 1, 2, 0, 0, 0, 0, (turn % CLIENTS) as u8];
     match Duid::from_bytes(&octets) {
-        Ok(client) => Some(Order::Request(Asked {
+        Ok(client) => Some(Order::Request(LeaseRequest {
             client,
             iaid: Iaid(1),
             hint: None,

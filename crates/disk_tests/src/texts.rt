@@ -1,6 +1,6 @@
 //! Parts of a volume's text.
 
-ghost use Rattle.disk_model.specs.Lines.{IsWhole};
+ghost use Rattle.disk_model.specs.Lines.{IsWholeLines};
 
 use disk_model::extent_of;
 
@@ -23,7 +23,7 @@ pub(crate) fn split_lines(text: &[u8], lines: usize) -> (&[u8], &[u8]) {
 /// Returns the whole lines of a text, which has no other octets.
 #[tactic(auto, using(crate::proofs::WholeTexts::front_fits, crate::proofs::WholeTexts::front_is_whole))]
 pub(crate) fn whole(text: &[u8]) -> &[u8]
-    ensures { IsWhole result.now }
+    ensures { IsWholeLines result.now }
 {
     &text[..extent_of(text).octets]
 }

@@ -2,7 +2,7 @@
 
 use lead_time::Reading;
 use prefix_range::Prefix;
-use server_upkeep::{Bar, Growth, Owed, Roll, Room, Told, Upkeep};
+use server_timers::{DueActions, Growth, OperatorRequest, RollBlocked, RollState, Room, Timers};
 use std::alloc::{AllocError, Global};
 use std::process::Abort;
 use std::test::Fail;
@@ -38,12 +38,14 @@ const BARS: [(bool, bool, &str); 4] = [
     (true, true, "a roll, but the partner is taken for down"),
 ];
 
-fn roll_said(roll: Roll) -> &'static str {
+fn roll_said(roll: RollState) -> &'static str {
     match roll {
-        Roll::NotDue => "",
-        Roll::Due => ", a roll",
-        Roll::Forbidden(Bar::PartnerDown) => ", a roll, but the partner is taken for down",
-        Roll::Forbidden(Bar::UnitMarked) => ", a roll, but a seized unit isn't acknowledged",
+        RollState::NotDue => "",
+        RollState::Due => ", a roll",
+        RollState::Blocked(RollBlocked::PartnerDown) =>
+            ", a roll, but the partner is taken for down",
+        RollState::Blocked(RollBlocked::UnitMarked) =>
+            ", a roll, but a seized unit isn't acknowledged",
     }
 }
 
@@ -56,7 +58,7 @@ fn room_said(room: Room) -> &'static str {
 }
 
 /// What is owed, in words.
-fn said(alloc: Global, owed: &Owed) -> Result<String, AllocError> {
+fn said(alloc: Global, owed: &DueActions) -> Result<String, AllocError> {
     let contact = if owed.contact { ", a contact" } else { "" };
     let words = format!(in alloc;
         "{}{}{}",
@@ -79,7 +81,12 @@ fn owes_by_lines_and_times(rt: HostRuntime) -> Result<(), Fail> {
             opened: Reading::new(0)?,
             written: Reading::new(written)?,
         };
-        let owed = Upkeep::DEFAULT.owed(&growth, Reading::new(now)?, None, Told::Nothing);
+        let owed = Timers::DEFAULT.due_actions(
+            &growth,
+            Reading::new(now)?,
+            None,
+            OperatorRequest::Nothing,
+        );
         assert_eq!(rt; said(rt.alloc(), &owed)?.as_str(), words);
     }
     Ok(())
@@ -101,7 +108,12 @@ fn rolls_where_the_rules_let(rt: HostRuntime) -> Result<(), Fail> {
         } else {
             None
         };
-        let owed = Upkeep::DEFAULT.owed(&growth, begun, Bar::of(down, mark), Told::ToRoll);
+        let owed = Timers::DEFAULT.due_actions(
+            &growth,
+            begun,
+            RollBlocked::of(down, mark),
+            OperatorRequest::Roll,
+        );
         assert_eq!(rt; said(rt.alloc(), &owed)?.as_str(), words);
     }
     Ok(())

@@ -20,17 +20,17 @@ const BATCH: usize = 60;
 
 /// How many volumes a server has told of, and how many lines of the last of them, the first line among them.
 #[derive(Clone, Copy, Debug, PartialEq, Eq)]
-pub(crate) struct Told {
+pub(crate) struct PublishedState {
     pub volumes: usize,
     pub lines: usize,
     /// No line behind the last one's head was told of.
     pub is_head: bool,
 }
 
-impl Told {
+impl PublishedState {
     /// Nothing was told of.
-    pub(crate) fn none() -> Told {
-        Told {
+    pub(crate) fn none() -> PublishedState {
+        PublishedState {
             volumes: 0,
             lines: 0,
             is_head: false,
@@ -107,7 +107,7 @@ fn commit_lines<D: Device + Drop>(
     alloc: Global,
     committer: &mut Committer<D, Held<()>>,
     lines: &[Line],
-    told: &mut Told,
+    told: &mut PublishedState,
 ) -> Result<bool, Fail>
     requires { IsReady D.calls (λ held. held.number) committer.old }
     ensures { IfOk result (λ all. IsTrue all → IsReady D.calls (λ held. held.number) committer.new) }
@@ -144,7 +144,7 @@ pub(crate) fn write_volumes<D: Device + Drop, F: Folder<File = D>>(
     alloc: Global,
     folder: &mut F,
     volumes: &[Written],
-    told: &mut Told,
+    told: &mut PublishedState,
 ) -> Result<Reached<D>, Fail>
     requires names { AreSettled (F.calls folder.old) }
     requires none { (names_after (F.calls folder.old)).files ≡ 0 }

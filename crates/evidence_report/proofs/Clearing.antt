@@ -14,14 +14,14 @@ use Rattle.attribution.specs.Acceptance.{IsCleared, Discharges}
 use Rattle.auditor.specs.Bounds.{IsWrittenFrom}
 use Rattle.auditor.specs.Refusals.{ClearsAt}
 use Rattle.auditor.proofs.Given.{Contains-get, get-Contains}
-use Rattle.evidence_report.specs.declared.mark.Mark.{Mark}
+use Rattle.evidence_report.specs.declared.mark.LineReading.{LineReading}
 use Rattle.evidence_report.specs.Marks.{IsEarliestMark}
 use Rattle.evidence_report.specs.Pieces.{IsDischarging}
 
 -- ---- by the mark of a chain
 
 module _ (js : Journals) (chain : List Ref) (at : Ref) (skew moment : ℕ) where
-  pub after_by_mark : (m : Mark) (b : Bool) → IsEarliestMark js chain at (Some m) → IsTrue b ↔ moment + skew ≤ m.reading
+  pub after_by_mark : (m : LineReading) (b : Bool) → IsEarliestMark js chain at (Some m) → IsTrue b ↔ moment + skew ≤ m.reading
       → IsTrue b ↔ IsWrittenFrom js chain at skew moment
   after_by_mark m b h d = (
     λ t. (m.reading, h.0, d.0 t),

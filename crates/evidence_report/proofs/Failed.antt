@@ -10,8 +10,8 @@ use Rattle.causal_order.proofs.Walking.{one_latest, one_earliest}
 use Rattle.attribution.specs.Run.{infinity}
 use Rattle.attribution.specs.Acceptance.{Grants, IsGranted}
 use Rattle.auditor.specs.Bounds.{IsHolders, IsReachedBy}
-use Rattle.evidence_report.specs.declared.mark.Mark.{Mark}
-use Rattle.evidence_report.specs.declared.piece_report.Granted.{Granted}
+use Rattle.evidence_report.specs.declared.mark.LineReading.{LineReading}
+use Rattle.evidence_report.specs.declared.piece_report.ReportedGrant.{ReportedGrant}
 use Rattle.evidence_report.specs.declared.piece_report.PieceReport.{PieceReport}
 use Rattle.evidence_report.specs.declared.faults.PieceFault.{PieceFault}
 use Rattle.evidence_report.specs.declared.faults.PieceFault.TheVariants.{NoGrant, OtherClient, OtherPrefix, NoChainFrom}
@@ -43,7 +43,7 @@ module _ (js : Journals) (skew transit : ℕ) (c : Certificate) (p : Piece) wher
     not_holders _ f = absurd f
 
     module _ (holders : IsHolders g c) where
-      not_begun : (latest : Option Mark) (fault : PieceFault) → IsLatestMark js p.latest p.grant latest
+      not_begun : (latest : Option LineReading) (fault : PieceFault) → IsLatestMark js p.latest p.grant latest
           → IsBeginFault latest skew transit p.from fault → FailsPiece js skew transit c p fault
       not_begun None NoChainFrom n f = (((g, grants, holders), n), λ h. n h.latest h.written_by)
       not_begun (Some m) (BegunLate begun from) w f = (
@@ -53,13 +53,13 @@ module _ (js : Journals) (skew transit : ℕ) (c : Certificate) (p : Piece) wher
       )
       not_begun _ _ w f = absurd f
 
-      begun_by : (latest : Option Mark) → IsLatestMark js p.latest p.grant latest → BeginsBy latest skew transit p.from
+      begun_by : (latest : Option LineReading) → IsLatestMark js p.latest p.grant latest → BeginsBy latest skew transit p.from
           → IsReachedBy js p.latest p.grant skew transit p.from
       begun_by None n f = absurd f
       begun_by (Some m) w f = (m.reading, w.0, f)
 
       module _ (reached : IsReachedBy js p.latest p.grant skew transit p.from) where
-        carries : (earliest : Option Mark) → IsEarliestMark js p.earliest p.grant earliest
+        carries : (earliest : Option LineReading) → IsEarliestMark js p.earliest p.grant earliest
             → LastsBy earliest skew g.valid p.to → IsGranted js skew transit c p
         carries None n f = absurd f
         carries (Some m) w f = record {
@@ -75,7 +75,7 @@ module _ (js : Journals) (skew transit : ℕ) (c : Certificate) (p : Piece) wher
           lasts = f;
         }
 
-        not_lasting : (earliest : Option Mark) (fault : PieceFault) → IsEarliestMark js p.earliest p.grant earliest
+        not_lasting : (earliest : Option LineReading) (fault : PieceFault) → IsEarliestMark js p.earliest p.grant earliest
             → IsEndFault earliest skew g.valid p.to fault → FailsPiece js skew transit c p fault
         not_lasting None NoChainTo n f = (((g, grants, holders), reached, n), λ h. n h.earliest h.written_from)
         not_lasting (Some m) (EndsEarly needed shown) w f = (
@@ -91,7 +91,7 @@ module _ (js : Journals) (skew transit : ℕ) (c : Certificate) (p : Piece) wher
         )
         not_lasting _ _ w f = absurd f
 
-        by_end : (earliest : Option Mark) (o : Option PieceFault) → IsEarliestMark js p.earliest p.grant earliest
+        by_end : (earliest : Option LineReading) (o : Option PieceFault) → IsEarliestMark js p.earliest p.grant earliest
             → MatchOption o (LastsBy earliest skew g.valid p.to) (IsEndFault earliest skew g.valid p.to)
             → MatchOption o (IsGranted js skew transit c p) (FailsPiece js skew transit c p)
         by_end earliest None w f = carries earliest w f
@@ -103,7 +103,7 @@ module _ (js : Journals) (skew transit : ℕ) (c : Certificate) (p : Piece) (sho
   pub no_grant : None ≡ shown.granted → FailsPiece js skew transit c p NoGrant
   no_grant e = nothing_granted js skew transit c p (subst (IsGrantedAt js p.grant) (sym e) h.granted)
 
-  module _ (granted : Granted) (e : Some granted ≡ shown.granted) where
+  module _ (granted : ReportedGrant) (e : Some granted ≡ shown.granted) where
     grants_it : Grants js p.grant granted.lease
     grants_it = (subst (IsGrantedAt js p.grant) (sym e) h.granted).0
 

@@ -11,7 +11,7 @@ use Rattle.attribution.specs.declared.delegation.Delegation.{Delegation}
 use Rattle.attribution.specs.Delegation.{told_by}
 use Rattle.attribution.specs.Acceptance.{Tells, GivesBack}
 use Rattle.attribution.proofs.Deciding.{tells_told}
-use Rattle.evidence_report.specs.declared.foreign_report.Told.{Told}
+use Rattle.evidence_report.specs.declared.foreign_report.ReportedDelegation.{ReportedDelegation}
 use Rattle.evidence_report.specs.Marks.{IsGrantedAt, IsToldAt}
 use Rattle.evidence_report.specs.Others.{EndsTold}
 
@@ -51,7 +51,7 @@ module _ (js : Journals) (r : Ref) where
 pub one_told : (js : Journals) (r : Ref) (d f : Delegation) → Tells js r d → Tells js r f → f ≡ d
 one_told js r d f a b = let x : Some d ≡ Some f = sym (tells_told js r d a) ∙ tells_told js r f b in cc
 
-pub ends_by_told : (js : Journals) (r release : Ref) (t : Told) (b : Bool) → IsToldAt js r (Some t) → IsTrue b
+pub ends_by_told : (js : Journals) (r release : Ref) (t : ReportedDelegation) (b : Bool) → IsToldAt js r (Some t) → IsTrue b
     ↔ GivesBack js release t.delegation → IsTrue b ↔ EndsTold js r release
 ends_by_told js r release t b h d = (
   λ y. (t.delegation, h.0, d.0 y),

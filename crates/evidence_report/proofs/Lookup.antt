@@ -14,34 +14,34 @@ use Rattle.causal_order.specs.LineOrder.{ComesBefore}
 use Rattle.causal_order.proofs.Deciding.{line_names, names_line}
 use Rattle.auditor.proofs.Given.{Contains-get, get-Contains}
 use Rattle.evidence_report.specs.declared.piece_report.PieceReport.{PieceReport}
-use Rattle.evidence_report.specs.declared.report.Cited.{Cited}
+use Rattle.evidence_report.specs.declared.report.CitedLine.{CitedLine}
 use Rattle.evidence_report.specs.Lines.{AreRising, AreOnce}
 use Rattle.evidence_report.specs.Cited.{cited_by, AreCited, AreFound}
 use Rattle.evidence_report.proofs.Pushed.{get_pushed}
 
-abbrev places : List Cited → List Ref
+abbrev places : List CitedLine → List Ref
 places cited = map (λ k. k.at) cited
 
 -- of the first i references those that name a line, with the line
-pub record AreFoundSoFar (js : Journals) (refs : List Ref) (cited : List Cited) (i : ℕ) : Type 0 where
+pub record AreFoundSoFar (js : Journals) (refs : List Ref) (cited : List CitedLine) (i : ℕ) : Type 0 where
   pub all : (k : ℕ) (r : Ref) (l : Line) → k < i → slice_get refs k ≡ Some r → Names js r l
       → Has cited (record { at = r; line = l })
-  pub only : (c : Cited) → Has cited c → Names js c.at c.line
-  pub from : (c : Cited) → Has cited c → (k : ℕ) × (k < i) × (slice_get refs k ≡ Some c.at)
+  pub only : (c : CitedLine) → Has cited c → Names js c.at c.line
+  pub from : (c : CitedLine) → Has cited c → (k : ℕ) × (k < i) × (slice_get refs k ≡ Some c.at)
   pub rising : AreRising refs → AreRising (map (λ k. k.at) cited)
 
-none_in : (c : Cited) → Has [] c → ⊥
+none_in : (c : CitedLine) → Has [] c → ⊥
 none_in c h = let lt = h.1 in absurd (omega arith)
 
-at_place : (r : Ref) (o : Option Cited) → option_map (λ k. k.at) o ≡ Some r → (c : Cited) × (o ≡ Some c) × (c.at ≡ r)
+at_place : (r : Ref) (o : Option CitedLine) → option_map (λ k. k.at) o ≡ Some r → (c : CitedLine) × (o ≡ Some c) × (c.at ≡ r)
 at_place r None e = absurd (cc)
 at_place r (Some c) e = (c, refl, cc)
 
 -- what stands at a place is cited
-placed : (cited : List Cited) (j : ℕ) (r : Ref) → slice_get (places cited) j ≡ Some r
-    → (c : Cited) × Has cited c × (c.at ≡ r)
+placed : (cited : List CitedLine) (j : ℕ) (r : Ref) → slice_get (places cited) j ≡ Some r
+    → (c : CitedLine) × Has cited c × (c.at ≡ r)
 placed cited j r e =
-    let c = at_place r (slice_get cited j) (sym (slice_get-map (λ (k : Cited). k.at) cited j) ∙ e) in
+    let c = at_place r (slice_get cited j) (sym (slice_get-map (λ (k : CitedLine). k.at) cited j) ∙ e) in
     (c.0, Contains-get cited j c.0 c.1, c.2)
 
 module _ (js : Journals) (refs : List Ref) where
@@ -53,11 +53,11 @@ module _ (js : Journals) (refs : List Ref) where
     rising = λ rising i j r s lt a b. absurd (cc);
   }
 
-  module _ (cited : List Cited) (i : ℕ) (d : Ref) (lt : i < length refs) (h : AreFoundSoFar js refs cited i) where
+  module _ (cited : List CitedLine) (i : ℕ) (d : Ref) (lt : i < length refs) (h : AreFoundSoFar js refs cited i) where
     here : slice_get refs i ≡ Some (get_or refs i d)
     here = slice_get-get_or refs i d lt
 
-    from_more : (c : Cited) → Has cited c → (k : ℕ) × (k < i + 1) × (slice_get refs k ≡ Some c.at)
+    from_more : (c : CitedLine) → Has cited c → (k : ℕ) × (k < i + 1) × (slice_get refs k ≡ Some c.at)
     from_more c has = let f = h.from c has in (f.0, (let less = f.1 in omega arith), f.2)
 
     one_there : (k : ℕ) (r : Ref) → i ≤ k → k < i + 1 → slice_get refs k ≡ Some r → get_or refs i d ≡ r
@@ -80,16 +80,16 @@ module _ (js : Journals) (refs : List Ref) where
     }
 
     module _ (l : Line) (is : Some l ≡ line_of js (get_or refs i d)) where
-      abbrev new : Cited
+      abbrev new : CitedLine
       new = record { at = get_or refs i d; line = l }
 
       -- a line that is cited already comes before it
-      comes_before : AreRising refs → (c : Cited) → Has cited c → ComesBefore c.at (get_or refs i d)
+      comes_before : AreRising refs → (c : CitedLine) → Has cited c → ComesBefore c.at (get_or refs i d)
       comes_before rising c has = let f = h.from c has in rising f.0 i c.at (get_or refs i d) f.1 f.2 here
 
       rising_more : AreRising refs → AreRising (places (cited ++ new ∷ []))
       rising_more rising j k r s less a b =
-          let spread = map-append (λ (x : Cited). x.at) cited (new ∷ []) in
+          let spread = map-append (λ (x : CitedLine). x.at) cited (new ∷ []) in
           let first = subst (λ (rs : List Ref). slice_get rs j ≡ Some r) spread a in
           let second = subst (λ (rs : List Ref). slice_get rs k ≡ Some s) spread b in
           elim (get_pushed (places cited) (get_or refs i d) k s second) [
@@ -120,17 +120,17 @@ module _ (js : Journals) (refs : List Ref) where
         ];
         only = λ c has. elim (Contains-push_cases cited new c has) [
           | inl old ↦ h.only c old
-          | inr same ↦ subst (λ (x : Cited). Names js x.at x.line) same
+          | inr same ↦ subst (λ (x : CitedLine). Names js x.at x.line) same
               (line_names js (get_or refs i d) l (sym is))
         ];
         from = λ c has. elim (Contains-push_cases cited new c has) [
           | inl old ↦ from_more c old
-          | inr same ↦ (i, omega arith, here ∙ ap (λ (x : Cited). Some x.at) same)
+          | inr same ↦ (i, omega arith, here ∙ ap (λ (x : CitedLine). Some x.at) same)
         ];
         rising = rising_more;
       }
 
-  pub all_found : (cited : List Cited) (i : ℕ) → length refs ≤ i → AreFoundSoFar js refs cited i
+  pub all_found : (cited : List CitedLine) (i : ℕ) → length refs ≤ i → AreFoundSoFar js refs cited i
       → AreFound js refs cited
   all_found cited i le h = record {
     all = λ r l has names. (let at = get-Contains refs r has in let lt = at.1 in
@@ -141,7 +141,7 @@ module _ (js : Journals) (refs : List Ref) where
 
 -- those of all that are cited
 pub cited_once : (js : Journals) (c : Certificate) (pieces : List PieceReport) (refs once : List Ref)
-    (cited : List Cited) → refs ≡ cited_by c pieces → AreOnce refs once → AreFound js once cited
+    (cited : List CitedLine) → refs ≡ cited_by c pieces → AreOnce refs once → AreFound js once cited
     → AreCited js c pieces cited
 cited_once js c pieces refs once cited is same found = record {
   all = λ r l has names. found.all r l ((same.same r).0 (subst (λ (rs : List Ref). Has rs r) (sym is) has)) names;

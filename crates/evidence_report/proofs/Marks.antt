@@ -8,10 +8,10 @@ use Rattle.causal_order.specs.Order.{IsChain}
 use Rattle.causal_order.specs.Tests.{first_of_chain, last_of_chain}
 use Rattle.causal_order.proofs.Deciding.{line_names, leads_from}
 use Rattle.causal_order.proofs.Walking.{first_from, last_from, chain_begins, chain_ends, begin_is_read, end_is_read}
-use Rattle.evidence_report.specs.declared.mark.Mark.{Mark}
+use Rattle.evidence_report.specs.declared.mark.LineReading.{LineReading}
 use Rattle.evidence_report.specs.Marks.{IsLatestMark, IsEarliestMark, mark_of}
 
-abbrev mark_in : Ref → Option Line → Option Mark
+abbrev mark_in : Ref → Option Line → Option LineReading
 mark_in r o = option_map (λ l. record { at = r; reading = l.reading }) o
 
 -- ---- a chain from the line

@@ -18,7 +18,7 @@ use Rattle.causal_order.proofs.Walking.{one_earliest}
 use Rattle.attribution.specs.Acceptance.{HasEarlier, IsPastPartner, IsPastOpen, IsGrantedAfterOpen, ReasonHolds}
 use Rattle.attribution.specs.FirstRefusal.{begin_at}
 use Rattle.auditor.specs.Opened.{HasLineOf, IsClearOfOpen, IsPastOwn}
-use Rattle.evidence_report.specs.declared.mark.Mark.{Mark}
+use Rattle.evidence_report.specs.declared.mark.LineReading.{LineReading}
 use Rattle.evidence_report.specs.declared.piece_report.PieceReport.{PieceReport}
 use Rattle.evidence_report.specs.declared.faults.PieceFault.{PieceFault}
 use Rattle.evidence_report.specs.declared.faults.ForeignFault.{ForeignFault}
@@ -84,7 +84,7 @@ module _ (js : Journals) (skew transit : ℕ) (c : Certificate) (shown : Report)
       omega (arith, volume)
 
   module _ (p : Piece) (piece : PieceReport) (q : IsPieceReport js skew p piece) where
-    pub clear_by : (opened : ℕ) (m : Mark) (b : Bool) → s.opened ≡ Some opened → piece.earliest ≡ Some m → IsTrue b
+    pub clear_by : (opened : ℕ) (m : LineReading) (b : Bool) → s.opened ≡ Some opened → piece.earliest ≡ Some m → IsTrue b
         ↔ opened + 2 * shown.skew < m.reading → IsTrue b ↔ IsClearOfOpen js skew p side
     clear_by opened m b e f d =
         let l = opening_line js (open_of side) opened (sym opened_at ∙ e) in

@@ -13,7 +13,7 @@ use Rattle.causal_order.specs.declared.reference.Ref.{Ref}
 use Rattle.causal_order.specs.WrittenOrder.{place_of}
 use Rattle.causal_order.specs.LineOrder.{ComesBefore}
 use Rattle.auditor.proofs.Given.{Contains-get, get-Contains}
-use Rattle.evidence_report.specs.Lines.{AreOnce, IsBehind}
+use Rattle.evidence_report.specs.Lines.{AreOnce, ComesAfterLast}
 use Rattle.evidence_report.proofs.Pushed.{get_pushed}
 
 -- ---- places
@@ -76,7 +76,7 @@ module _ (refs once : List Ref) (i : ℕ) (at : Ref) (here : slice_get refs i �
   only_more r m = let f = h.only r m in (f.0, (let lt = f.1 in omega arith), f.2)
 
   -- one of those so far comes before a line that comes behind the last of them
-  before_last : (j : ℕ) (r : Ref) → slice_get once j ≡ Some r → IsBehind once at → place_of r < place_of at
+  before_last : (j : ℕ) (r : Ref) → slice_get once j ≡ Some r → ComesAfterLast once at → place_of r < place_of at
   before_last j r e behind =
       let within = slice_get_within once j r e in
       let at_end = slice_get-get_or once (length once - 1) r (omega arith) in
@@ -90,7 +90,7 @@ module _ (refs once : List Ref) (i : ℕ) (at : Ref) (here : slice_get refs i �
             let places = ap place_of is in omega arith)
       ]
 
-  pushed : at.number < 2 ^ 32 → IsBehind once at → AreOnceSoFar refs (once ++ at ∷ []) (i + 1)
+  pushed : at.number < 2 ^ 32 → ComesAfterLast once at → AreOnceSoFar refs (once ++ at ∷ []) (i + 1)
   pushed small behind = record {
     small = λ r m. elim (Contains-push_cases once at r m) [
       | inl old ↦ h.small r old
@@ -114,7 +114,7 @@ module _ (refs once : List Ref) (i : ℕ) (at : Ref) (here : slice_get refs i �
   }
 
   -- a line that doesn't come behind the last of those so far is the last
-  is_last : IsNonDecreasingBy place_of refs → at.number < 2 ^ 32 → (IsBehind once at → ⊥) → (o : Option Ref)
+  is_last : IsNonDecreasingBy place_of refs → at.number < 2 ^ 32 → (ComesAfterLast once at → ⊥) → (o : Option Ref)
       → slice_get once (length once - 1) ≡ o → Has once at
   is_last sorted small not_behind None e =
       absurd (not_behind (λ last f. absurd (let x : None ≡ Some last = sym e ∙ f in cc)))
@@ -135,7 +135,7 @@ module _ (refs once : List Ref) (i : ℕ) (at : Ref) (here : slice_get refs i �
         subst (Has once) (same_at last at (h.small last m) small places) m
   ]
 
-  kept : IsNonDecreasingBy place_of refs → at.number < 2 ^ 32 → (IsBehind once at → ⊥) → AreOnceSoFar refs once (i + 1)
+  kept : IsNonDecreasingBy place_of refs → at.number < 2 ^ 32 → (ComesAfterLast once at → ⊥) → AreOnceSoFar refs once (i + 1)
   kept sorted small not_behind = record {
     small = h.small;
     rising = h.rising;
@@ -146,13 +146,13 @@ module _ (refs once : List Ref) (i : ℕ) (at : Ref) (here : slice_get refs i �
 
 -- the loop's steps, by the test
 pub one_pushed : (refs once : List Ref) (i : ℕ) (d : Ref) → i < length refs → (get_or refs i d).number < 2 ^ 32
-    → IsBehind once (get_or refs i d) → AreOnceSoFar refs once i
+    → ComesAfterLast once (get_or refs i d) → AreOnceSoFar refs once i
     → AreOnceSoFar refs (once ++ get_or refs i d ∷ []) (i + 1)
 one_pushed refs once i d lt small behind h =
     pushed refs once i (get_or refs i d) (slice_get-get_or refs i d lt) h small behind
 
 pub one_kept : (refs once : List Ref) (i : ℕ) (d : Ref) → IsNonDecreasingBy place_of refs → i < length refs
-    → (get_or refs i d).number < 2 ^ 32 → (IsBehind once (get_or refs i d) → ⊥) → AreOnceSoFar refs once i
+    → (get_or refs i d).number < 2 ^ 32 → (ComesAfterLast once (get_or refs i d) → ⊥) → AreOnceSoFar refs once i
     → AreOnceSoFar refs once (i + 1)
 one_kept refs once i d sorted lt small not_behind h =
     kept refs once i (get_or refs i d) (slice_get-get_or refs i d lt) h sorted small not_behind

@@ -19,9 +19,9 @@ use Rattle.attribution.specs.Acceptance.{Grants, GivesBack}
 use Rattle.attribution.proofs.Deciding.{grants_lease}
 use Rattle.auditor.specs.Walks.{AreReleases}
 use Rattle.auditor.proofs.Given.{Contains-get}
-use Rattle.evidence_report.specs.declared.mark.Mark.{Mark}
+use Rattle.evidence_report.specs.declared.mark.LineReading.{LineReading}
 use Rattle.evidence_report.specs.declared.piece_report.ReleaseReport.{ReleaseReport}
-use Rattle.evidence_report.specs.declared.piece_report.Granted.{Granted}
+use Rattle.evidence_report.specs.declared.piece_report.ReportedGrant.{ReportedGrant}
 use Rattle.evidence_report.specs.Lines.{AreOnce, AreRising}
 use Rattle.evidence_report.specs.Marks.{Reads, IsGrantedAt, mark_of}
 use Rattle.evidence_report.specs.Pieces.{releases_in, IsReleaseReport, AreReportsOf, AreReleaseReports}
@@ -93,22 +93,22 @@ none_in : {X : Type 0} (x : X) → Has [] x → ⊥
 none_in x h = let lt = h.1 in absurd (omega arith)
 
 -- the mark of a line that is named
-mark_by : (js : Journals) (r : Ref) (m : Mark) (o : Option Line) → line_of js r ≡ o
+mark_by : (js : Journals) (r : Ref) (m : LineReading) (o : Option Line) → line_of js r ≡ o
     → option_map (λ l. record { at = r; reading = l.reading }) o ≡ Some m → (m.at ≡ r) × Reads js r m.reading
 mark_by js r m None e is = absurd (cc)
 mark_by js r m (Some l) e is =
     let same : record { at = r; reading = l.reading } ≡ m = cc in
-    (sym (ap (λ (k : Mark). k.at) same), (l, line_names js r l e, ap (λ (k : Mark). k.reading) same))
+    (sym (ap (λ (k : LineReading). k.at) same), (l, line_names js r l e, ap (λ (k : LineReading). k.reading) same))
 
-pub marked : (js : Journals) (r : Ref) (m : Mark) → Some m ≡ mark_of js r → (m.at ≡ r) × Reads js r m.reading
+pub marked : (js : Journals) (r : Ref) (m : LineReading) → Some m ≡ mark_of js r → (m.at ≡ r) × Reads js r m.reading
 marked js r m e = mark_by js r m (line_of js r) refl (sym e)
 
-pub reads_marked : (js : Journals) (r : Ref) (m : Mark) → Some m ≡ mark_of js r → Reads js m.at m.reading
+pub reads_marked : (js : Journals) (r : Ref) (m : LineReading) → Some m ≡ mark_of js r → Reads js m.at m.reading
 reads_marked js r m e = let at = marked js r m e in subst (λ (x : Ref). Reads js x m.reading) (sym at.0) at.1
 
 unmarked_by : (js : Journals) (r : Ref) (l : Line) → None ≡ mark_of js r → line_of js r ≡ Some l → ⊥
 unmarked_by js r l e is =
-    let m : Mark = record { at = r; reading = l.reading } in
+    let m : LineReading = record { at = r; reading = l.reading } in
     let f : mark_of js r ≡ Some m = ap (option_map (λ (l : Line). record { at = r; reading = l.reading })) is in
     let g : None ≡ Some m = e ∙ f in
     cc
@@ -117,13 +117,13 @@ module _ (js : Journals) (skew : ℕ) (p : Piece) (refs : List Ref) where
   pub none_reported : AreReportedSoFar js skew p refs [] 0
   none_reported = record { lines = refl; each = λ s h. absurd (none_in s h) }
 
-  pub one_reported : (shown : List ReleaseReport) (i : ℕ) (d : Ref) (m : Mark) (s : ReleaseReport) → i < length refs
+  pub one_reported : (shown : List ReleaseReport) (i : ℕ) (d : Ref) (m : LineReading) (s : ReleaseReport) → i < length refs
       → Some m ≡ mark_of js (get_or refs i d) → s.release ≡ m → IsReleaseReport js skew p s
       → AreReportedSoFar js skew p refs shown i → AreReportedSoFar js skew p refs (shown ++ s ∷ []) (i + 1)
   one_reported shown i d m s lt e is report h = record {
     lines = map-append (λ (x : ReleaseReport). x.release.at) shown (s ∷ [])
         ∙ (ap (λ (rs : List Ref). rs ++ s.release.at ∷ []) h.lines
-        ∙ (ap (λ (r : Ref). take i refs ++ r ∷ []) (ap (λ (x : Mark). x.at) is ∙ (marked js (get_or refs i d) m e).0)
+        ∙ (ap (λ (r : Ref). take i refs ++ r ∷ []) (ap (λ (x : LineReading). x.at) is ∙ (marked js (get_or refs i d) m e).0)
         ∙ sym (take_more refs i d lt)));
     each = λ x has. elim (Contains-push_cases shown s x has) [
       | inl old ↦ h.each x old
@@ -154,7 +154,7 @@ pub one_lease : (js : Journals) (r : Ref) (g h : Lease) → Grants js r g → Gr
 one_lease js r g h a b = let x : Some g ≡ Some h = sym (grants_lease js r g a) ∙ grants_lease js r h b in cc
 
 module _ (js : Journals) (skew : ℕ) (p : Piece) where
-  pub by_grant : (granted : Granted) (d : Delegation) (shown : List ReleaseReport)
+  pub by_grant : (granted : ReportedGrant) (d : Delegation) (shown : List ReleaseReport)
       → IsGrantedAt js p.grant (Some granted) → d ≡ of_lease granted.lease → AreReportsOf js skew p d shown
       → AreReleaseReports js skew p shown
   by_grant granted d shown grants is h =

@@ -18,11 +18,11 @@ use Rattle.attribution.specs.declared.delegation.Lasting.{Lasting}
 use Rattle.attribution.specs.declared.delegation.Lasting.TheVariants.{For, Until}
 use Rattle.attribution.specs.Run.{infinity}
 use Rattle.attribution.specs.Acceptance.{Tells, GivesBack, EndsBy, IsOutside, ReasonHolds}
-use Rattle.evidence_report.specs.declared.mark.Mark.{Mark}
+use Rattle.evidence_report.specs.declared.mark.LineReading.{LineReading}
 use Rattle.evidence_report.specs.declared.mark.OrderReport.{OrderReport}
 use Rattle.evidence_report.specs.declared.mark.OrderReport.TheVariants.{Chain, Clock}
-use Rattle.evidence_report.specs.declared.foreign_report.Told.{Told}
-use Rattle.evidence_report.specs.declared.foreign_report.Outside.TheVariants.{Early, Late, Released}
+use Rattle.evidence_report.specs.declared.foreign_report.ReportedDelegation.{ReportedDelegation}
+use Rattle.evidence_report.specs.declared.foreign_report.ForeignEvidence.TheVariants.{Early, Late, Released}
 use Rattle.evidence_report.specs.declared.foreign_report.ForeignReport.{ForeignReport}
 use Rattle.evidence_report.specs.declared.faults.ForeignFault.{ForeignFault}
 use Rattle.evidence_report.specs.declared.faults.ForeignFault.TheVariants.{NoDelegation, NoChain, Endless, EndsLate}
@@ -81,7 +81,7 @@ module _ (js : Journals) (skew transit : ℕ) (r : Ref) (d : Delegation) (from t
   FailsReason reason fault =
       IsReasonFault js skew transit r d from to reason fault × (IsOutside js skew transit r d from to reason → ⊥)
 
-  early_fails : (chain : List Ref) (latest : Option Mark) (fault : ForeignFault) → IsLatestMark js chain r latest
+  early_fails : (chain : List Ref) (latest : Option LineReading) (fault : ForeignFault) → IsLatestMark js chain r latest
       → IsEarlyFault latest d.lasting skew transit from fault → FailsReason (EndedBefore chain) fault
   early_fails chain None NoChain n f = (n, λ o. n o.0 o.1)
   early_fails chain (Some m) Endless w f = (
@@ -95,14 +95,14 @@ module _ (js : Journals) (skew transit : ℕ) (r : Ref) (d : Delegation) (from t
   )
   early_fails chain _ _ w f = absurd f
 
-  by_early : (chain : List Ref) (latest : Option Mark) (o : Option ForeignFault) → IsLatestMark js chain r latest
+  by_early : (chain : List Ref) (latest : Option LineReading) (o : Option ForeignFault) → IsLatestMark js chain r latest
       → MatchOption o (EarlyHolds latest d.lasting skew transit from) (IsEarlyFault latest d.lasting skew transit from)
       → MatchOption o (IsOutside js skew transit r d from to (EndedBefore chain)) (FailsReason (EndedBefore chain))
   by_early chain None None n f = absurd f
   by_early chain (Some m) None w f = (m.reading, w.0, f)
   by_early chain latest (Some fault) w f = early_fails chain latest fault w f
 
-  late_fails : (chain : List Ref) (earliest : Option Mark) (fault : ForeignFault) → IsEarliestMark js chain r earliest
+  late_fails : (chain : List Ref) (earliest : Option LineReading) (fault : ForeignFault) → IsEarliestMark js chain r earliest
       → IsLateFault earliest d.lasting skew to fault → FailsReason (BegunAfter chain) fault
   late_fails chain None NoChain n f = (n, λ o. n o.1.0 o.1.1)
   late_fails chain (Some m) Carried w f = (((m.reading, w.0), f), λ o. f o.0)
@@ -114,7 +114,7 @@ module _ (js : Journals) (skew transit : ℕ) (r : Ref) (d : Delegation) (from t
   )
   late_fails chain _ _ w f = absurd f
 
-  by_late : (chain : List Ref) (earliest : Option Mark) (o : Option ForeignFault) → IsEarliestMark js chain r earliest
+  by_late : (chain : List Ref) (earliest : Option LineReading) (o : Option ForeignFault) → IsEarliestMark js chain r earliest
       → MatchOption o (LateHolds earliest d.lasting skew to) (IsLateFault earliest d.lasting skew to)
       → MatchOption o (IsOutside js skew transit r d from to (BegunAfter chain)) (FailsReason (BegunAfter chain))
   by_late chain None None n f = absurd f
@@ -129,7 +129,7 @@ module _ (js : Journals) (skew transit : ℕ) (r : Ref) (d : Delegation) (from t
     given : GivesBack js release d → IsTrue b
     given g = back.1 (d, tells, g)
 
-    released_fails : (latest : Option Mark) (fault : ForeignFault) → IsLatestMark js chain release latest
+    released_fails : (latest : Option LineReading) (fault : ForeignFault) → IsLatestMark js chain release latest
         → IsReleasedFault latest shown (IsTrue b) skew from fault → FailsReason (GivenBack release order chain) fault
     released_fails None NoChain n f = (n, λ o. n o.2.0 o.2.1)
     released_fails (Some m) NotGivenBack w f = (((m.reading, w.0), λ g. f (given g)), λ o. f (given o.0))
@@ -149,7 +149,7 @@ module _ (js : Journals) (skew transit : ℕ) (r : Ref) (d : Delegation) (from t
     )
     released_fails _ _ w f = absurd f
 
-    by_released : (latest : Option Mark) (o : Option ForeignFault) → IsLatestMark js chain release latest
+    by_released : (latest : Option LineReading) (o : Option ForeignFault) → IsLatestMark js chain release latest
         → MatchOption o (ReleasedHolds latest shown (IsTrue b) skew from)
         (IsReleasedFault latest shown (IsTrue b) skew from)
         → MatchOption o (IsOutside js skew transit r d from to (GivenBack release order chain))
@@ -198,14 +198,14 @@ module _ (js : Journals) (skew transit : ℕ) (c : Certificate) (f : Foreign) wh
         FailsReason js skew transit f.grant d c.from c.to x fault) e h)
 
 -- what is shown tells which reason is named
-as_early : (js : Journals) (r : Ref) (reason : Reason) (field : Bor (List Ref)) (latest : Option Mark)
+as_early : (js : Journals) (r : Ref) (reason : Reason) (field : Bor (List Ref)) (latest : Option LineReading)
     → IsOutsideReport js r reason (Early field latest)
     → (chain : List Ref) × (reason ≡ EndedBefore chain) × IsLatestMark js chain r latest
 as_early js r (EndedBefore chain) field latest h = (chain, refl, h.1)
 as_early js r (BegunAfter chain) field latest h = absurd h
 as_early js r (GivenBack release order chain) field latest h = absurd h
 
-as_late : (js : Journals) (r : Ref) (reason : Reason) (field : Bor (List Ref)) (earliest : Option Mark)
+as_late : (js : Journals) (r : Ref) (reason : Reason) (field : Bor (List Ref)) (earliest : Option LineReading)
     → IsOutsideReport js r reason (Late field earliest)
     → (chain : List Ref) × (reason ≡ BegunAfter chain) × IsEarliestMark js chain r earliest
 as_late js r (EndedBefore chain) field earliest h = absurd h
@@ -213,7 +213,7 @@ as_late js r (BegunAfter chain) field earliest h = (chain, refl, h.1)
 as_late js r (GivenBack release order chain) field earliest h = absurd h
 
 record IsGivenBackReport (js : Journals) (r : Ref) (reason : Reason) (b : Bool) (ordered : OrderReport)
-    (latest : Option Mark) : Type 0 where
+    (latest : Option LineReading) : Type 0 where
   release : Ref
   order : Precedes
   chain : List Ref
@@ -223,7 +223,7 @@ record IsGivenBackReport (js : Journals) (r : Ref) (reason : Reason) (b : Bool) 
   ends : IsLatestMark js chain release latest
 
 as_released : (js : Journals) (r : Ref) (reason : Reason) (at : Ref) (b : Bool) (ordered : OrderReport)
-    (field : Bor (List Ref)) (latest : Option Mark) → IsOutsideReport js r reason (Released at b ordered field latest)
+    (field : Bor (List Ref)) (latest : Option LineReading) → IsOutsideReport js r reason (Released at b ordered field latest)
     → IsGivenBackReport js r reason b ordered latest
 as_released js r (EndedBefore chain) at b ordered field latest h = absurd h
 as_released js r (BegunAfter chain) at b ordered field latest h = absurd h
@@ -238,11 +238,11 @@ as_released js r (GivenBack release order chain) at b ordered field latest h = r
 }
 
 module _ (js : Journals) (skew transit : ℕ) (c : Certificate) (f : Foreign) (shown : ForeignReport)
-    (h : IsForeignReport js f shown) (t : Told) (e : shown.told ≡ Some t) where
+    (h : IsForeignReport js f shown) (t : ReportedDelegation) (e : shown.told ≡ Some t) where
   tells_it : Tells js f.grant t.delegation
   tells_it = (subst (IsToldAt js f.grant) e h.told).0
 
-  pub at_early : (field : Bor (List Ref)) (latest : Option Mark) (o : Option ForeignFault)
+  pub at_early : (field : Bor (List Ref)) (latest : Option LineReading) (o : Option ForeignFault)
       → shown.outside ≡ Early field latest
       → MatchOption o (EarlyHolds latest t.delegation.lasting skew transit c.from)
       (IsEarlyFault latest t.delegation.lasting skew transit c.from)
@@ -252,7 +252,7 @@ module _ (js : Journals) (skew transit : ℕ) (c : Certificate) (f : Foreign) (s
       by_reason js skew transit c f t.delegation tells_it (EndedBefore a.0) o (sym a.1)
       (by_early js skew transit f.grant t.delegation c.from c.to a.0 latest o a.2 m)
 
-  pub at_late : (field : Bor (List Ref)) (earliest : Option Mark) (o : Option ForeignFault)
+  pub at_late : (field : Bor (List Ref)) (earliest : Option LineReading) (o : Option ForeignFault)
       → shown.outside ≡ Late field earliest
       → MatchOption o (LateHolds earliest t.delegation.lasting skew c.to)
       (IsLateFault earliest t.delegation.lasting skew c.to)
@@ -262,7 +262,7 @@ module _ (js : Journals) (skew transit : ℕ) (c : Certificate) (f : Foreign) (s
       by_reason js skew transit c f t.delegation tells_it (BegunAfter a.0) o (sym a.1)
       (by_late js skew transit f.grant t.delegation c.from c.to a.0 earliest o a.2 m)
 
-  pub at_released : (at : Ref) (b : Bool) (ordered : OrderReport) (field : Bor (List Ref)) (latest : Option Mark)
+  pub at_released : (at : Ref) (b : Bool) (ordered : OrderReport) (field : Bor (List Ref)) (latest : Option LineReading)
       (o : Option ForeignFault) → shown.outside ≡ Released at b ordered field latest
       → MatchOption o (ReleasedHolds latest ordered (IsTrue b) skew c.from)
       (IsReleasedFault latest ordered (IsTrue b) skew c.from)

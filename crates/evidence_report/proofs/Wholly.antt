@@ -14,11 +14,11 @@ use Rattle.attribution.specs.declared.delegation.Delegation.{Delegation}
 use Rattle.attribution.specs.Acceptance.{Grants, Tells, IsCarried, ReasonHolds}
 use Rattle.attribution.proofs.Refusals.{accepted_from, at_index}
 use Rattle.auditor.proofs.Given.{Contains-get, get-Contains}
-use Rattle.evidence_report.specs.declared.mark.Mark.{Mark}
-use Rattle.evidence_report.specs.declared.piece_report.Granted.{Granted}
+use Rattle.evidence_report.specs.declared.mark.LineReading.{LineReading}
+use Rattle.evidence_report.specs.declared.piece_report.ReportedGrant.{ReportedGrant}
 use Rattle.evidence_report.specs.declared.piece_report.ReleaseReport.{ReleaseReport}
 use Rattle.evidence_report.specs.declared.piece_report.PieceReport.{PieceReport}
-use Rattle.evidence_report.specs.declared.foreign_report.Told.{Told}
+use Rattle.evidence_report.specs.declared.foreign_report.ReportedDelegation.{ReportedDelegation}
 use Rattle.evidence_report.specs.declared.foreign_report.ForeignReport.{ForeignReport}
 use Rattle.evidence_report.specs.Marks.{IsLatestMark, IsEarliestMark, IsGrantedAt, IsToldAt}
 use Rattle.evidence_report.specs.Pieces.{IsPieceReport, releases_in}
@@ -40,20 +40,20 @@ shown_for Shows xs ys h y has =
     let some = one_at xs at.0 (let n = h.count in omega arith) in
     (at.0, some.0, some.1, at.2, h.each at.0 some.0 y some.1 at.2)
 
-some_lease : (js : Journals) (r : Ref) (g : Lease) (o : Option Granted) → Grants js r g → IsGrantedAt js r o → IsSome o
+some_lease : (js : Journals) (r : Ref) (g : Lease) (o : Option ReportedGrant) → Grants js r g → IsGrantedAt js r o → IsSome o
 some_lease js r g None grants n = absurd (n g grants)
 some_lease js r g (Some shown) grants h = refl
 
-some_told : (js : Journals) (r : Ref) (d : Delegation) (o : Option Told) → Tells js r d → IsToldAt js r o → IsSome o
+some_told : (js : Journals) (r : Ref) (d : Delegation) (o : Option ReportedDelegation) → Tells js r d → IsToldAt js r o → IsSome o
 some_told js r d None tells n = absurd (n d tells)
 some_told js r d (Some shown) tells h = refl
 
-some_latest : (js : Journals) (chain : List Ref) (r : Ref) (x : ℕ) (o : Option Mark) → WrittenBy js chain r x
+some_latest : (js : Journals) (chain : List Ref) (r : Ref) (x : ℕ) (o : Option LineReading) → WrittenBy js chain r x
     → IsLatestMark js chain r o → IsSome o
 some_latest js chain r x None w n = absurd (n x w)
 some_latest js chain r x (Some m) w h = refl
 
-some_earliest : (js : Journals) (chain : List Ref) (r : Ref) (x : ℕ) (o : Option Mark) → WrittenFrom js chain r x
+some_earliest : (js : Journals) (chain : List Ref) (r : Ref) (x : ℕ) (o : Option LineReading) → WrittenFrom js chain r x
     → IsEarliestMark js chain r o → IsSome o
 some_earliest js chain r x None w n = absurd (n x w)
 some_earliest js chain r x (Some m) w h = refl

@@ -8,14 +8,14 @@ use Rattle.causal_order.specs.declared.order.Precedes.TheVariants.{Chain, Clock}
 use Rattle.causal_order.specs.declared.certificate.Certificate.{Certificate}
 use Rattle.causal_order.specs.declared.certificate.Piece.{Piece}
 use Rattle.causal_order.specs.declared.certificate.Clear.{Clear}
-use Rattle.causal_order.specs.declared.certificate.Why.{Why}
-use Rattle.causal_order.specs.declared.certificate.Why.TheVariants.{Before, After}
+use Rattle.causal_order.specs.declared.certificate.ClearReason.{ClearReason}
+use Rattle.causal_order.specs.declared.certificate.ClearReason.TheVariants.{Before, After}
 use Rattle.causal_order.specs.declared.certificate.Foreign.{Foreign}
 use Rattle.causal_order.specs.declared.certificate.Reason.{Reason}
 use Rattle.causal_order.specs.declared.certificate.Reason.TheVariants.{Early, Late, Released}
 use Rattle.causal_order.specs.Journals.{Journals, Names}
 use Rattle.evidence_report.specs.declared.piece_report.PieceReport.{PieceReport}
-use Rattle.evidence_report.specs.declared.report.Cited.{Cited}
+use Rattle.evidence_report.specs.declared.report.CitedLine.{CitedLine}
 use Rattle.evidence_report.specs.Lines.{AreRising}
 use Rattle.evidence_report.specs.Pieces.{releases_in}
 
@@ -24,7 +24,7 @@ abbrev pub order_lines : Precedes → List Ref
 order_lines (Chain chain) = chain
 order_lines (Clock before after) = before ++ after
 
-abbrev pub why_lines : Why → List Ref
+abbrev pub why_lines : ClearReason → List Ref
 why_lines (Before order) = order_lines order
 why_lines (After chain) = chain
 
@@ -50,16 +50,16 @@ abbrev pub cited_by : Certificate → List PieceReport → List Ref
 cited_by c pieces = certificate_lines c ++ flat_map (λ s. releases_in s.releases.items) pieces
 
 -- each of them that names a line, once, with the line
-pub record AreCited (js : Journals) (c : Certificate) (pieces : List PieceReport) (cited : List Cited) : Type 0 where
+pub record AreCited (js : Journals) (c : Certificate) (pieces : List PieceReport) (cited : List CitedLine) : Type 0 where
   pub all : (r : Ref) (l : Line) → Has (cited_by c pieces) r → Names js r l
       → Has cited (record { at = r; line = l })
-  pub only : (k : Cited) → Has cited k → Has (cited_by c pieces) k.at × Names js k.at k.line
+  pub only : (k : CitedLine) → Has cited k → Has (cited_by c pieces) k.at × Names js k.at k.line
   pub once : AreRising (map (λ k. k.at) cited)
 
 -- ---- for bodies
 
 -- those of the references that name a line, with the line, in their order
-pub record AreFound (js : Journals) (refs : List Ref) (cited : List Cited) : Type 0 where
+pub record AreFound (js : Journals) (refs : List Ref) (cited : List CitedLine) : Type 0 where
   pub all : (r : Ref) (l : Line) → Has refs r → Names js r l → Has cited (record { at = r; line = l })
-  pub only : (k : Cited) → Has cited k → Has refs k.at × Names js k.at k.line
+  pub only : (k : CitedLine) → Has cited k → Has refs k.at × Names js k.at k.line
   pub rising : AreRising refs → AreRising (map (λ k. k.at) cited)

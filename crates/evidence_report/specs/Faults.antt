@@ -17,7 +17,7 @@ use Rattle.attribution.specs.declared.delegation.Lasting.TheVariants.{For, Until
 use Rattle.attribution.specs.Run.{infinity}
 use Rattle.attribution.specs.Acceptance.{Grants, Tells, GivesBack, IsGranted, EndsBy, IsNew, ReasonHolds}
 use Rattle.auditor.specs.Bounds.{IsReachedBy, IsHolders}
-use Rattle.evidence_report.specs.declared.mark.Mark.{Mark}
+use Rattle.evidence_report.specs.declared.mark.LineReading.{LineReading}
 use Rattle.evidence_report.specs.declared.mark.OrderReport.{OrderReport}
 use Rattle.evidence_report.specs.declared.mark.OrderReport.TheVariants.{Chain, Clock}
 use Rattle.evidence_report.specs.declared.faults.PieceFault.{PieceFault}
@@ -107,21 +107,21 @@ IsHolderFault g c (OtherPrefix prefix) =
     (g.client ≡ c.holder) × (prefix ≡ g.prefix) × (Contains g.prefix c.prefix → ⊥)
 IsHolderFault g c _ = ⊥
 
-abbrev pub BeginsBy : Option Mark → (skew transit from : ℕ) → Type 0
+abbrev pub BeginsBy : Option LineReading → (skew transit from : ℕ) → Type 0
 BeginsBy None skew transit from = ⊥
 BeginsBy (Some m) skew transit from = m.reading + skew + transit ≤ from
 
-abbrev pub IsBeginFault : Option Mark → (skew transit from : ℕ) → PieceFault → Type 0
+abbrev pub IsBeginFault : Option LineReading → (skew transit from : ℕ) → PieceFault → Type 0
 IsBeginFault None skew transit from NoChainFrom = Unit {0}
 IsBeginFault (Some m) skew transit from (BegunLate begun at) =
     (begun ≡ m.reading + skew + transit) × (at ≡ from) × (at < begun)
 IsBeginFault _ skew transit from _ = ⊥
 
-abbrev pub LastsBy : Option Mark → (skew valid to : ℕ) → Type 0
+abbrev pub LastsBy : Option LineReading → (skew valid to : ℕ) → Type 0
 LastsBy None skew valid to = ⊥
 LastsBy (Some m) skew valid to = (valid ≡ infinity) ⊎ (to + skew ≤ m.reading + 1000 * valid)
 
-abbrev pub IsEndFault : Option Mark → (skew valid to : ℕ) → PieceFault → Type 0
+abbrev pub IsEndFault : Option LineReading → (skew valid to : ℕ) → PieceFault → Type 0
 IsEndFault None skew valid to NoChainTo = Unit {0}
 IsEndFault (Some m) skew valid to (EndsEarly needed shown) =
     (valid ≢ infinity) × (needed ≡ to + skew) × (shown ≡ m.reading + 1000 * valid) × (shown < needed)
@@ -131,22 +131,22 @@ abbrev pub IsEndless : Lasting → Type 0
 IsEndless (For seconds) = seconds ≡ infinity
 IsEndless (Until end) = ⊥
 
-abbrev pub EarlyHolds : Option Mark → Lasting → (skew transit from : ℕ) → Type 0
+abbrev pub EarlyHolds : Option LineReading → Lasting → (skew transit from : ℕ) → Type 0
 EarlyHolds None l skew transit from = ⊥
 EarlyHolds (Some m) l skew transit from = EndsBy skew transit m.reading from l
 
-abbrev pub IsEarlyFault : Option Mark → Lasting → (skew transit from : ℕ) → ForeignFault → Type 0
+abbrev pub IsEarlyFault : Option LineReading → Lasting → (skew transit from : ℕ) → ForeignFault → Type 0
 IsEarlyFault None l skew transit from NoChain = Unit {0}
 IsEarlyFault (Some m) l skew transit from Endless = IsEndless l
 IsEarlyFault (Some m) l skew transit from (EndsLate ends begun) =
     IsEndOf skew transit m.reading l ends × (begun ≡ from) × (begun < ends)
 IsEarlyFault _ l skew transit from _ = ⊥
 
-abbrev pub LateHolds : Option Mark → Lasting → (skew to : ℕ) → Type 0
+abbrev pub LateHolds : Option LineReading → Lasting → (skew to : ℕ) → Type 0
 LateHolds None l skew to = ⊥
 LateHolds (Some m) l skew to = IsNew l × (to + skew ≤ m.reading)
 
-abbrev pub IsLateFault : Option Mark → Lasting → (skew to : ℕ) → ForeignFault → Type 0
+abbrev pub IsLateFault : Option LineReading → Lasting → (skew to : ℕ) → ForeignFault → Type 0
 IsLateFault None l skew to NoChain = Unit {0}
 IsLateFault (Some m) l skew to Carried = IsNew l → ⊥
 IsLateFault (Some m) l skew to (BeginsEarly needed shown) =
@@ -159,11 +159,11 @@ IsOrdered skew (Clock before (Some latest) after (Some earliest)) = latest.readi
 IsOrdered skew _ = ⊥
 
 -- it was given back, by what is shown of the order and of the release
-abbrev pub ReleasedHolds : Option Mark → OrderReport → (gives_back : Type 0) → (skew from : ℕ) → Type 0
+abbrev pub ReleasedHolds : Option LineReading → OrderReport → (gives_back : Type 0) → (skew from : ℕ) → Type 0
 ReleasedHolds None order gives_back skew from = ⊥
 ReleasedHolds (Some m) order gives_back skew from = gives_back × IsOrdered skew order × (m.reading + skew ≤ from)
 
-abbrev pub IsReleasedFault : Option Mark → OrderReport → (gives_back : Type 0) → (skew from : ℕ) → ForeignFault → Type 0
+abbrev pub IsReleasedFault : Option LineReading → OrderReport → (gives_back : Type 0) → (skew from : ℕ) → ForeignFault → Type 0
 IsReleasedFault None order gives_back skew from NoChain = Unit {0}
 IsReleasedFault (Some m) order gives_back skew from NotGivenBack = gives_back → ⊥
 IsReleasedFault (Some m) order gives_back skew from NotBehind = gives_back × (IsOrdered skew order → ⊥)

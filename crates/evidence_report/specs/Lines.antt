@@ -16,5 +16,5 @@ pub record AreOnce (refs once : List Ref) : Type 0 where
 -- ---- for bodies
 
 -- the line comes behind the last of these
-abbrev pub IsBehind : List Ref → Ref → Type 0
-IsBehind once r = (last : Ref) → slice_get once (length once - 1) ≡ Some last → place_of last < place_of r
+abbrev pub ComesAfterLast : List Ref → Ref → Type 0
+ComesAfterLast once r = (last : Ref) → slice_get once (length once - 1) ≡ Some last → place_of last < place_of r

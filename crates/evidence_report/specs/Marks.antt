@@ -9,11 +9,11 @@ use Rattle.causal_order.specs.Journals.{Journals, Names, line_of}
 use Rattle.causal_order.specs.Order.{EndsWith, Leads, WrittenBy, WrittenFrom}
 use Rattle.attribution.specs.declared.delegation.Delegation.{Delegation}
 use Rattle.attribution.specs.Acceptance.{Grants, Tells}
-use Rattle.evidence_report.specs.declared.mark.Mark.{Mark}
+use Rattle.evidence_report.specs.declared.mark.LineReading.{LineReading}
 use Rattle.evidence_report.specs.declared.mark.OrderReport.{OrderReport}
 use Rattle.evidence_report.specs.declared.mark.OrderReport.TheVariants.{Chain, Clock}
-use Rattle.evidence_report.specs.declared.piece_report.Granted.{Granted}
-use Rattle.evidence_report.specs.declared.foreign_report.Told.{Told}
+use Rattle.evidence_report.specs.declared.piece_report.ReportedGrant.{ReportedGrant}
+use Rattle.evidence_report.specs.declared.foreign_report.ReportedDelegation.{ReportedDelegation}
 
 -- the clock showed this reading when the line was written
 abbrev pub Reads : Journals → Ref → ℕ → Type 0
@@ -24,23 +24,23 @@ abbrev pub BeginsWith : List Ref → Ref → Type 0
 BeginsWith chain r = (rest : List Ref) × (chain ≡ r ∷ rest)
 
 -- the last line of the chain from r: by its reading and the skew r was written; none where it is no chain from r
-abbrev pub IsLatestMark : Journals → List Ref → Ref → Option Mark → Type 0
+abbrev pub IsLatestMark : Journals → List Ref → Ref → Option LineReading → Type 0
 IsLatestMark js chain r None = (x : ℕ) → WrittenBy js chain r x → ⊥
 IsLatestMark js chain r (Some m) = WrittenBy js chain r m.reading × EndsWith chain m.at
 
 -- the first line of the chain to r: at its reading less the skew, or later, r was written; none where it is no chain to
 -- r
-abbrev pub IsEarliestMark : Journals → List Ref → Ref → Option Mark → Type 0
+abbrev pub IsEarliestMark : Journals → List Ref → Ref → Option LineReading → Type 0
 IsEarliestMark js chain r None = (x : ℕ) → WrittenFrom js chain r x → ⊥
 IsEarliestMark js chain r (Some m) = WrittenFrom js chain r m.reading × BeginsWith chain m.at
 
 -- what the line grants, with its reading; or it grants nothing
-abbrev pub IsGrantedAt : Journals → Ref → Option Granted → Type 0
+abbrev pub IsGrantedAt : Journals → Ref → Option ReportedGrant → Type 0
 IsGrantedAt js r None = (g : Lease) → Grants js r g → ⊥
 IsGrantedAt js r (Some shown) = Grants js r shown.lease × Reads js r shown.reading
 
 -- the delegation that the line tells of, with its reading; or it tells of none
-abbrev pub IsToldAt : Journals → Ref → Option Told → Type 0
+abbrev pub IsToldAt : Journals → Ref → Option ReportedDelegation → Type 0
 IsToldAt js r None = (d : Delegation) → Tells js r d → ⊥
 IsToldAt js r (Some shown) = Tells js r shown.delegation × Reads js r shown.reading
 
@@ -56,5 +56,5 @@ IsOrderReport js _ r s _ = ⊥
 -- ---- for bodies
 
 -- the line that the reference names, with its reading
-abbrev pub mark_of : Journals → Ref → Option Mark
+abbrev pub mark_of : Journals → Ref → Option LineReading
 mark_of js r = option_map (λ l. record { at = r; reading = l.reading }) (line_of js r)

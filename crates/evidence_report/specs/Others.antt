@@ -8,8 +8,8 @@ use Rattle.causal_order.specs.declared.certificate.Reason.TheVariants.{Released 
 use Rattle.causal_order.specs.Journals.{Journals}
 use Rattle.attribution.specs.declared.delegation.Delegation.{Delegation}
 use Rattle.attribution.specs.Acceptance.{Tells, GivesBack}
-use Rattle.evidence_report.specs.declared.foreign_report.Outside.{Outside}
-use Rattle.evidence_report.specs.declared.foreign_report.Outside.TheVariants.{Early, Late, Released}
+use Rattle.evidence_report.specs.declared.foreign_report.ForeignEvidence.{ForeignEvidence}
+use Rattle.evidence_report.specs.declared.foreign_report.ForeignEvidence.TheVariants.{Early, Late, Released}
 use Rattle.evidence_report.specs.declared.foreign_report.ForeignReport.{ForeignReport}
 use Rattle.evidence_report.specs.Marks.{IsLatestMark, IsEarliestMark, IsToldAt, IsOrderReport}
 
@@ -18,7 +18,7 @@ abbrev pub EndsTold : Journals → (r release : Ref) → Type 0
 EndsTold js r release = (d : Delegation) × Tells js r d × GivesBack js release d
 
 -- what is shown of why what the line r tells of doesn't touch the interval
-abbrev pub IsOutsideReport : Journals → Ref → Reason → Outside → Type 0
+abbrev pub IsOutsideReport : Journals → Ref → Reason → ForeignEvidence → Type 0
 IsOutsideReport js r (EndedBefore chain) (Early shown latest) = (shown.now ≡ chain) × IsLatestMark js chain r latest
 IsOutsideReport js r (BegunAfter chain) (Late shown earliest) =
     (shown.now ≡ chain) × IsEarliestMark js chain r earliest

@@ -5,35 +5,35 @@ use Rattle.journal_lines.specs.declared.event.Lease.{Lease}
 use Rattle.causal_order.specs.declared.reference.Ref.{Ref}
 use Rattle.causal_order.specs.declared.certificate.Piece.{Piece}
 use Rattle.causal_order.specs.declared.certificate.Clear.{Clear}
-use Rattle.causal_order.specs.declared.certificate.Why.{Why}
-use Rattle.causal_order.specs.declared.certificate.Why.TheVariants.{Before as BeforeGrant, After as AfterEnd}
+use Rattle.causal_order.specs.declared.certificate.ClearReason.{ClearReason}
+use Rattle.causal_order.specs.declared.certificate.ClearReason.TheVariants.{Before as BeforeGrant, After as AfterEnd}
 use Rattle.causal_order.specs.Journals.{Journals}
 use Rattle.attribution.specs.declared.delegation.Delegation.{Delegation}
 use Rattle.attribution.specs.Delegation.{of_lease}
 use Rattle.attribution.specs.Acceptance.{Grants, GivesBack, IsCleared, Discharges}
 use Rattle.auditor.specs.Walks.{AreReleases}
-use Rattle.evidence_report.specs.declared.piece_report.Cleared.{Cleared}
-use Rattle.evidence_report.specs.declared.piece_report.Cleared.TheVariants.{Before, After}
+use Rattle.evidence_report.specs.declared.piece_report.ClearReport.{ClearReport}
+use Rattle.evidence_report.specs.declared.piece_report.ClearReport.TheVariants.{Before, After}
 use Rattle.evidence_report.specs.declared.piece_report.ReleaseReport.{ReleaseReport}
 use Rattle.evidence_report.specs.declared.piece_report.PieceReport.{PieceReport}
 use Rattle.evidence_report.specs.Lines.{AreRising}
 use Rattle.evidence_report.specs.Marks.{Reads, IsLatestMark, IsEarliestMark, IsGrantedAt, IsOrderReport}
 
 -- what is shown of why the release doesn't cut the piece short
-abbrev pub IsClearing : Journals → Piece → Ref → Why → Cleared → Type 0
+abbrev pub IsClearing : Journals → Piece → Ref → ClearReason → ClearReport → Type 0
 IsClearing js p r (BeforeGrant order) (Before shown) = IsOrderReport js order r p.grant shown
 IsClearing js p r (AfterEnd chain) (After shown earliest) = (shown.now ≡ chain) × IsEarliestMark js chain r earliest
 IsClearing js p r _ _ = ⊥
 
 -- the entry clears the piece's release, and is one that discharges it if any does
-pub record IsEntryOf (js : Journals) (skew : ℕ) (p : Piece) (r : Ref) (k : Clear) (shown : Cleared) : Type 0 where
+pub record IsEntryOf (js : Journals) (skew : ℕ) (p : Piece) (r : Ref) (k : Clear) (shown : ClearReport) : Type 0 where
   pub listed : Has p.clear k
   pub names : k.release ≡ r
   pub clearing : IsClearing js p r k.why shown
   pub best : Discharges js skew p r → IsCleared js skew r p.grant p.to k.why
 
 -- an entry of the piece that names the release, and how it clears it; none where no entry does
-abbrev pub IsShownEntry : Journals → ℕ → Piece → Ref → Option (Bor Clear × Cleared) → Type 0
+abbrev pub IsShownEntry : Journals → ℕ → Piece → Ref → Option (Bor Clear × ClearReport) → Type 0
 IsShownEntry js skew p r None = (k : Clear) → Has p.clear k → k.release ≡ r → ⊥
 IsShownEntry js skew p r (Some (k, shown)) = IsEntryOf js skew p r k.now shown
 

@@ -24,11 +24,11 @@ pub record IsWholeEntry (js : Journals) (skew transit : ℕ) (c : Certificate) (
   pub holds : ReasonHolds js skew transit c shown.entry.now
   pub told : IsSome shown.told
 
-pub record IsWhole (js : Journals) (skew transit : ℕ) (c : Certificate) (shown : Report) : Type 0 where
+pub record IsWholeReport (js : Journals) (skew transit : ℕ) (c : Certificate) (shown : Report) : Type 0 where
   pub pieces : (p : PieceReport) → Has shown.pieces.items p → IsWholePiece js skew transit c p
   pub foreign : (f : ForeignReport) → Has shown.foreign.items f → IsWholeEntry js skew transit c f
 
 -- where the certificate is accepted, nothing is missing in its report
 abbrev pub AcceptedIsWhole : Type 0
 AcceptedIsWhole = (js : Journals) (skew transit : ℕ) (c : Certificate) (shown : Report)
-    → IsReport js skew transit c shown → IsVerdict js skew transit c Accepted → IsWhole js skew transit c shown
+    → IsReport js skew transit c shown → IsVerdict js skew transit c Accepted → IsWholeReport js skew transit c shown

@@ -8,8 +8,10 @@ ghost use Rattle.evidence_report.specs.Cited.{cited_by, AreCited, AreFound};
 
 use crate::line_order::in_order;
 use crate::piece_report::{PieceReport, ReleaseReport};
-use crate::report::Cited;
-use causal_order::{Certificate, Chain, Clear, Foreign, Lines, Piece, Precedes, Reason, Ref, Why};
+use crate::report::CitedLine;
+use causal_order::{
+    Certificate, Chain, Clear, ClearReason, Foreign, Lines, Piece, Precedes, Reason, Ref,
+};
 use std::alloc::{AllocError, Global};
 
 fn cite_chain(refs: &mut Vec<Ref>, chain: &Chain) -> Result<(), AllocError>
@@ -35,8 +37,8 @@ fn cite_clear(refs: &mut Vec<Ref>, clear: &Clear) -> Result<(), AllocError>
 {
     refs.push(clear.release)?;
     match &clear.why {
-        Why::Before(order) => cite_order(refs, order),
-        Why::After(chain) => cite_chain(refs, chain),
+        ClearReason::Before(order) => cite_order(refs, order),
+        ClearReason::After(chain) => cite_chain(refs, chain),
     }
 }
 
@@ -136,13 +138,13 @@ fn lines_cited(
 }
 
 /// Those of the references that name a line, with the line.
-fn found<L: Lines>(alloc: Global, lines: &L, refs: &[Ref]) -> Result<Vec<Cited>, AllocError>
+fn found<L: Lines>(alloc: Global, lines: &L, refs: &[Ref]) -> Result<Vec<CitedLine>, AllocError>
     ensures { IfOk result (λ cited. AreFound (L.journals lines.now) refs.now cited.items) }
 {
     let mut cited = Vec::new(alloc);
     for at in refs {
         if let Some(line) = lines.line(*at) {
-            cited.extend_from_slice(&[Cited { at: *at, line }])?;
+            cited.extend_from_slice(&[CitedLine { at: *at, line }])?;
         }
     }
     Ok(cited)
@@ -154,7 +156,7 @@ pub fn cited_lines<L: Lines>(
     lines: &L,
     certificate: &Certificate,
     pieces: &[PieceReport],
-) -> Result<Vec<Cited>, AllocError>
+) -> Result<Vec<CitedLine>, AllocError>
     ensures { IfOk result (λ cited. AreCited (L.journals lines.now) certificate.now pieces.now cited.items) }
 {
     let refs = lines_cited(alloc, certificate, pieces)?;

@@ -17,7 +17,7 @@ ghost use Rattle.evidence_report.specs.Failures.{condition_of, IsUncarried, IsUn
 use crate::faults::Failure;
 use crate::piece_report::PieceReport;
 use crate::report::{Report, SideReport};
-use crate::told::told_at;
+use crate::reported_delegation::told_at;
 use attribution::Verdict;
 use auditor::LineSource;
 use binding_rules::Role;

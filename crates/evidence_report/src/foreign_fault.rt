@@ -10,8 +10,8 @@ ghost use Rattle.evidence_report.specs.Faults.{FailsForeign, IsEndless, IsEndOf,
 ghost use Rattle.evidence_report.specs.Faults.{IsLateFault, IsOrdered, ReleasedHolds, IsReleasedFault};
 
 use crate::faults::ForeignFault;
-use crate::foreign_report::{ForeignReport, Outside};
-use crate::mark::{Mark, OrderReport};
+use crate::foreign_report::{ForeignEvidence, ForeignReport};
+use crate::mark::{LineReading, OrderReport};
 use attribution::Lasting;
 use causal_order::Certificate;
 use journal_lines::Lease;
@@ -52,7 +52,7 @@ fn is_new(lasting: Lasting) -> bool
 
 /// Why it isn't shown to have ended by the interval's beginning.
 fn early_fault(
-    latest: &Option<Mark>,
+    latest: &Option<LineReading>,
     lasting: Lasting,
     from: Reading,
     skew: Skew,
@@ -76,7 +76,7 @@ fn early_fault(
 
 /// Why it isn't shown to have begun at the interval's end or later.
 fn late_fault(
-    earliest: &Option<Mark>,
+    earliest: &Option<LineReading>,
     lasting: Lasting,
     to: Reading,
     skew: Skew,
@@ -120,7 +120,7 @@ fn is_ordered(order: &OrderReport, skew: Skew) -> bool
 fn released_fault(
     gives_back: bool,
     order: &OrderReport,
-    latest: &Option<Mark>,
+    latest: &Option<LineReading>,
     from: Reading,
     skew: Skew,
 ) -> Option<ForeignFault>
@@ -162,11 +162,16 @@ impl ForeignReport<'_> {
         };
         let lasting = told.delegation.lasting;
         match &self.outside {
-            Outside::Early(_, latest) => {
+            ForeignEvidence::Early(_, latest) => {
                 early_fault(latest, lasting, certificate.from, skew, transit)
             }
-            Outside::Late(_, earliest) => late_fault(earliest, lasting, certificate.to, skew),
-            Outside::Released {
+            ForeignEvidence::Late(_, earliest) => late_fault(
+                earliest,
+                lasting,
+                certificate.to,
+                skew,
+            ),
+            ForeignEvidence::Released {
                 gives_back,
                 order,
                 latest,

@@ -3,7 +3,7 @@
 ghost use Rattle.std.specs.Prelude.{◌≡◌, ◌↔◌, ◌+◌, ◌<◌, ◌^◌, IfOk, IsTrue};
 ghost use Rattle.std.specs.List.Sorted.{IsNonDecreasingBy};
 ghost use Rattle.causal_order.specs.WrittenOrder.{place_of};
-ghost use Rattle.evidence_report.specs.Lines.{AreOnce, IsBehind};
+ghost use Rattle.evidence_report.specs.Lines.{AreOnce, ComesAfterLast};
 
 use binding_rules::Role;
 use causal_order::Ref;
@@ -23,7 +23,7 @@ fn place_of(at: Ref) -> u64
 
 /// Returns whether the line comes behind the last of these.
 fn is_behind(once: &[Ref], at: Ref) -> bool
-    ensures behind { IsTrue result ↔ IsBehind once.now at }
+    ensures behind { IsTrue result ↔ ComesAfterLast once.now at }
     ensures small { at.number < 2 ^ 32 }
 {
     let place = place_of(at);

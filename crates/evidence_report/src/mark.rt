@@ -5,7 +5,7 @@ use lead_time::Reading;
 
 /// A line, and what its server's clock showed when it was written.
 #[derive(Clone, Copy, Debug, PartialEq, Eq)]
-pub struct Mark {
+pub struct LineReading {
     pub at: Ref,
     pub reading: Reading,
 }
@@ -22,8 +22,8 @@ pub enum OrderReport<'a> {
     /// from which the other was. `None` where a chain is none from, or to, its line.
     Clock {
         before: &'a Chain,
-        latest: Option<Mark>,
+        latest: Option<LineReading>,
         after: &'a Chain,
-        earliest: Option<Mark>,
+        earliest: Option<LineReading>,
     },
 }

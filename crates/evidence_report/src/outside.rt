@@ -5,9 +5,9 @@ ghost use Rattle.evidence_report.specs.Others.{EndsTold, IsOutsideReport, IsFore
 ghost use Rattle.evidence_report.specs.Reports.{AreShown};
 
 use crate::chains::{earliest_mark, latest_mark};
-use crate::foreign_report::{ForeignReport, Outside};
+use crate::foreign_report::{ForeignEvidence, ForeignReport};
 use crate::orders::order_report;
-use crate::told::{gives_back, told_at};
+use crate::reported_delegation::{gives_back, told_at};
 use causal_order::{Certificate, Foreign, Lines, Reason, Ref};
 use lead_time::Skew;
 use std::alloc::{AllocError, Global};
@@ -23,17 +23,23 @@ fn is_given_back<L: Lines>(lines: &L, at: Ref, release: Ref) -> bool
 }
 
 /// What is shown of the entry's reason.
-fn reason_report<'a, L: Lines>(lines: &L, entry: &'a Foreign, skew: Skew) -> Outside<'a>
+fn reason_report<'a, L: Lines>(lines: &L, entry: &'a Foreign, skew: Skew) -> ForeignEvidence<'a>
     ensures { IsOutsideReport (L.journals lines.now) entry.now.grant entry.now.reason result }
 {
     match &entry.reason {
-        Reason::Early(chain) => Outside::Early(chain, latest_mark(lines, chain, entry.grant)),
-        Reason::Late(chain) => Outside::Late(chain, earliest_mark(lines, chain, entry.grant)),
+        Reason::Early(chain) => ForeignEvidence::Early(
+            chain,
+            latest_mark(lines, chain, entry.grant),
+        ),
+        Reason::Late(chain) => ForeignEvidence::Late(
+            chain,
+            earliest_mark(lines, chain, entry.grant),
+        ),
         Reason::Released {
             release,
             order,
             latest,
-        } => Outside::Released {
+        } => ForeignEvidence::Released {
             release: *release,
             gives_back: is_given_back(lines, entry.grant, *release),
             order: order_report(lines, order, entry.grant, *release, skew),

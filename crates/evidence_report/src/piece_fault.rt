@@ -9,7 +9,7 @@ ghost use Rattle.evidence_report.specs.Pieces.{IsPieceReport};
 ghost use Rattle.evidence_report.specs.Faults.{FailsPiece, IsHolderFault, BeginsBy, IsBeginFault, LastsBy, IsEndFault};
 
 use crate::faults::PieceFault;
-use crate::mark::Mark;
+use crate::mark::LineReading;
 use crate::piece_report::PieceReport;
 use causal_order::{Certificate, Piece};
 use journal_lines::Lease;
@@ -30,7 +30,7 @@ fn holder_fault(lease: &Lease, certificate: &Certificate) -> Option<PieceFault>
 
 /// Why the lease isn't shown to stand from the piece's beginning on.
 fn begin_fault(
-    latest: &Option<Mark>,
+    latest: &Option<LineReading>,
     piece: &Piece,
     skew: Skew,
     transit: Transit,
@@ -50,7 +50,12 @@ fn begin_fault(
 }
 
 /// Why the lease isn't shown to last to the piece's end.
-fn end_fault(earliest: &Option<Mark>, piece: &Piece, valid: u32, skew: Skew) -> Option<PieceFault>
+fn end_fault(
+    earliest: &Option<LineReading>,
+    piece: &Piece,
+    valid: u32,
+    skew: Skew,
+) -> Option<PieceFault>
     ensures { MatchOption result (LastsBy earliest.now skew valid piece.now.to)
         (IsEndFault earliest.now skew valid piece.now.to) }
 {

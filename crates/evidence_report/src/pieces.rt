@@ -6,9 +6,9 @@ ghost use Rattle.evidence_report.specs.Pieces.{AreReleaseReports, IsPieceReport}
 ghost use Rattle.evidence_report.specs.Reports.{AreShown};
 
 use crate::chains::{earliest_mark, latest_mark};
-use crate::piece_report::{Granted, PieceReport, ReleaseReport};
+use crate::piece_report::{PieceReport, ReleaseReport, ReportedGrant};
 use crate::releases::release_reports;
-use crate::told::granted_at;
+use crate::reported_delegation::granted_at;
 use attribution::Delegation;
 use auditor::LineSource;
 use causal_order::{Certificate, Piece};
@@ -20,7 +20,7 @@ fn releases_of_grant<'a, S: LineSource>(
     alloc: Global,
     source: &S,
     piece: &'a Piece,
-    granted: &Option<Granted>,
+    granted: &Option<ReportedGrant>,
     skew: Skew,
 ) -> Result<Vec<ReleaseReport<'a>>, AllocError>
     requires { IsGrantedAt (S.journals source.now) piece.now.grant granted.now }

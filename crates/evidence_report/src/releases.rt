@@ -13,12 +13,12 @@ ghost use Rattle.evidence_report.specs.Pieces.{IsClearing, IsDischarging, IsShow
 
 use crate::chains::{earliest_mark, mark_at};
 use crate::line_order::in_order;
-use crate::mark::Mark;
+use crate::mark::LineReading;
 use crate::orders::order_report;
-use crate::piece_report::{Cleared, ReleaseReport};
+use crate::piece_report::{ClearReport, ReleaseReport};
 use attribution::Delegation;
 use auditor::LineSource;
-use causal_order::{Chain, Clear, Lines, Piece, Ref, Why, precedes};
+use causal_order::{Chain, Clear, ClearReason, Lines, Piece, Ref, precedes};
 use lead_time::{Reading, Skew};
 use std::alloc::{AllocError, Global};
 
@@ -27,20 +27,23 @@ fn cleared<'a, L: Lines>(
     lines: &L,
     piece: &Piece,
     release: Ref,
-    why: &'a Why,
+    why: &'a ClearReason,
     skew: Skew,
-) -> Cleared<'a>
+) -> ClearReport<'a>
     ensures { IsClearing (L.journals lines.now) piece.now release why.now result }
 {
     match why {
-        Why::Before(order) => Cleared::Before(order_report(
+        ClearReason::Before(order) => ClearReport::Before(order_report(
             lines,
             order,
             release,
             piece.grant,
             skew,
         )),
-        Why::After(chain) => Cleared::After(chain, earliest_mark(lines, chain, release)),
+        ClearReason::After(chain) => ClearReport::After(
+            chain,
+            earliest_mark(lines, chain, release),
+        ),
     }
 }
 
@@ -56,12 +59,18 @@ fn is_after<L: Lines>(lines: &L, chain: &Chain, at: Ref, skew: Skew, moment: Rea
 }
 
 /// Returns whether the release is shown to have come before the piece's grant, or not before its end.
-fn is_cleared<L: Lines>(lines: &L, piece: &Piece, release: Ref, why: &Why, skew: Skew) -> bool
+fn is_cleared<L: Lines>(
+    lines: &L,
+    piece: &Piece,
+    release: Ref,
+    why: &ClearReason,
+    skew: Skew,
+) -> bool
     ensures { IsTrue result ↔ IsCleared (L.journals lines.now) skew release piece.now.grant piece.now.to why.now }
 {
     match why {
-        Why::Before(order) => precedes(lines, release, piece.grant, order, skew),
-        Why::After(chain) => is_after(lines, chain, release, skew, piece.to),
+        ClearReason::Before(order) => precedes(lines, release, piece.grant, order, skew),
+        ClearReason::After(chain) => is_after(lines, chain, release, skew, piece.to),
     }
 }
 
@@ -119,7 +128,7 @@ fn clearing<'a, L: Lines>(
     release: Ref,
     clear: &'a Clear,
     skew: Skew,
-) -> (&'a Clear, Cleared<'a>)
+) -> (&'a Clear, ClearReport<'a>)
     ensures entry { result.0.now ≡ clear.now }
     ensures clearing { IsClearing (L.journals lines.now) piece.now release clear.now.why result.1 }
 {
@@ -132,7 +141,7 @@ fn failing_entry<'a, L: Lines>(
     piece: &'a Piece,
     release: Ref,
     skew: Skew,
-) -> Option<(&'a Clear, Cleared<'a>)>
+) -> Option<(&'a Clear, ClearReport<'a>)>
     requires { Discharges (L.journals lines.now) skew piece.now release → ⊥ }
     ensures { IsShownEntry (L.journals lines.now) skew piece.now release result }
 {
@@ -144,7 +153,7 @@ fn failing_entry<'a, L: Lines>(
 fn release_report<'a, L: Lines>(
     lines: &L,
     piece: &'a Piece,
-    release: Mark,
+    release: LineReading,
     skew: Skew,
 ) -> ReleaseReport<'a>
     requires { Reads (L.journals lines.now) release.at release.reading }

@@ -19,7 +19,7 @@ pub struct SideReport {
 
 /// A line that a certificate cites.
 #[derive(Clone, Copy, Debug)]
-pub struct Cited {
+pub struct CitedLine {
     pub at: Ref,
     pub line: Line,
 }
@@ -39,5 +39,5 @@ pub struct Report<'a> {
     pub foreign: Vec<ForeignReport<'a>>,
     /// Each line that the certificate names, or that gives back what a piece's grant gave, once: the primary's before
     /// the secondary's, and then by number.
-    pub cited: Vec<Cited>,
+    pub cited: Vec<CitedLine>,
 }

@@ -9,8 +9,8 @@ use Rattle.causal_order.specs.declared.reference.Ref.{Ref}
 use Rattle.causal_order.specs.declared.certificate.Certificate.{Certificate}
 use Rattle.causal_order.specs.declared.certificate.Piece.{Piece}
 use Rattle.causal_order.specs.declared.certificate.Clear.{Clear}
-use Rattle.causal_order.specs.declared.certificate.Why.{Why}
-use Rattle.causal_order.specs.declared.certificate.Why.TheVariants.{Before, After}
+use Rattle.causal_order.specs.declared.certificate.ClearReason.{ClearReason}
+use Rattle.causal_order.specs.declared.certificate.ClearReason.TheVariants.{Before, After}
 use Rattle.causal_order.specs.declared.certificate.Foreign.{Foreign}
 use Rattle.causal_order.specs.Journals.{Journals, open_of}
 use Rattle.causal_order.specs.Order.{EndsWith}
@@ -27,9 +27,9 @@ use Rattle.attribution.proofs.Deciding.{tells_told}
 use Rattle.auditor.proofs.Leases.{one_told}
 use Rattle.plain_search.specs.declared.query.Query.{Query}
 use Rattle.plain_search.specs.declared.reach.Candidate.{Candidate}
-use Rattle.plain_search.specs.declared.reach.Reach.{Reach}
+use Rattle.plain_search.specs.declared.reach.CarriedSpan.{CarriedSpan}
 use Rattle.plain_search.specs.Plain.{IsOneLine, IsPlainWhy, IsPlainClear, IsPlainPiece, IsPlainForeign, IsPlain}
-use Rattle.evidence_search.specs.Claim.{Claims, IsShown, HasNoPlainEvidence, IsTooLong}
+use Rattle.evidence_search.specs.Claim.{Claims, IsAuditorAccepted, HasNoPlainEvidence, IsTooLong}
 use Rattle.evidence_search.specs.Search.{certificate_with, IsPutTogether}
 use Rattle.plain_search.specs.Search.{IsReadAt, IsPastPartners, IsCandidate, IsKeptTo, AreKeptTo, CarriesTo, begin_of}
 use Rattle.plain_search.specs.Search.{CarriesAt, IsReach, HasGap, piece_with, IsPlainEntry, AreEntries, IsFound}
@@ -102,7 +102,7 @@ module _ (js : Journals) (q : Query) (c : Certificate) (holder : c.holder ≡ q.
     past = past_partners;
   }
 
-  kept_by : (j : Ref) (why : Why) → IsPlainWhy why → IsCleared js q.skew j p.grant p.to why
+  kept_by : (j : Ref) (why : ClearReason) → IsPlainWhy why → IsCleared js q.skew j p.grant p.to why
       → IsKeptTo js q.skew candidate_of (p.to + q.skew) j
   unfolding candidate_of
   kept_by j (Before order) plainly cleared = inl (shown_before js q.skew order j p.grant plainly cleared)
@@ -136,7 +136,7 @@ module _ (js : Journals) (q : Query) (c : Certificate) (holder : c.holder ≡ q.
 -- ---- what the search makes
 
 module _ (js : Journals) (q : Query) (ps : List Piece) (fs : List Foreign) where
-  entry_clears : (c : Candidate) (to : ℕ) (j : Ref) (why : Why) → IsKeptTo js q.skew c (to + q.skew) j
+  entry_clears : (c : Candidate) (to : ℕ) (j : Ref) (why : ClearReason) → IsKeptTo js q.skew c (to + q.skew) j
       → IsPlainEntry js q.skew j c.grant why → IsCleared js q.skew j c.grant to why
   entry_clears c to j why kept (inl before) =
       subst (IsCleared js q.skew j c.grant to) (sym before.1) (before_shown js q.skew j c.grant before.0)
@@ -180,7 +180,7 @@ module _ (js : Journals) (q : Query) (ps : List Piece) (fs : List Foreign) where
   abbrev Works : Piece → Type 0
   Works p = IsCarried js q.skew q.transit (certificate_with q ps fs) p × IsPastPartner js q.skew p
 
-  reach_works : (x : Reach) (from : ℕ) (clear : List Clear) → IsReach js q x → x.begin ≤ from
+  reach_works : (x : CarriedSpan) (from : ℕ) (clear : List Clear) → IsReach js q x → x.begin ≤ from
       → AreEntries js q.skew x.grant clear → Works (piece_with x.grant from x.end clear)
   reach_works x from clear h begun =
       subst (λ (r : Ref). AreEntries js q.skew r clear → Works (piece_with r from x.end clear)) h.is
@@ -250,7 +250,7 @@ module _ (js : Journals) (q : Query) where
   plain_with : (c : Certificate) → Claims q c → IsPlain c → IsPlain (certificate_with q c.pieces c.foreign)
   plain_with c claims plain = record { pieces = plain.pieces; foreign = plain.foreign }
 
-  accepted_with : (c : Certificate) → Claims q c → IsShown js q c
+  accepted_with : (c : Certificate) → Claims q c → IsAuditorAccepted js q c
       → IsAccepted js q.skew q.transit (certificate_with q c.pieces c.foreign)
   accepted_with c claims shown = subst (IsAccepted js q.skew q.transit) (sym (same_claims q c claims))
       (accepted_from js q.skew q.transit c shown.verdict)
@@ -286,7 +286,7 @@ module _ (js : Journals) (q : Query) where
         absurd (omega arith));
   }
 
-  pub none_refused : (made : Certificate) → Claims q made → IsPutTogether js q made → (IsShown js q made → ⊥)
+  pub none_refused : (made : Certificate) → Claims q made → IsPutTogether js q made → (IsAuditorAccepted js q made → ⊥)
       → HasNoPlainEvidence js q
   none_refused made of together refused = record {
     none = λ c claims plain shown. refused (record {
@@ -298,7 +298,7 @@ module _ (js : Journals) (q : Query) where
   }
 
   pub shown_by : (c : Certificate) (v : Verdict) (b : Bool) → IsVerdict js q.skew q.transit c v → IsTrue b
-      ↔ (v ≡ Accepted) → IsTrue b ↔ IsShown js q c
+      ↔ (v ≡ Accepted) → IsTrue b ↔ IsAuditorAccepted js q c
   shown_by c v b is d = (
     λ t. record { verdict = subst (IsVerdict js q.skew q.transit c) (d.0 t) is },
     λ h. d.1 (one_verdict js q.skew q.transit c v Accepted is h.verdict),

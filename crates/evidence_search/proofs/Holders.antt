@@ -13,7 +13,7 @@ use Rattle.attribution.proofs.Refusals.{accepted_from}
 use Rattle.auditor.specs.Closing.{ClosesAt}
 use Rattle.auditor.proofs.Leases.{one_granted}
 use Rattle.plain_search.specs.declared.query.HolderQuery.{HolderQuery}
-use Rattle.plain_search.specs.declared.reach.Reach.{Reach}
+use Rattle.plain_search.specs.declared.reach.CarriedSpan.{CarriedSpan}
 use Rattle.evidence_search.specs.Claim.{HasNoPlainEvidence, held_by, HasNoPlainHolder}
 use Rattle.evidence_search.specs.Search.{HasMoment, IsClientAt}
 use Rattle.plain_search.specs.Search.{CarriesAt, IsReach}
@@ -34,7 +34,7 @@ module _ (js : Journals) (q : HolderQuery) (r : Ref) where
       sym is.2.holders.0 ∙ ap (λ (x : Lease). x.client) (one_granted js r g is.0.lease e grants)
 
   -- what a search of the line finds for its client, where the moment isn't in it
-  pub not_carried : (g : Lease) → Some g ≡ lease_of js r → (found : Option Reach)
+  pub not_carried : (g : Lease) → Some g ≡ lease_of js r → (found : Option CarriedSpan)
       → MatchOption found ((m : ℕ) → q.at ≤ m → CarriesAt js (held_by q g.client) m r
       → ⊥) (λ x. (x.grant ≡ r) × IsReach js (held_by q g.client) x)
       → (HasMoment found q.at → ⊥) → (h : List ℕ) → IsClientAt js q r h → ⊥

@@ -12,7 +12,7 @@ use Rattle.book_rules.specs.NextHead.{AreLegal}
 use Rattle.plain_search.specs.declared.query.Query.{Query}
 use Rattle.plain_search.specs.declared.query.HolderQuery.{HolderQuery}
 use Rattle.plain_search.specs.declared.error.FindError.{FindError}
-use Rattle.evidence_search.specs.Claim.{asked, between, held_by, Claims, IsShown, HasNoPlainEvidence, IsNotTold}
+use Rattle.evidence_search.specs.Claim.{asked, between, held_by, Claims, IsAuditorAccepted, HasNoPlainEvidence, IsNotTold}
 use Rattle.evidence_search.specs.Claim.{IsRound, IsAcceptedOf, IsWidest}
 use Rattle.evidence_search.specs.Search.{IsShownRound}
 
@@ -22,7 +22,7 @@ past_reading lines reading limit h lt x = let is = h.each x.0 x.1 x.2 in let le 
 
 module _ (js : Journals) (q : Query) where
   pub shown_round : (c : Certificate) (from to : ℕ) → from ≤ q.from → q.to ≤ to → Claims (between q from to) c
-      → IsShown js (between q from to) c → IsTrueInEveryRun AreLegal js q.skew q.transit c
+      → IsAuditorAccepted js (between q from to) c → IsTrueInEveryRun AreLegal js q.skew q.transit c
       → IsShownRound js q c
   shown_round c from to before behind claims shown true = record {
     holder = claims.holder;

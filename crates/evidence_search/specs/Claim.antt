@@ -30,12 +30,12 @@ pub record Claims (q : Query) (c : Certificate) : Type 0 where
   pub to : c.to ≡ q.to
 
 -- an auditor accepts the certificate
-pub record IsShown (js : Journals) (q : Query) (c : Certificate) : Type 0 where
+pub record IsAuditorAccepted (js : Journals) (q : Query) (c : Certificate) : Type 0 where
   pub verdict : IsVerdict js q.skew q.transit c Accepted
 
 -- it accepts no plain certificate that claims it
 pub record HasNoPlainEvidence (js : Journals) (q : Query) : Type 0 where
-  pub none : (c : Certificate) → Claims q c → IsPlain c → IsShown js q c → ⊥
+  pub none : (c : Certificate) → Claims q c → IsPlain c → IsAuditorAccepted js q c → ⊥
 
 -- A certificate that claims it has pieces from the interval's beginning on, each carried by its grant, and an entry
 -- with its reason for each line that tells of another client's delegation; and more lines than a text may have.

@@ -1,4 +1,4 @@
-pub mod Passages
+pub mod DeliveredMessages
 pub mod Chains
 pub mod Claim
 pub mod Search

@@ -9,9 +9,9 @@ use Rattle.attribution.specs.Acceptance.{IsTrueInEveryRun}
 use Rattle.book_rules.specs.NextHead.{AreLegal}
 use Rattle.plain_search.specs.declared.query.Query.{Query}
 use Rattle.plain_search.specs.declared.query.HolderQuery.{HolderQuery}
-use Rattle.plain_search.specs.declared.reach.Reach.{Reach}
+use Rattle.plain_search.specs.declared.reach.CarriedSpan.{CarriedSpan}
 use Rattle.plain_search.specs.Search.{CarriesAt, ReachTo, AreForeign}
-use Rattle.evidence_search.specs.Claim.{Claims, IsShown, held_by}
+use Rattle.evidence_search.specs.Claim.{Claims, IsAuditorAccepted, held_by}
 
 -- ---- all of it
 
@@ -33,7 +33,7 @@ pub record IsPutTogether (js : Journals) (q : Query) (c : Certificate) : Type 0 
 -- a certificate that claims it, which is accepted, and true
 pub record IsTold (js : Journals) (q : Query) (c : Certificate) : Type 0 where
   pub claims : Claims q c
-  pub shown : IsShown js q c
+  pub shown : IsAuditorAccepted js q c
   pub headline : IsTrueInEveryRun AreLegal js q.skew q.transit c
 
 -- ---- who held a prefix at a moment
@@ -44,12 +44,12 @@ pub record IsShownRound (js : Journals) (q : Query) (c : Certificate) : Type 0 w
   pub prefix : c.prefix ≡ q.prefix
   pub from : c.from ≤ q.from
   pub to : q.to ≤ c.to
-  pub shown : IsShown js q c
+  pub shown : IsAuditorAccepted js q c
   pub headline : IsTrueInEveryRun AreLegal js q.skew q.transit c
 
 -- there is a grant, and it carries the moment
-abbrev pub HasMoment : Option Reach → ℕ → Type 0
-HasMoment found m = (x : Reach) × (found ≡ Some x) × (x.begin ≤ m) × (m < x.end)
+abbrev pub HasMoment : Option CarriedSpan → ℕ → Type 0
+HasMoment found m = (x : CarriedSpan) × (found ≡ Some x) × (x.begin ≤ m) × (m < x.end)
 
 -- the line grants this client what carries the moment
 abbrev pub IsClientAt : Journals → HolderQuery → Ref → List ℕ → Type 0

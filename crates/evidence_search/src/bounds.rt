@@ -2,11 +2,11 @@
 
 ghost use Rattle.std.specs.Prelude.{◌≡◌, None, IfSome, MatchOption};
 ghost use Rattle.causal_order.specs.Bounds.{reading_of};
-ghost use Rattle.evidence_search.specs.Passages.{send_of, take_of};
+ghost use Rattle.evidence_search.specs.DeliveredMessages.{send_of, take_of};
 ghost use Rattle.evidence_search.specs.Chains.{IsReadAtEnd, IsReadAtBeginning, IsEndBound, IsBeginBound};
 ghost use Rattle.evidence_search.specs.Chains.{AreMessages, IsBeforeTakes};
 
-use crate::messages::{Messages, Passage};
+use crate::messages::{DeliveredMessage, DeliveredMessages};
 use causal_order::{Chain, Lines, Ref};
 use lead_time::Reading;
 use plain_search::reading_at;
@@ -14,13 +14,13 @@ use std::alloc::{AllocError, Global};
 
 /// The reading at the far end of a chain, and the message that the chain goes over: none where it is the line alone.
 #[derive(Clone, Copy, Debug)]
-pub struct Bound {
+pub struct ChainBound {
     pub reading: Reading,
-    pub over: Option<Passage>,
+    pub over: Option<DeliveredMessage>,
 }
 
 /// The lines that send and take a message of the server at `from`.
-pub fn ends_of(from: Ref, passage: Passage) -> (Ref, Ref)
+pub fn ends_of(from: Ref, passage: DeliveredMessage) -> (Ref, Ref)
     ensures send { result.0 ≡ send_of from.side passage }
     ensures take { result.1 ≡ take_of from.side passage }
 {
@@ -47,27 +47,27 @@ pub fn chain_of(alloc: Global, refs: &[Ref]) -> Result<Chain, AllocError> {
 }
 
 /// Returns what the first message shows that was sent at the line or behind it.
-fn over_next<L: Lines>(lines: &L, messages: &Messages, at: Ref) -> Option<Bound>
+fn over_next<L: Lines>(lines: &L, messages: &DeliveredMessages, at: Ref) -> Option<ChainBound>
     ensures { IfSome result (IsReadAtEnd (L.journals lines.now) at) }
 {
     let passage = messages.sent_behind(at)?;
     let (_, take) = ends_of(at, passage);
     let reading = reading_at(lines, take)?;
-    Some(Bound {
+    Some(ChainBound {
         reading,
         over: Some(passage),
     })
 }
 
 /// The least reading that a chain from the line can end in: its own, or an earlier one of the partner's.
-pub fn latest<L: Lines>(lines: &L, messages: &Messages, at: Ref) -> Option<Bound>
+pub fn latest<L: Lines>(lines: &L, messages: &DeliveredMessages, at: Ref) -> Option<ChainBound>
     ensures { MatchOption result (reading_of (L.journals lines.now) at ≡ None)
         (IsEndBound (L.journals lines.now) at) }
 {
     let reading = reading_at(lines, at)?;
     match over_next(lines, messages, at) {
         Some(bound) if bound.reading < reading => Some(bound),
-        _ => Some(Bound {
+        _ => Some(ChainBound {
             reading,
             over: None,
         }),
@@ -75,7 +75,11 @@ pub fn latest<L: Lines>(lines: &L, messages: &Messages, at: Ref) -> Option<Bound
 }
 
 /// Returns what the last message shows that was taken at the line or before it.
-pub fn over_message<L: Lines>(lines: &L, messages: &Messages, at: Ref) -> Option<Bound>
+pub fn over_message<L: Lines>(
+    lines: &L,
+    messages: &DeliveredMessages,
+    at: Ref,
+) -> Option<ChainBound>
     ensures read { IfSome result (IsReadAtBeginning (L.journals lines.now) at) }
     ensures none { result ≡ None → AreMessages (L.journals lines.now) messages.now → IsBeforeTakes messages.now at }
 {
@@ -85,21 +89,21 @@ pub fn over_message<L: Lines>(lines: &L, messages: &Messages, at: Ref) -> Option
         number: passage.send,
     };
     let reading = reading_at(lines, send)?;
-    Some(Bound {
+    Some(ChainBound {
         reading,
         over: Some(passage),
     })
 }
 
 /// The greatest reading that a chain to the line can begin in: its own, or a later one of the partner's.
-pub fn earliest<L: Lines>(lines: &L, messages: &Messages, at: Ref) -> Option<Bound>
+pub fn earliest<L: Lines>(lines: &L, messages: &DeliveredMessages, at: Ref) -> Option<ChainBound>
     ensures { MatchOption result (reading_of (L.journals lines.now) at ≡ None)
         (IsBeginBound (L.journals lines.now) at) }
 {
     let reading = reading_at(lines, at)?;
     match over_message(lines, messages, at) {
         Some(bound) if bound.reading > reading => Some(bound),
-        _ => Some(Bound {
+        _ => Some(ChainBound {
             reading,
             over: None,
         }),
@@ -107,7 +111,7 @@ pub fn earliest<L: Lines>(lines: &L, messages: &Messages, at: Ref) -> Option<Bou
 }
 
 /// The chain from the line that shows the bound.
-pub fn latest_chain(alloc: Global, at: Ref, bound: &Bound) -> Result<Chain, AllocError> {
+pub fn latest_chain(alloc: Global, at: Ref, bound: &ChainBound) -> Result<Chain, AllocError> {
     let Some(passage) = bound.over else {
         return chain_of(alloc, &[at]);
     };
@@ -116,7 +120,7 @@ pub fn latest_chain(alloc: Global, at: Ref, bound: &Bound) -> Result<Chain, Allo
 }
 
 /// The chain to the line that shows the bound.
-pub fn earliest_chain(alloc: Global, at: Ref, bound: &Bound) -> Result<Chain, AllocError> {
+pub fn earliest_chain(alloc: Global, at: Ref, bound: &ChainBound) -> Result<Chain, AllocError> {
     let Some(passage) = bound.over else {
         return chain_of(alloc, &[at]);
     };

@@ -5,7 +5,7 @@ ghost use Rattle.evidence_search.specs.Claim.{Claims, HasNoPlainEvidence, IsTooL
 ghost use Rattle.evidence_search.specs.Search.{certificate_with, IsPutTogether};
 
 use crate::foreign::linked_foreign;
-use crate::messages::Messages;
+use crate::messages::DeliveredMessages;
 use crate::pieces::linked_pieces;
 use auditor::LineSource;
 use causal_order::{Certificate, ForeignList, PieceList};
@@ -64,7 +64,7 @@ pub fn evidence<S: LineSource>(
 pub fn linked_evidence<S: LineSource>(
     alloc: Global,
     source: &S,
-    messages: &Messages,
+    messages: &DeliveredMessages,
     query: &Query,
 ) -> Result<Certificate, FindError>
     ensures { IfOk result (Claims query.now) }

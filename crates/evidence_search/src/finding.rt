@@ -3,10 +3,10 @@
 ghost use Rattle.std.specs.Prelude.{◌≡◌, ◌↔◌, IsTrue, IfOk, IsErrOf};
 ghost use Rattle.attribution.specs.Acceptance.{IsTrueInEveryRun};
 ghost use Rattle.book_rules.specs.NextHead.{AreLegal};
-ghost use Rattle.evidence_search.specs.Claim.{asked, Claims, IsShown, HasNoPlainEvidence, IsTooLong};
+ghost use Rattle.evidence_search.specs.Claim.{asked, Claims, IsAuditorAccepted, HasNoPlainEvidence, IsTooLong};
 
 use crate::evidence::{evidence, linked_evidence};
-use crate::messages::Messages;
+use crate::messages::DeliveredMessages;
 use attribution::Verdict;
 use auditor::{LineSource, audit};
 use causal_order::Certificate;
@@ -24,7 +24,7 @@ fn is_accepted(verdict: &Verdict) -> bool
 
 /// Returns whether the auditor accepts the certificate.
 fn is_shown<S: LineSource>(source: &S, query: &Query, certificate: &Certificate) -> bool
-    ensures shown { IsTrue result ↔ IsShown (S.journals source.now) query.now certificate.now }
+    ensures shown { IsTrue result ↔ IsAuditorAccepted (S.journals source.now) query.now certificate.now }
     ensures headline { IsTrue result → IsTrueInEveryRun AreLegal (S.journals source.now) query.now.skew
         query.now.transit certificate.now }
 {
@@ -40,7 +40,7 @@ fn line_search<S: LineSource>(
     query: &Query,
 ) -> Result<Certificate, FindError>
     ensures claims { IfOk result (Claims query.now) }
-    ensures shown { IfOk result (IsShown (S.journals source.now) query.now) }
+    ensures shown { IfOk result (IsAuditorAccepted (S.journals source.now) query.now) }
     ensures headline { IfOk result
         (IsTrueInEveryRun AreLegal (S.journals source.now) query.now.skew query.now.transit) }
     ensures none { IsErrOf result FindError.NoneFound → HasNoPlainEvidence (S.journals source.now) query.now }
@@ -61,11 +61,11 @@ fn line_search<S: LineSource>(
 fn linked_search<S: LineSource>(
     alloc: Global,
     source: &S,
-    messages: &Messages,
+    messages: &DeliveredMessages,
     query: &Query,
 ) -> Result<Certificate, FindError>
     ensures claims { IfOk result (Claims query.now) }
-    ensures shown { IfOk result (IsShown (S.journals source.now) query.now) }
+    ensures shown { IfOk result (IsAuditorAccepted (S.journals source.now) query.now) }
     ensures headline { IfOk result
         (IsTrueInEveryRun AreLegal (S.journals source.now) query.now.skew query.now.transit) }
     ensures long { IsErrOf result FindError.TooLong → ⊥ }
@@ -85,11 +85,11 @@ fn linked_search<S: LineSource>(
 pub fn search_over<S: LineSource>(
     alloc: Global,
     source: &S,
-    messages: Option<&Messages>,
+    messages: Option<&DeliveredMessages>,
     query: &Query,
 ) -> Result<Certificate, FindError>
     ensures claims { IfOk result (Claims query.now) }
-    ensures shown { IfOk result (IsShown (S.journals source.now) query.now) }
+    ensures shown { IfOk result (IsAuditorAccepted (S.journals source.now) query.now) }
     ensures headline { IfOk result
         (IsTrueInEveryRun AreLegal (S.journals source.now) query.now.skew query.now.transit) }
     ensures none { IsErrOf result FindError.NoneFound → HasNoPlainEvidence (S.journals source.now) query.now }
@@ -108,7 +108,7 @@ pub fn search_over<S: LineSource>(
 /// Returns what single lines show of the query, or else what chains do.
 fn search<S: LineSource>(alloc: Global, source: &S, query: &Query) -> Result<Certificate, FindError>
     ensures claims { IfOk result (Claims query.now) }
-    ensures shown { IfOk result (IsShown (S.journals source.now) query.now) }
+    ensures shown { IfOk result (IsAuditorAccepted (S.journals source.now) query.now) }
     ensures headline { IfOk result
         (IsTrueInEveryRun AreLegal (S.journals source.now) query.now.skew query.now.transit) }
     ensures none { IsErrOf result FindError.NoneFound → HasNoPlainEvidence (S.journals source.now) query.now }
@@ -116,7 +116,7 @@ fn search<S: LineSource>(alloc: Global, source: &S, query: &Query) -> Result<Cer
 {
     match line_search(alloc, source, query) {
         Err(FindError::NoneFound) => {
-            let messages = Messages::between(alloc, source)?;
+            let messages = DeliveredMessages::between(alloc, source)?;
             linked_search(alloc, source, &messages, query)
         }
         plain => plain,
@@ -140,7 +140,7 @@ pub fn find_certificate<S: LineSource>(
     transit: Transit,
 ) -> Result<Certificate, FindError>
     ensures claims { IfOk result (Claims (asked holder prefix from to skew transit)) }
-    ensures shown { IfOk result (IsShown (S.journals source.now) (asked holder prefix from to skew transit)) }
+    ensures shown { IfOk result (IsAuditorAccepted (S.journals source.now) (asked holder prefix from to skew transit)) }
     // What is found is true in every run of the pair that leaves the source's journals, whatever volumes came before,
     // with each clock within the skew of true time and each answer within the transit.
     ensures headline { IfOk result (IsTrueInEveryRun AreLegal (S.journals source.now) skew transit) }

@@ -5,23 +5,23 @@ ghost use Rattle.plain_search.specs.Collected.{IsRecent};
 
 use crate::bounds::{earliest, earliest_chain, latest, latest_chain};
 use crate::linking::{is_before, order};
-use crate::messages::Messages;
+use crate::messages::DeliveredMessages;
 use attribution::Delegation;
 use auditor::LineSource;
 use causal_order::{Foreign, ForeignList, Lines, Reason, Ref};
 use plain_search::{
-    Dated, FindError, Query, Recent, begins_late, first_read, has_ended, others_at,
+    DatedRelease, FindError, Query, ReleaseCache, begins_late, first_read, has_ended, others_at,
 };
 use std::alloc::{AllocError, Global};
 
 /// The first of a server's releases that was shown to be written after the line, where it was by the query's beginning.
 fn first_return<L: Lines>(
     lines: &L,
-    messages: &Messages,
+    messages: &DeliveredMessages,
     query: &Query,
     at: Ref,
-    releases: &[Dated],
-) -> Option<Dated> {
+    releases: &[DatedRelease],
+) -> Option<DatedRelease> {
     let place = releases.partition_point(|release| !is_before(
         lines, messages, at, release.at, query.skew,
     ));
@@ -37,12 +37,12 @@ fn first_return<L: Lines>(
 fn returning<S: LineSource>(
     alloc: Global,
     source: &S,
-    messages: &Messages,
-    recent: &mut Recent,
+    messages: &DeliveredMessages,
+    recent: &mut ReleaseCache,
     query: &Query,
     at: Ref,
     delegation: &Delegation,
-) -> Result<Option<Dated>, AllocError>
+) -> Result<Option<DatedRelease>, AllocError>
     requires { IsRecent (S.journals source.now) recent.old }
     ensures { OnOk result (IsRecent (S.journals source.now) recent.new) }
 {
@@ -57,7 +57,7 @@ fn returning<S: LineSource>(
 fn returned<S: LineSource>(
     alloc: Global,
     source: &S,
-    messages: &Messages,
+    messages: &DeliveredMessages,
     query: &Query,
     at: Ref,
     release: Ref,
@@ -78,8 +78,8 @@ fn returned<S: LineSource>(
 fn reason_of<S: LineSource>(
     alloc: Global,
     source: &S,
-    messages: &Messages,
-    recent: &mut Recent,
+    messages: &DeliveredMessages,
+    recent: &mut ReleaseCache,
     query: &Query,
     at: Ref,
     delegation: &Delegation,
@@ -110,11 +110,11 @@ fn reason_of<S: LineSource>(
 pub fn linked_foreign<S: LineSource>(
     alloc: Global,
     source: &S,
-    messages: &Messages,
+    messages: &DeliveredMessages,
     query: &Query,
 ) -> Result<ForeignList, FindError> {
     let mut entries = ForeignList::new(alloc);
-    let mut recent = Recent::new(alloc);
+    let mut recent = ReleaseCache::new(alloc);
     let mut walk = source.overlaps(&query.prefix);
     while let Some(grant) = source.next_overlap(&query.prefix, &mut walk) {
         if let Some(delegation) = others_at(source, query, grant) {

@@ -10,27 +10,27 @@ use causal_order::Ref;
 use journal_lines::Lease;
 use lead_time::Reading;
 use plain_search::{
-    Query, Reach, Recent, begins_late, first_returning, others_at, reaches, reading_at,
+    CarriedSpan, Query, ReleaseCache, begins_late, first_returning, others_at, reaches, reading_at,
 };
 use std::alloc::{AllocError, Global};
 
 /// From when to when, in milliseconds.
 #[derive(Clone, Copy, Debug)]
-pub struct Guess {
+pub struct IntervalGuess {
     pub from: u64,
     pub to: u64,
 }
 
-impl Guess {
-    fn not_before(self, from: u64) -> Guess {
-        Guess {
+impl IntervalGuess {
+    fn not_before(self, from: u64) -> IntervalGuess {
+        IntervalGuess {
             from: self.from.max(from),
             to: self.to,
         }
     }
 
-    fn not_behind(self, to: u64) -> Guess {
-        Guess {
+    fn not_behind(self, to: u64) -> IntervalGuess {
+        IntervalGuess {
             from: self.from,
             to: self.to.min(to),
         }
@@ -38,8 +38,8 @@ impl Guess {
 }
 
 /// Returns what grants carry end to end round the moment. They stand in the order in which they begin.
-fn carried_round(reaches: &[Reach], moment: Reading) -> Guess {
-    let mut carried = Guess { from: 0, to: 0 };
+fn carried_round(reaches: &[CarriedSpan], moment: Reading) -> IntervalGuess {
+    let mut carried = IntervalGuess { from: 0, to: 0 };
     for reach in reaches {
         let begin = reach.begin.milliseconds();
         if begin > carried.to {
@@ -71,12 +71,12 @@ fn end_of(query: &Query, lasting: Lasting, granted: Reading) -> u64 {
 fn beside<S: LineSource>(
     alloc: Global,
     source: &S,
-    recent: &mut Recent,
+    recent: &mut ReleaseCache,
     query: &Query,
     at: Ref,
     delegation: &Delegation,
-    guess: Guess,
-) -> Result<Guess, AllocError>
+    guess: IntervalGuess,
+) -> Result<IntervalGuess, AllocError>
     requires { IsRecent (S.journals source.now) recent.old }
     ensures { OnOk result (IsRecent (S.journals source.now) recent.new) }
 {
@@ -97,7 +97,12 @@ fn beside<S: LineSource>(
 }
 
 /// Returns what the side's journal leaves of the guess: where it has earlier volumes, and where it was closed.
-fn shown_by<S: LineSource>(source: &S, query: &Query, side: Role, guess: Guess) -> Guess {
+fn shown_by<S: LineSource>(
+    source: &S,
+    query: &Query,
+    side: Role,
+    guess: IntervalGuess,
+) -> IntervalGuess {
     let skew = query.skew.milliseconds();
     let closed = source.close_reading(side).milliseconds();
     let guess = guess.not_behind(closed.saturating_sub(skew));
@@ -118,12 +123,12 @@ pub fn guess_round<S: LineSource>(
     source: &S,
     query: &Query,
     wide: &Query,
-) -> Result<Guess, AllocError> {
+) -> Result<IntervalGuess, AllocError> {
     let reaches = reaches(alloc, source, wide)?;
     let mut guess = carried_round(&reaches, query.from);
     guess = shown_by(source, query, Role::Primary, guess);
     guess = shown_by(source, query, Role::Secondary, guess);
-    let mut recent = Recent::new(alloc);
+    let mut recent = ReleaseCache::new(alloc);
     let mut walk = source.overlaps(&query.prefix);
     while let Some(at) = source.next_overlap(&query.prefix, &mut walk) {
         if let Some(delegation) = others_at(source, query, at) {

@@ -8,7 +8,7 @@ ghost use Rattle.evidence_search.specs.Claim.{HasNoPlainHolder, IsTooLong, IsToo
 ghost use Rattle.plain_search.specs.Collected.{IsRecent};
 ghost use Rattle.evidence_search.specs.Search.{HasMoment, IsClientAt};
 
-use crate::messages::Messages;
+use crate::messages::DeliveredMessages;
 use crate::pieces::linked_reach_at;
 use crate::widening::widest;
 use auditor::LineSource;
@@ -16,7 +16,7 @@ use binding_rules::Role;
 use causal_order::{Certificate, Ref};
 use client_id::Duid;
 use lead_time::Reading;
-use plain_search::{FindError, HolderQuery, Query, Reach, Recent, lease_at, reach_at};
+use plain_search::{CarriedSpan, FindError, HolderQuery, Query, ReleaseCache, lease_at, reach_at};
 use std::alloc::{AllocError, Global};
 
 /// Returns whether this client held the prefix from the moment to the next.
@@ -35,7 +35,7 @@ fn held_by(query: &HolderQuery, holder: Duid, next: Reading) -> Query
 }
 
 /// Returns whether there is a grant, and it carries the moment.
-fn carries(reach: &Option<Reach>, moment: Reading) -> bool
+fn carries(reach: &Option<CarriedSpan>, moment: Reading) -> bool
     ensures { IsTrue result ↔ HasMoment reach.now moment }
 {
     match reach {
@@ -48,8 +48,8 @@ fn carries(reach: &Option<Reach>, moment: Reading) -> bool
 fn client_at<S: LineSource>(
     alloc: Global,
     source: &S,
-    messages: Option<&Messages>,
-    recent: &mut Recent,
+    messages: Option<&DeliveredMessages>,
+    recent: &mut ReleaseCache,
     query: &HolderQuery,
     next: Reading,
     at: Ref,
@@ -93,7 +93,7 @@ fn is_last(last: &Option<Duid>, client: &Duid) -> bool
 fn widest_of<S: LineSource>(
     alloc: Global,
     source: &S,
-    messages: Option<&Messages>,
+    messages: Option<&DeliveredMessages>,
     query: &HolderQuery,
     holder: Duid,
     next: Reading,
@@ -117,7 +117,7 @@ fn widest_of<S: LineSource>(
 fn holder_over<S: LineSource>(
     alloc: Global,
     source: &S,
-    messages: Option<&Messages>,
+    messages: Option<&DeliveredMessages>,
     query: &HolderQuery,
     next: Reading,
 ) -> Result<Certificate, FindError>
@@ -132,7 +132,7 @@ fn holder_over<S: LineSource>(
 {
     let _bits = query.prefix.len();
     let mut last = None;
-    let mut recent = Recent::new(alloc);
+    let mut recent = ReleaseCache::new(alloc);
     let mut walk = source.overlaps(&query.prefix);
     while let Some(at) = source.next_overlap(&query.prefix, &mut walk) {
         let found = client_at(alloc, source, messages, &mut recent, query, next, at)?;
@@ -182,7 +182,7 @@ pub fn find_holder<S: LineSource>(
     };
     match holder_over(alloc, source, None, query, next) {
         Err(FindError::NoneFound) => {
-            let messages = Messages::between(alloc, source)?;
+            let messages = DeliveredMessages::between(alloc, source)?;
             holder_over(alloc, source, Some(&messages), query, next)
         }
         found => found,

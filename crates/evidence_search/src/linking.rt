@@ -4,14 +4,14 @@ ghost use Rattle.std.specs.Prelude.{IfSome};
 ghost use Rattle.evidence_search.specs.Chains.{IsLinking};
 
 use crate::bounds::{chain_of, earliest, earliest_chain, ends_of, latest, latest_chain};
-use crate::messages::{Messages, Passage};
+use crate::messages::{DeliveredMessage, DeliveredMessages};
 use causal_order::{Lines, Precedes, Ref};
 use lead_time::Skew;
 use plain_search::{are_apart, is_plainly_before, plain_order};
 use std::alloc::{AllocError, Global};
 
 /// The message that leads from the first line to the second.
-fn linking(messages: &Messages, first: Ref, second: Ref) -> Option<Passage>
+fn linking(messages: &DeliveredMessages, first: Ref, second: Ref) -> Option<DeliveredMessage>
     ensures { IfSome result (IsLinking messages.now first second) }
 {
     if first.side == second.side {
@@ -27,7 +27,7 @@ fn linking(messages: &Messages, first: Ref, second: Ref) -> Option<Passage>
 /// Returns whether chains from the first line and to the second lie further apart than both skews.
 fn are_chains_apart<L: Lines>(
     lines: &L,
-    messages: &Messages,
+    messages: &DeliveredMessages,
     first: Ref,
     second: Ref,
     skew: Skew,
@@ -44,7 +44,7 @@ fn are_chains_apart<L: Lines>(
 /// Returns whether the first line was shown to be written before the second.
 pub fn is_before<L: Lines>(
     lines: &L,
-    messages: &Messages,
+    messages: &DeliveredMessages,
     first: Ref,
     second: Ref,
     skew: Skew,
@@ -58,7 +58,7 @@ pub fn is_before<L: Lines>(
 pub fn order<L: Lines>(
     alloc: Global,
     lines: &L,
-    messages: &Messages,
+    messages: &DeliveredMessages,
     first: Ref,
     second: Ref,
     skew: Skew,

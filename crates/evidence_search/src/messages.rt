@@ -4,7 +4,7 @@ ghost use Rattle.std.specs.Prelude.{◌≡◌, [], ◌∷◌, ◌≤◌, ◌<◌
 ghost use Rattle.std.specs.Prelude.{nat_lt, nat_le};
 ghost use Rattle.binding_rules.specs.Role.{partner_of};
 ghost use Rattle.causal_order.specs.Order.{IsChain};
-ghost use Rattle.evidence_search.specs.Passages.{IsPassage, AreRising};
+ghost use Rattle.evidence_search.specs.DeliveredMessages.{IsDeliveredMessage, AreRising};
 
 use binding_rules::{Counter, Role};
 use causal_order::{Lines, Ref, is_chain};
@@ -13,7 +13,7 @@ use std::alloc::{AllocError, Global};
 
 /// A message: the number of the line that sends it, and of the partner's that takes it.
 #[derive(Clone, Copy, Debug, PartialEq, Eq)]
-pub struct Passage {
+pub struct DeliveredMessage {
     pub send: u32,
     pub take: u32,
 }
@@ -28,9 +28,9 @@ struct Sending {
 /// The messages of either server that lead forward: each next one was sent later and taken later. A message that was
 /// sent before another and taken after it shows nothing that the other doesn't.
 #[derive(Drop)]
-pub struct Messages {
-    primary: Vec<Passage>,
-    secondary: Vec<Passage>,
+pub struct DeliveredMessages {
+    primary: Vec<DeliveredMessage>,
+    secondary: Vec<DeliveredMessage>,
     ghost primary_rise: { AreRising primary.items },
     ghost secondary_rise: { AreRising secondary.items },
 }
@@ -84,8 +84,12 @@ fn sending_of<L: Lines>(lines: &L, sendings: &[Sending], take: Ref) -> Option<u3
 }
 
 /// The messages that this side sent and its partner took, but those that show nothing that another doesn't.
-fn passages<L: Lines>(alloc: Global, lines: &L, side: Role) -> Result<Vec<Passage>, AllocError>
-    ensures each { IfOk result (λ ps. All (IsPassage (L.journals lines.now) side) ps.items) }
+fn passages<L: Lines>(
+    alloc: Global,
+    lines: &L,
+    side: Role,
+) -> Result<Vec<DeliveredMessage>, AllocError>
+    ensures each { IfOk result (λ ps. All (IsDeliveredMessage (L.journals lines.now) side) ps.items) }
     ensures rising { IfOk result (λ ps. AreRising ps.items) }
 {
     let sendings = sendings(alloc, lines, side)?;
@@ -105,25 +109,25 @@ fn passages<L: Lines>(alloc: Global, lines: &L, side: Role) -> Result<Vec<Passag
         if send <= last {
             continue;
         }
-        passages.push(Passage { send, take })?;
+        passages.push(DeliveredMessage { send, take })?;
         last = send;
     }
     Ok(passages)
 }
 
-impl Messages {
+impl DeliveredMessages {
     ghost use Rattle.evidence_search.specs.Chains.{AreMessages, messages_of};
 
     /// The messages between two journals.
-    pub fn between<L: Lines>(alloc: Global, lines: &L) -> Result<Messages, AllocError>
+    pub fn between<L: Lines>(alloc: Global, lines: &L) -> Result<DeliveredMessages, AllocError>
         ensures { IfOk result (AreMessages (L.journals lines.now)) }
     {
         let primary = passages(alloc, lines, Role::Primary)?;
         let secondary = passages(alloc, lines, Role::Secondary)?;
-        Ok(Messages { primary, secondary })
+        Ok(DeliveredMessages { primary, secondary })
     }
 
-    fn sent_by(&self, side: Role) -> &[Passage]
+    fn sent_by(&self, side: Role) -> &[DeliveredMessage]
         ensures messages { result.now ≡ messages_of self.now side }
         ensures rising { AreRising result.now }
     {
@@ -134,7 +138,7 @@ impl Messages {
     }
 
     /// The first message that the line's server sent at the line or behind it.
-    pub fn sent_behind(&self, at: Ref) -> Option<Passage>
+    pub fn sent_behind(&self, at: Ref) -> Option<DeliveredMessage>
         ensures { MatchOption result (All (λ p. p.send < at.number) (messages_of self.now at.side))
             (λ p. Has (messages_of self.now at.side) p × (at.number ≤ p.send)) }
     {
@@ -151,7 +155,7 @@ impl Messages {
     }
 
     /// The last message that the line's server took at the line or before it.
-    pub fn taken_before(&self, at: Ref) -> Option<Passage>
+    pub fn taken_before(&self, at: Ref) -> Option<DeliveredMessage>
         ensures { MatchOption result (All (λ p. at.number < p.take) (messages_of self.now (partner_of at.side)))
             (λ p. Has (messages_of self.now (partner_of at.side)) p × (p.take ≤ at.number)) }
     {

@@ -4,21 +4,21 @@ ghost use Rattle.std.specs.Prelude.{IfOk, OnOk};
 ghost use Rattle.plain_search.specs.Collected.{IsRecent};
 ghost use Rattle.plain_search.specs.Search.{AreInOrder};
 
-use crate::bounds::{Bound, earliest, earliest_chain, latest, latest_chain, over_message};
+use crate::bounds::{ChainBound, earliest, earliest_chain, latest, latest_chain, over_message};
 use crate::linking::{is_before, order};
-use crate::messages::Messages;
+use crate::messages::DeliveredMessages;
 use attribution::Delegation;
 use auditor::LineSource;
-use causal_order::{Clear, ClearList, Lines, Piece, PieceList, Ref, Why};
+use causal_order::{Clear, ClearList, ClearReason, Lines, Piece, PieceList, Ref};
 use lead_time::{Reading, Skew};
 use plain_search::{
-    Candidate, Dated, FindError, Passed, Query, Reach, Recent, are_apart, begin_of, farthest,
-    is_holders, lease_at, lease_limit, less_skew, pass, reading_at, sort,
+    Candidate, CarriedSpan, DatedRelease, FindError, Query, ReleaseCache, SweepState, are_apart,
+    begin_of, farthest, is_holders, lease_at, lease_limit, less_skew, pass, reading_at, sort,
 };
 use std::alloc::{AllocError, Global};
 
 /// Returns whether the bound shows that the line was written after its server's partner opened its journal.
-fn is_past_open<S: LineSource>(source: &S, at: Ref, bound: &Bound, skew: Skew) -> bool {
+fn is_past_open<S: LineSource>(source: &S, at: Ref, bound: &ChainBound, skew: Skew) -> bool {
     let partner = at.side.partner();
     if source.volume(partner) <= 1 || bound.over.is_some() {
         return true;
@@ -36,10 +36,10 @@ fn is_past_open<S: LineSource>(source: &S, at: Ref, bound: &Bound, skew: Skew) -
 /// From when the grant was written, behind its partner's earlier volumes.
 fn granted_from<S: LineSource>(
     source: &S,
-    messages: &Messages,
+    messages: &DeliveredMessages,
     at: Ref,
     skew: Skew,
-) -> Option<Bound> {
+) -> Option<ChainBound> {
     let bound = earliest(source, messages, at)?;
     if is_past_open(source, at, &bound, skew) {
         return Some(bound);
@@ -51,8 +51,8 @@ fn granted_from<S: LineSource>(
 /// grant.
 fn kept_by<L: Lines>(
     lines: &L,
-    messages: &Messages,
-    releases: &[Dated],
+    messages: &DeliveredMessages,
+    releases: &[DatedRelease],
     grant: Ref,
     skew: Skew,
     limit: u64,
@@ -73,8 +73,8 @@ fn kept_by<L: Lines>(
 fn kept_limit<S: LineSource>(
     alloc: Global,
     source: &S,
-    messages: &Messages,
-    recent: &mut Recent,
+    messages: &DeliveredMessages,
+    recent: &mut ReleaseCache,
     candidate: &Candidate,
     skew: Skew,
     limit: u64,
@@ -93,7 +93,7 @@ fn kept_limit<S: LineSource>(
 /// The line as a grant that may carry pieces, as chains show when it was written, and from when on it does.
 fn candidate_at<S: LineSource>(
     source: &S,
-    messages: &Messages,
+    messages: &DeliveredMessages,
     query: &Query,
     grant: Ref,
 ) -> Option<(Candidate, Reading)> {
@@ -123,11 +123,11 @@ fn candidate_at<S: LineSource>(
 pub fn linked_reach_at<S: LineSource>(
     alloc: Global,
     source: &S,
-    messages: &Messages,
-    recent: &mut Recent,
+    messages: &DeliveredMessages,
+    recent: &mut ReleaseCache,
     query: &Query,
     grant: Ref,
-) -> Result<Option<Reach>, AllocError>
+) -> Result<Option<CarriedSpan>, AllocError>
     requires { IsRecent (S.journals source.now) recent.old }
     ensures { OnOk result (IsRecent (S.journals source.now) recent.new) }
 {
@@ -138,7 +138,7 @@ pub fn linked_reach_at<S: LineSource>(
     let limit = lease_limit(query, &candidate);
     let kept = kept_limit(alloc, source, messages, recent, &candidate, skew, limit)?;
     match less_skew(kept, skew) {
-        Some(end) => Ok(Some(Reach { grant, begin, end })),
+        Some(end) => Ok(Some(CarriedSpan { grant, begin, end })),
         None => Ok(None),
     }
 }
@@ -147,13 +147,13 @@ pub fn linked_reach_at<S: LineSource>(
 fn reaches<S: LineSource>(
     alloc: Global,
     source: &S,
-    messages: &Messages,
+    messages: &DeliveredMessages,
     query: &Query,
-) -> Result<Vec<Reach>, AllocError>
+) -> Result<Vec<CarriedSpan>, AllocError>
     ensures { IfOk result (λ xs. AreInOrder xs.items) }
 {
     let mut reaches = Vec::new(alloc);
-    let mut recent = Recent::new(alloc);
+    let mut recent = ReleaseCache::new(alloc);
     let mut walk = source.overlaps(&query.prefix);
     while let Some(at) = source.next_overlap(&query.prefix, &mut walk) {
         let found = linked_reach_at(alloc, source, messages, &mut recent, query, at)?;
@@ -169,26 +169,26 @@ fn reaches<S: LineSource>(
 fn why_cleared<L: Lines>(
     alloc: Global,
     lines: &L,
-    messages: &Messages,
+    messages: &DeliveredMessages,
     release: Ref,
     grant: Ref,
     skew: Skew,
-) -> Result<Why, FindError> {
+) -> Result<ClearReason, FindError> {
     if is_before(lines, messages, release, grant, skew) {
         let order = order(alloc, lines, messages, release, grant, skew)?;
-        return Ok(Why::Before(order));
+        return Ok(ClearReason::Before(order));
     }
     let Some(bound) = earliest(lines, messages, release) else {
         return Err(FindError::NoneFound);
     };
-    Ok(Why::After(earliest_chain(alloc, release, &bound)?))
+    Ok(ClearReason::After(earliest_chain(alloc, release, &bound)?))
 }
 
 /// An entry for each release that gives back what the grant gave.
 fn clears<S: LineSource>(
     alloc: Global,
     source: &S,
-    messages: &Messages,
+    messages: &DeliveredMessages,
     grant: Ref,
     skew: Skew,
 ) -> Result<ClearList, FindError> {
@@ -209,8 +209,8 @@ fn clears<S: LineSource>(
 fn piece_of<S: LineSource>(
     alloc: Global,
     source: &S,
-    messages: &Messages,
-    reach: &Reach,
+    messages: &DeliveredMessages,
+    reach: &CarriedSpan,
     from: Reading,
     skew: Skew,
 ) -> Result<Piece, FindError> {
@@ -237,9 +237,9 @@ fn piece_of<S: LineSource>(
 fn pieces_of<S: LineSource>(
     alloc: Global,
     source: &S,
-    messages: &Messages,
+    messages: &DeliveredMessages,
     query: &Query,
-    reaches: &[Reach],
+    reaches: &[CarriedSpan],
     room: usize,
 ) -> Result<PieceList, FindError>
     requires { AreInOrder reaches.now }
@@ -247,7 +247,7 @@ fn pieces_of<S: LineSource>(
     let mut pieces = PieceList::new(Vec::new(alloc));
     let mut left = room;
     let mut from = query.from;
-    let mut passed = Passed::NONE;
+    let mut passed = SweepState::NONE;
     while from < query.to {
         passed = pass(reaches, &passed, from);
         let Some(reach) = farthest(reaches, &passed, from) else {
@@ -270,7 +270,7 @@ fn pieces_of<S: LineSource>(
 pub fn linked_pieces<S: LineSource>(
     alloc: Global,
     source: &S,
-    messages: &Messages,
+    messages: &DeliveredMessages,
     query: &Query,
     room: usize,
 ) -> Result<PieceList, FindError> {

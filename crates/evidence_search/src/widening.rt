@@ -9,7 +9,7 @@ ghost use Rattle.evidence_search.specs.Search.{IsShownRound, IsTold};
 
 use crate::finding::search_over;
 use crate::guessing::guess_round;
-use crate::messages::Messages;
+use crate::messages::DeliveredMessages;
 use auditor::LineSource;
 use binding_rules::Role;
 use causal_order::Certificate;
@@ -21,7 +21,7 @@ use std::alloc::{AllocError, Global};
 fn told_over<S: LineSource>(
     alloc: Global,
     source: &S,
-    messages: Option<&Messages>,
+    messages: Option<&DeliveredMessages>,
     query: &Query,
 ) -> Result<Option<Certificate>, AllocError>
     ensures { IfOk result (λ found. MatchOption found (IsNotTold (S.journals source.now) query.now)
@@ -59,7 +59,7 @@ fn stride(step: u64, room: u64) -> u64
 fn from_earliest<S: LineSource>(
     alloc: Global,
     source: &S,
-    messages: Option<&Messages>,
+    messages: Option<&DeliveredMessages>,
     query: &Query,
     found: Certificate,
     guess: u64,
@@ -116,7 +116,7 @@ fn last_shown<S: LineSource>(source: &S, skew: Skew, least: Reading) -> Reading
 fn to_latest<S: LineSource>(
     alloc: Global,
     source: &S,
-    messages: Option<&Messages>,
+    messages: Option<&DeliveredMessages>,
     query: &Query,
     found: Certificate,
     guess: u64,
@@ -158,7 +158,7 @@ fn to_latest<S: LineSource>(
 pub fn widest<S: LineSource>(
     alloc: Global,
     source: &S,
-    messages: Option<&Messages>,
+    messages: Option<&DeliveredMessages>,
     query: &Query,
 ) -> Result<Certificate, FindError>
     ensures round { IfOk result (IsShownRound (S.journals source.now) query.now) }

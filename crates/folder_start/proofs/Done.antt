@@ -8,22 +8,22 @@ use Rattle.disk_model.specs.Names.{NameCall, names_after, AreSettled}
 use Rattle.order_book.specs.Replayed.{with_line}
 use Rattle.server_settings.specs.Settings.{ServerSettings}
 use Rattle.std.proofs.Common.{Result, Ok, Err, IfOk}
-use Rattle.volume_store.specs.Folder.{GoesOn}
-use Rattle.volume_store.specs.declared.step.FolderBook.{FolderBook}
-use Rattle.volume_store.specs.declared.step.NextStep.{NextStep}
-use Rattle.volume_store.specs.declared.step.NextStep.TheVariants.{BeginFirst, GoOn as GoOnWith, BeginNext}
-use Rattle.volume_store.specs.declared.step.NextStep.TheVariants.{End as EndOf}
+use Rattle.volume_store.specs.Folder.{ResumesAsTold}
+use Rattle.volume_store.specs.declared.step.RecoveredFolder.{RecoveredFolder}
+use Rattle.volume_store.specs.declared.step.ResumeStep.{ResumeStep}
+use Rattle.volume_store.specs.declared.step.ResumeStep.TheVariants.{BeginFirst, GoOn as GoOnWith, BeginNext}
+use Rattle.volume_store.specs.declared.step.ResumeStep.TheVariants.{End as EndOf}
 use Rattle.volume_store.specs.Volumes.{going_on, HasVolume}
-use Rattle.server_start.specs.declared.starting.Start.{Start}
-use Rattle.server_start.specs.declared.starting.Start.TheVariants.{First, GoOn, End, Next}
+use Rattle.server_start.specs.declared.starting.StartAction.{StartAction}
+use Rattle.server_start.specs.declared.starting.StartAction.TheVariants.{First, GoOn, End, Next}
 use Rattle.server_start.specs.Starting.{IsStart}
-use Rattle.server_core.specs.Live.{LiveState}
-use Rattle.server_core.specs.Running.{RunState}
+use Rattle.server_core.specs.VolumeWriters.{WriterState}
+use Rattle.server_core.specs.ServerStates.{CoreState}
 use Rattle.server_core.specs.Beginning.{HasBook, HasNextBook, HasSameFiles}
 use Rattle.server_core.specs.Starting.{HasStarted, StartsKeep}
 use Rattle.folder_start.specs.Keeping.{HasDone, StartsWith}
 
-module _ {P : Type 0} (old new : RunState P) (same : HasSameFiles old new) where
+module _ {P : Type 0} (old new : CoreState P) (same : HasSameFiles old new) where
   same_book : (j : Journal) (count : ℕ) → HasBook j old.names count old.volume → HasBook j new.names count new.volume
   same_book j count has = record {
     has = subst (λ (calls : List Call). HasVolume calls (going_on j)) (sym same.calls) has.has;
@@ -45,7 +45,7 @@ module _ {P : Type 0} (old new : RunState P) (same : HasSameFiles old new) where
   }
 
   -- where nothing was put to the disk, the same stands there
-  pub same_done : (role : Role) (start : Start) (volumes : ℕ) → HasDone role start volumes old.names old.volume
+  pub same_done : (role : Role) (start : StartAction) (volumes : ℕ) → HasDone role start volumes old.names old.volume
       → HasDone role start volumes new.names new.volume
   same_done role First volumes has = (has.0, has.1, same_book has.0 1 has.2)
   same_done role (GoOn k) volumes has = λ j l is. same_book j volumes (has j l is)
@@ -53,8 +53,8 @@ module _ {P : Type 0} (old new : RunState P) (same : HasSameFiles old new) where
   same_done role (Next j) volumes has = same_next j volumes has
 
 -- what was done is what the step leads to
-pub started : (role : Role) (s : ServerSettings) (now : ℕ) (step : NextStep) (start : Start) (volumes : ℕ)
-    (names : List NameCall) (v : LiveState) → IsStart s now step start → HasDone role start volumes names v
+pub started : (role : Role) (s : ServerSettings) (now : ℕ) (step : ResumeStep) (start : StartAction) (volumes : ℕ)
+    (names : List NameCall) (v : WriterState) → IsStart s now step start → HasDone role start volumes names v
     → HasStarted role step volumes names v
 started role s now BeginFirst First volumes names v is has = has
 started role s now (GoOnWith j) (GoOn k) volumes names v is has = has j _ is.1.1
@@ -74,9 +74,9 @@ pub of_ok : {A B : Type 0} (P : A → Type 0) (x y : Result A B) (a : A) → y �
 of_ok P x y a same is has = subst (λ z. IfOk z P) (sym same ∙ is) has
 
 -- what was started is a server's, where what was read is what is left of its volumes
-pub starts_with : StartsKeep → (may_have : List (List ℕ) → Type 0) (role : Role) (found : FolderBook)
-    (names : List NameCall) (v : LiveState)
-    → ((contents : List (List ℕ)) → may_have contents → GoesOn role contents (Ok found))
+pub starts_with : StartsKeep → (may_have : List (List ℕ) → Type 0) (role : Role) (found : RecoveredFolder)
+    (names : List NameCall) (v : WriterState)
+    → ((contents : List (List ℕ)) → may_have contents → ResumesAsTold role contents (Ok found))
     → HasStarted role found.step found.volumes names v → StartsWith may_have role names v
 starts_with law may_have role found names v leads has = λ contents ended files last count may vs are leave.
     law role ended files last count found names v vs leave (leads contents may ended last count vs are) has

@@ -32,10 +32,10 @@ change_before p (l ∷ ls) = change_in p l.event (change_before p ls)
 -- ---- what the partner says
 
 -- it answers a change that was made in the volume, or a restart
-abbrev pub Answers : List Line → Body → Type 0
-Answers lines (Update u) = ⊥
-Answers lines (Reply r) = change_before r.prefix lines < r.of
-Answers lines (Contact ask answer) = restarts_before lines < answer
+abbrev pub AnswersVolume : List Line → Body → Type 0
+AnswersVolume lines (Update u) = ⊥
+AnswersVolume lines (Reply r) = change_before r.prefix lines < r.of
+AnswersVolume lines (Contact ask answer) = restarts_before lines < answer
 
 -- a line of the volume takes a message that answers it
 pub record HasReached (lines : List Line) : Type 0 where
@@ -43,4 +43,4 @@ pub record HasReached (lines : List Line) : Type 0 where
   pub within : Contains lines line
   pub message : PartnerMessage
   pub takes : line.event ≡ Take message
-  pub answers : Answers lines message.body
+  pub answers : AnswersVolume lines message.body

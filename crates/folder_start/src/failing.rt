@@ -10,13 +10,13 @@ use volume_store::{BeginVolumeError, FolderRecoveryError, PutError, ReopenError,
 
 /// Why a roll wasn't done.
 #[derive(Clone, Copy, Debug, PartialEq, Eq, Error)]
-pub enum NotRolled {
+pub enum RollFailure {
     /// The book doesn't take its close line.
     #[error("the journal takes no close line: {0}")]
     NotClosed(ServeError),
     /// The rules let no volume follow.
     #[error("no volume may follow")]
-    Barred,
+    Blocked,
     /// The volume wasn't ended.
     #[error("the volume isn't ended: {0}")]
     NotEnded(PutError),
@@ -28,16 +28,16 @@ pub enum NotRolled {
     Memory,
 }
 
-impl NotRolled {
+impl RollFailure {
     /// What it is, without the files that were made.
-    pub fn of<D: Drop>(fault: RollFault<D>) -> NotRolled {
+    pub fn of<D: Drop>(fault: RollFault<D>) -> RollFailure {
         match fault {
-            RollFault::NotClosed(refusal) => NotRolled::NotClosed(refusal),
-            RollFault::Barred => NotRolled::Barred,
-            RollFault::NotRolled(RollError::NotEnded(error)) => NotRolled::NotEnded(error),
+            RollFault::NotClosed(refusal) => RollFailure::NotClosed(refusal),
+            RollFault::Blocked => RollFailure::Blocked,
+            RollFault::NotRolled(RollError::NotEnded(error)) => RollFailure::NotEnded(error),
             RollFault::NotRolled(RollError::NotBegun(BeginVolumeError::Memory))
-            | RollFault::Memory => NotRolled::Memory,
-            RollFault::NotRolled(RollError::NotBegun(_)) => NotRolled::NotBegun,
+            | RollFault::Memory => RollFailure::Memory,
+            RollFault::NotRolled(RollError::NotBegun(_)) => RollFailure::NotBegun,
         }
     }
 }
@@ -71,7 +71,7 @@ pub enum StartFailure {
     NotBegun,
     /// The last volume isn't followed.
     #[error("the last volume isn't followed: {0}")]
-    NotRolled(NotRolled),
+    NotRolled(RollFailure),
     /// The book takes no line `restart`.
     #[error("the journal takes no line `restart`: {0}")]
     NotRestarted(ServeError),
@@ -90,7 +90,7 @@ impl StartFailure {
                 StartFailure::Memory
             }
             BeginFault::NotBegun(_) => StartFailure::NotBegun,
-            BeginFault::NotRolled(fault) => StartFailure::NotRolled(NotRolled::of(fault)),
+            BeginFault::NotRolled(fault) => StartFailure::NotRolled(RollFailure::of(fault)),
             BeginFault::NotRestarted(refusal) => StartFailure::NotRestarted(refusal),
         }
     }

@@ -16,5 +16,5 @@ mod older;
 mod reached;
 mod starting;
 
-pub use failing::{NotRolled, StartFailure};
-pub use starting::{Began, Pairing, Started, VolumeFiles, start, start_from};
+pub use failing::{RollFailure, StartFailure};
+pub use starting::{Pairing, StartMode, Started, VolumeFiles, start, start_from};

@@ -1,7 +1,7 @@
 //! What of the partner's shows that it has taken a message of a volume: then it has taken all of those before.
 
 ghost use Rattle.std.specs.Prelude.{◌≡◌, ◌↔◌, IsTrue};
-ghost use Rattle.folder_start.specs.Reached.{change_before, restarts_before, Answers, HasReached};
+ghost use Rattle.folder_start.specs.Reached.{change_before, restarts_before, AnswersVolume, HasReached};
 
 use binding_rules::{Body, Counter, PartnerMessage};
 use journal_lines::{Event, Line};
@@ -39,7 +39,7 @@ fn change_before(lines: &[Line], prefix: &Prefix) -> Counter
 /// Returns whether a message of the partner's answers what a volume of these lines told it: a change that the volume
 /// made, or a restart.
 fn answers(lines: &[Line], message: &PartnerMessage) -> bool
-    ensures { IsTrue result ↔ Answers lines.now message.now.body }
+    ensures { IsTrue result ↔ AnswersVolume lines.now message.now.body }
 {
     match &message.body {
         Body::Reply(reply) => reply.of > change_before(lines, &reply.prefix),

@@ -4,25 +4,25 @@ use Rattle.journal_lines.specs.declared.line.Line.{Line}
 use Rattle.volume_join.specs.Joined.{behind_head}
 use Rattle.journal_lines.specs.declared.line.Journal.{Journal}
 use Rattle.std.proofs.Common.{get_or, arith, sym, ◌∙◌, ap, subst, refl, inl, inr}
-use Rattle.journal_archive.specs.declared.outline.Filed.{Filed}
+use Rattle.journal_archive.specs.declared.outline.FiledVolume.{FiledVolume}
 use Rattle.open_volume.specs.declared.volume.VolumeSoFar.{VolumeSoFar}
 use Rattle.order_book.specs.Replayed.{IsLegal}
 use Rattle.archive_files.specs.Showing.{IsCopyOf}
 use Rattle.volume_join.specs.declared.error.JoinError.{JoinError}
-use Rattle.volume_join.specs.Joining.{Joining, one, with_next, GoesOn, HasRoom, IsRefused, IsRuleRefusal}
-use Rattle.join_desk.specs.declared.outcome.Outcome.{Outcome}
-use Rattle.join_desk.specs.declared.outcome.Outcome.TheVariants.{Joined, Refused}
-use Rattle.join_desk.specs.declared.outcome.Refusal.{Refusal}
+use Rattle.volume_join.specs.Joining.{Joining, one, with_next, IsContinuation, HasRoom, IsRefused, IsRuleRefusal}
+use Rattle.join_desk.specs.declared.outcome.JoinOutcome.{JoinOutcome}
+use Rattle.join_desk.specs.declared.outcome.JoinOutcome.TheVariants.{Joined, Refused}
+use Rattle.join_desk.specs.declared.outcome.JoinRefusal.{JoinRefusal}
 use Rattle.join_desk.proofs.Rows.{behind_first}
 use Rattle.join_desk.specs.Joined.{journal_of, IsRefusalAt, IsLeftOut, IsOutcomeFrom, IsOutcome}
 
-module _ (had : ℕ → List ℕ → Type 0) (j : Joining) (count before : ℕ) (f : Filed) (fs : List Filed) (v : VolumeSoFar)
+module _ (had : ℕ → List ℕ → Type 0) (j : Joining) (count before : ℕ) (f : FiledVolume) (fs : List FiledVolume) (v : VolumeSoFar)
     (copy : IsCopyOf (had f.file) f v) where
   pub left_out : IsLeftOut fs v → IsOutcomeFrom had j count before (f ∷ fs) (Joined (journal_of j) count)
   left_out h = (v, copy, inl (h, refl))
 
-  pub one_more : (outcome : Outcome) (k : Joining) → (IsLeftOut fs v → ⊥) → k ≡ with_next j v.journal
-      → GoesOn j.last v.journal → HasRoom j v.journal
+  pub one_more : (outcome : JoinOutcome) (k : Joining) → (IsLeftOut fs v → ⊥) → k ≡ with_next j v.journal
+      → IsContinuation j.last v.journal → HasRoom j v.journal
       → IsOutcomeFrom had k (count + 1) f.file fs outcome
       → IsOutcomeFrom had j count before (f ∷ fs) outcome
   one_more outcome k kept is goes room h = (
@@ -38,18 +38,18 @@ module _ (had : ℕ → List ℕ → Type 0) (j : Joining) (count before : ℕ) 
     )),
   )
 
-  pub one_refused : (outcome : Outcome) (e : JoinError) → (IsLeftOut fs v → ⊥) → IsRefused j v.journal e
-      → ((r : Refusal) × IsRefusalAt before f.file e r × (outcome ≡ Refused r))
+  pub one_refused : (outcome : JoinOutcome) (e : JoinError) → (IsLeftOut fs v → ⊥) → IsRefused j v.journal e
+      → ((r : JoinRefusal) × IsRefusalAt before f.file e r × (outcome ≡ Refused r))
       → IsOutcomeFrom had j count before (f ∷ fs) outcome
   one_refused outcome e kept refused h = (v, copy, inr (inr (kept, (e, h.0, refused, h.1, h.2))))
 
-  pub alone : (outcome : Outcome) (k : Joining) → k ≡ one v.journal → IsLegal v.journal
+  pub alone : (outcome : JoinOutcome) (k : Joining) → k ≡ one v.journal → IsLegal v.journal
       → IsOutcomeFrom had k 1 f.file fs outcome → IsOutcome had (f ∷ fs) outcome
   alone outcome k is legal h =
       (v, copy, inl (legal, subst (λ (x : Joining). IsOutcomeFrom had x 1 f.file fs outcome) is h))
 
-  pub alone_refused : (outcome : Outcome) (e : JoinError) → IsRuleRefusal v.journal e
-      → ((r : Refusal) × IsRefusalAt f.file f.file e r × (outcome ≡ Refused r))
+  pub alone_refused : (outcome : JoinOutcome) (e : JoinError) → IsRuleRefusal v.journal e
+      → ((r : JoinRefusal) × IsRefusalAt f.file f.file e r × (outcome ≡ Refused r))
       → IsOutcome had (f ∷ fs) outcome
   alone_refused outcome e refused h = (v, copy, inr (e, h.0, refused, h.1, h.2))
 
@@ -66,37 +66,37 @@ not_told ls false both = (λ h. nothing_behind (behind_head ls) (λ some. let t 
 -- ---- volumes that are put together one after the other
 
 -- what comes of the volumes that are left, behind what is joined, is what comes of all
-pub record IsOnward (had : ℕ → List ℕ → Type 0) (begun : Joining) (first : ℕ) (later : List Filed)
-    (j : Joining) (count before : ℕ) (rest : List Filed) : Type 0 where
-  pub each : (outcome : Outcome) → IsOutcomeFrom had j count before rest outcome
+pub record IsOnward (had : ℕ → List ℕ → Type 0) (begun : Joining) (first : ℕ) (later : List FiledVolume)
+    (j : Joining) (count before : ℕ) (rest : List FiledVolume) : Type 0 where
+  pub each : (outcome : JoinOutcome) → IsOutcomeFrom had j count before rest outcome
       → IsOutcomeFrom had begun 1 first later outcome
   pub counted : count + length rest ≡ 1 + length later
 
-pub go_begun : (had : ℕ → List ℕ → Type 0) (begun : Joining) (first : ℕ) (later : List Filed)
+pub go_begun : (had : ℕ → List ℕ → Type 0) (begun : Joining) (first : ℕ) (later : List FiledVolume)
     → IsOnward had begun first later begun 1 first later
 go_begun had begun first later = record { each = λ outcome h. h; counted = refl }
 
-module _ (had : ℕ → List ℕ → Type 0) (begun : Joining) (first : ℕ) (later : List Filed) (j : Joining)
+module _ (had : ℕ → List ℕ → Type 0) (begun : Joining) (first : ℕ) (later : List FiledVolume) (j : Joining)
     (count before : ℕ) where
-  pub go_more : (f : Filed) (fs : List Filed) (v : VolumeSoFar) (k : Joining)
+  pub go_more : (f : FiledVolume) (fs : List FiledVolume) (v : VolumeSoFar) (k : Joining)
       → IsOnward had begun first later j count before (f ∷ fs)
-      → IsCopyOf (had f.file) f v → (IsLeftOut fs v → ⊥) → k ≡ with_next j v.journal → GoesOn j.last v.journal
+      → IsCopyOf (had f.file) f v → (IsLeftOut fs v → ⊥) → k ≡ with_next j v.journal → IsContinuation j.last v.journal
       → HasRoom j v.journal → IsOnward had begun first later k (count + 1) f.file fs
   go_more f fs v k onward copy kept is goes room = record {
     each = λ outcome h. onward.each outcome (one_more had j count before f fs v copy outcome k kept is goes room h);
     counted = (let e = onward.counted in omega arith);
   }
 
-  pub end_left : (f : Filed) (fs : List Filed) (v : VolumeSoFar)
+  pub end_left : (f : FiledVolume) (fs : List FiledVolume) (v : VolumeSoFar)
       → IsOnward had begun first later j count before (f ∷ fs)
       → IsCopyOf (had f.file) f v → IsLeftOut fs v
       → IsOutcomeFrom had begun 1 first later (Joined (journal_of j) count)
   end_left f fs v onward copy out = onward.each _ (left_out had j count before f fs v copy out)
 
-  pub end_refused : (f : Filed) (fs : List Filed) (v : VolumeSoFar) (e : JoinError) (outcome : Outcome)
+  pub end_refused : (f : FiledVolume) (fs : List FiledVolume) (v : VolumeSoFar) (e : JoinError) (outcome : JoinOutcome)
       → IsOnward had begun first later j count before (f ∷ fs)
       → IsCopyOf (had f.file) f v → (IsLeftOut fs v → ⊥) → IsRefused j v.journal e
-      → ((r : Refusal) × IsRefusalAt before f.file e r × (outcome ≡ Refused r))
+      → ((r : JoinRefusal) × IsRefusalAt before f.file e r × (outcome ≡ Refused r))
       → IsOutcomeFrom had begun 1 first later outcome
   end_refused f fs v e outcome onward copy kept refused h =
       onward.each outcome (one_refused had j count before f fs v copy outcome e kept refused h)
@@ -105,10 +105,10 @@ module _ (had : ℕ → List ℕ → Type 0) (begun : Joining) (first : ℕ) (la
       → IsOutcomeFrom had begun 1 first later (Joined journal count)
   end_all journal onward is = onward.each (Joined journal count) (ap (λ (x : Journal). Joined x count) is)
 
-  pub go_step : (rest : List Filed) (f : Filed) (v : VolumeSoFar) (k : Joining) → 1 ≤ length rest
+  pub go_step : (rest : List FiledVolume) (f : FiledVolume) (v : VolumeSoFar) (k : Joining) → 1 ≤ length rest
       → f ≡ get_or rest 0 f → IsOnward had begun first later j count before rest
       → IsCopyOf (had f.file) f v → (IsLeftOut (take (length rest - 1) (drop 1 rest)) v → ⊥)
-      → k ≡ with_next j v.journal → GoesOn j.last v.journal → HasRoom j v.journal
+      → k ≡ with_next j v.journal → IsContinuation j.last v.journal → HasRoom j v.journal
       → IsOnward had begun first later k (count + 1) f.file (take (length rest - 1) (drop 1 rest))
   go_step rest f v k some first_is onward copy kept is goes room =
       go_more f (take (length rest - 1) (drop 1 rest)) v k

@@ -1,25 +1,25 @@
 -- What comes of the volumes of files that are put together in their order.
 use Rattle.std.specs.Prelude.{◌≡◌, ◌≢◌, ℕ, ◌⊎◌, ◌+◌, List, [], ◌∷◌, false}
 use Rattle.journal_lines.specs.declared.line.Journal.{Journal}
-use Rattle.journal_archive.specs.declared.outline.Filed.{Filed}
+use Rattle.journal_archive.specs.declared.outline.FiledVolume.{FiledVolume}
 use Rattle.open_volume.specs.declared.volume.VolumeSoFar.{VolumeSoFar}
 use Rattle.order_book.specs.Replayed.{state_of, IsLegal}
 use Rattle.archive_files.specs.Showing.{IsCopyOf}
 use Rattle.volume_join.specs.declared.error.JoinError.{JoinError}
 use Rattle.volume_join.specs.declared.error.JoinError.TheVariants.{OtherVolume, NotClosed, Rule, Head, TooLong, Memory}
 use Rattle.volume_join.specs.Joined.{behind_head}
-use Rattle.volume_join.specs.Joining.{Joining, one, with_next, GoesOn, HasRoom, IsRefused, IsRuleRefusal}
-use Rattle.join_desk.specs.declared.outcome.Outcome.{Outcome}
-use Rattle.join_desk.specs.declared.outcome.Outcome.TheVariants.{Joined, Refused}
-use Rattle.join_desk.specs.declared.outcome.Refusal.{Refusal}
-use Rattle.join_desk.specs.declared.outcome.Refusal.TheVariants.{NotClosed as NotClosedFile, Rule as RuleFile}
-use Rattle.join_desk.specs.declared.outcome.Refusal.TheVariants.{Head as HeadFile, TooLong as TooLongFile}
+use Rattle.volume_join.specs.Joining.{Joining, one, with_next, IsContinuation, HasRoom, IsRefused, IsRuleRefusal}
+use Rattle.join_desk.specs.declared.outcome.JoinOutcome.{JoinOutcome}
+use Rattle.join_desk.specs.declared.outcome.JoinOutcome.TheVariants.{Joined, Refused}
+use Rattle.join_desk.specs.declared.outcome.JoinRefusal.{JoinRefusal}
+use Rattle.join_desk.specs.declared.outcome.JoinRefusal.TheVariants.{NotClosed as NotClosedFile, Rule as RuleFile}
+use Rattle.join_desk.specs.declared.outcome.JoinRefusal.TheVariants.{Head as HeadFile, TooLong as TooLongFile}
 
 abbrev pub journal_of : Joining → Journal
 journal_of j = record { role = j.last.role; head = j.head; lines = j.lines }
 
 -- a refusal of the volume in a file, behind that in the file before it, or of one that stands alone
-abbrev pub IsRefusalAt : (before file : ℕ) → JoinError → Refusal → Type 0
+abbrev pub IsRefusalAt : (before file : ℕ) → JoinError → JoinRefusal → Type 0
 IsRefusalAt before file NotClosed r = r ≡ NotClosedFile before
 IsRefusalAt before file (Rule line rule) r = r ≡ RuleFile file line rule
 IsRefusalAt before file (Head line) r = r ≡ HeadFile file line
@@ -28,25 +28,25 @@ IsRefusalAt before file OtherVolume r = ⊥
 IsRefusalAt before file Memory r = ⊥
 
 -- the last volume is left out where nobody was told of it: no line stands behind its head lines
-abbrev pub IsLeftOut : List Filed → VolumeSoFar → Type 0
+abbrev pub IsLeftOut : List FiledVolume → VolumeSoFar → Type 0
 IsLeftOut later v = (later ≡ []) × (behind_head v.journal.lines ≡ [])
 
 -- What comes of volumes so far, so many, of which this file has the last, and of the further ones.
-abbrev pub IsOutcomeFrom : (had : ℕ → List ℕ → Type 0) → Joining → (count before : ℕ) → List Filed → Outcome → Type 0
+abbrev pub IsOutcomeFrom : (had : ℕ → List ℕ → Type 0) → Joining → (count before : ℕ) → List FiledVolume → JoinOutcome → Type 0
 IsOutcomeFrom had j count before [] outcome = outcome ≡ Joined (journal_of j) count
 IsOutcomeFrom had j count before (f ∷ fs) outcome =
     (v : VolumeSoFar) × IsCopyOf (had f.file) f v
     × ((IsLeftOut fs v × (outcome ≡ Joined (journal_of j) count))
-    ⊎ ((IsLeftOut fs v → ⊥) × (GoesOn j.last v.journal × HasRoom j v.journal
+    ⊎ ((IsLeftOut fs v → ⊥) × (IsContinuation j.last v.journal × HasRoom j v.journal
     × IsOutcomeFrom had (with_next j v.journal) (count + 1) f.file fs outcome))
-    ⊎ ((IsLeftOut fs v → ⊥) × ((e : JoinError) × (r : Refusal) × IsRefused j v.journal e × IsRefusalAt before f.file e r
+    ⊎ ((IsLeftOut fs v → ⊥) × ((e : JoinError) × (r : JoinRefusal) × IsRefused j v.journal e × IsRefusalAt before f.file e r
     × (outcome ≡ Refused r))))
 
 -- what comes of all of them
-abbrev pub IsOutcome : (had : ℕ → List ℕ → Type 0) → List Filed → Outcome → Type 0
+abbrev pub IsOutcome : (had : ℕ → List ℕ → Type 0) → List FiledVolume → JoinOutcome → Type 0
 IsOutcome had [] outcome = ⊥
 IsOutcome had (f ∷ fs) outcome =
     (v : VolumeSoFar) × IsCopyOf (had f.file) f v
     × ((IsLegal v.journal × IsOutcomeFrom had (one v.journal) 1 f.file fs outcome)
-    ⊎ ((e : JoinError) × (r : Refusal) × IsRuleRefusal v.journal e × IsRefusalAt f.file f.file e r
+    ⊎ ((e : JoinError) × (r : JoinRefusal) × IsRuleRefusal v.journal e × IsRefusalAt f.file f.file e r
     × (outcome ≡ Refused r)))

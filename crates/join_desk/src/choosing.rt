@@ -1,25 +1,25 @@
 //! Which volumes of a side are put together.
 
 ghost use Rattle.std.specs.Prelude.{◌≡◌, ◌≢◌, ◌≤◌, ◌^◌, [], IfOk, IfSome, None};
-ghost use Rattle.journal_archive.specs.declared.outline.Filed.{Filed as FiledValue};
+ghost use Rattle.journal_archive.specs.declared.outline.FiledVolume.{FiledVolume as FiledValue};
 ghost use Rattle.archive_files.specs.Catalogues.{IsIn};
 ghost use Rattle.join_desk.specs.Choosing.{least, greatest, first_asked, last_asked, HasNumber, IsChoice, IsRowOf};
 
-use journal_archive::Filed;
+use journal_archive::FiledVolume;
 use std::alloc::{AllocError, Global};
 
 /// Which volumes are put together.
 #[derive(Debug, Drop)]
-pub enum Choice {
+pub enum VolumeChoice {
     /// These, in the order of their numbers.
-    Chosen(Vec<Filed>),
+    Chosen(Vec<FiledVolume>),
     /// The side has none.
     NoVolume,
     /// No file has the volume of this number.
     Missing(u32),
 }
 
-fn least(volumes: &[Filed]) -> u32
+fn least(volumes: &[FiledVolume]) -> u32
     ensures { result ≡ least volumes.now }
 {
     match volumes.first() {
@@ -28,7 +28,7 @@ fn least(volumes: &[Filed]) -> u32
     }
 }
 
-fn greatest(volumes: &[Filed]) -> u32
+fn greatest(volumes: &[FiledVolume]) -> u32
     ensures { result ≡ greatest volumes.now }
 {
     match volumes.last() {
@@ -38,7 +38,7 @@ fn greatest(volumes: &[Filed]) -> u32
 }
 
 /// The number of the first volume that is asked for.
-fn first_asked(volumes: &[Filed], from: Option<u32>, to: Option<u32>) -> u32
+fn first_asked(volumes: &[FiledVolume], from: Option<u32>, to: Option<u32>) -> u32
     ensures { result ≡ first_asked volumes.now from to }
 {
     match (from, to) {
@@ -49,7 +49,7 @@ fn first_asked(volumes: &[Filed], from: Option<u32>, to: Option<u32>) -> u32
 }
 
 /// The number of the last.
-fn last_asked(volumes: &[Filed], from: Option<u32>, to: Option<u32>) -> u32
+fn last_asked(volumes: &[FiledVolume], from: Option<u32>, to: Option<u32>) -> u32
     ensures { result ≡ last_asked volumes.now from to }
 {
     match (from, to) {
@@ -61,7 +61,7 @@ fn last_asked(volumes: &[Filed], from: Option<u32>, to: Option<u32>) -> u32
 
 /// The volume of this number.
 #[tactic(auto, using(crate::proofs::Rows::rest_more, crate::proofs::Rows::rest_all, crate::proofs::Rows::rest_found, crate::proofs::Rows::rest_none))]
-fn volume_at(volumes: &[Filed], number: u32) -> Option<Filed>
+fn volume_at(volumes: &[FiledVolume], number: u32) -> Option<FiledVolume>
     ensures found { IfSome result (λ v. IsIn volumes.now v × (v.outline.number ≡ number)) }
     ensures none { result ≡ None → HasNumber volumes.now number → ⊥ }
 {
@@ -77,7 +77,12 @@ fn volume_at(volumes: &[Filed], number: u32) -> Option<Filed>
 
 /// The volumes from this number to that one, or the first that is missing.
 #[tactic(auto, using(crate::proofs::Rows::row_more, crate::proofs::Rows::missing))]
-fn row_of(alloc: Global, volumes: &[Filed], from: u32, to: u32) -> Result<Choice, AllocError>
+fn row_of(
+    alloc: Global,
+    volumes: &[FiledVolume],
+    from: u32,
+    to: u32,
+) -> Result<VolumeChoice, AllocError>
     ensures { IfOk result (IsRowOf volumes.now from to) }
 {
     let mut chosen = Vec::new(alloc);
@@ -85,29 +90,29 @@ fn row_of(alloc: Global, volumes: &[Filed], from: u32, to: u32) -> Result<Choice
     while number <= to {
         let volume = match volume_at(volumes, number) {
             Some(volume) => volume,
-            None => return Ok(Choice::Missing(number)),
+            None => return Ok(VolumeChoice::Missing(number)),
         };
         chosen.extend_from_slice(&[volume])?;
         let Some(next) = number.checked_add(1) else {
-            return Ok(Choice::Chosen(chosen));
+            return Ok(VolumeChoice::Chosen(chosen));
         };
         number = next;
     }
-    Ok(Choice::Chosen(chosen))
+    Ok(VolumeChoice::Chosen(chosen))
 }
 
 /// The volumes of a side that are put together: those from `from` to `to`, where `from` and `to` that aren't named are
 /// the first and the last that there are.
 pub(crate) fn choice_of(
     alloc: Global,
-    volumes: &[Filed],
+    volumes: &[FiledVolume],
     from: Option<u32>,
     to: Option<u32>,
-) -> Result<Choice, AllocError>
+) -> Result<VolumeChoice, AllocError>
     ensures { IfOk result (IsChoice volumes.now from to) }
 {
     if volumes.is_empty() {
-        return Ok(Choice::NoVolume);
+        return Ok(VolumeChoice::NoVolume);
     }
     let first = first_asked(volumes, from, to);
     let last = last_asked(volumes, from, to);

@@ -3,19 +3,19 @@
 ghost use Rattle.std.specs.Prelude.{◌≡◌, IfOk};
 ghost use Rattle.join_desk.specs.Telling.{shelf_of, IsChosenTold, IsChoiceTold, IsJoinTold};
 
-use crate::choosing::{Choice, choice_of};
+use crate::choosing::{VolumeChoice, choice_of};
 use crate::putting::outcome_of;
 use crate::telling::{missing_told, no_volume_told, outcome_told};
-use archive_desk::{Told, expect_read, passed_over};
-use archive_files::{Agreement, FilesError, JournalFiles, catalogue_of};
+use archive_desk::{CommandOutput, expect_read, passed_over};
+use archive_files::{FilesError, JournalFiles, SettingsScope, catalogue_of};
 use binding_rules::Role;
-use desk_words::JoinQuery;
-use journal_archive::{Archive, Filed};
+use desk_args::JoinQuery;
+use journal_archive::{Archive, FiledVolume};
 use std::alloc::Global;
 use std::path::PathBuf;
 
 /// The volumes of a side.
-fn shelf_of(side: Role, archive: &Archive) -> &[Filed]
+fn shelf_of(side: Role, archive: &Archive) -> &[FiledVolume]
     ensures { result.now ≡ shelf_of side archive.now }
 {
     match side {
@@ -31,8 +31,8 @@ fn chosen_told<F: JournalFiles>(
     names: &[PathBuf],
     passed: Vec<u8>,
     side: Role,
-    chosen: &[Filed],
-) -> Result<Told, FilesError>
+    chosen: &[FiledVolume],
+) -> Result<CommandOutput, FilesError>
     ensures { IfOk result (IsChosenTold (F.had files.now) names.now passed.items side chosen.now) }
 {
     match chosen {
@@ -52,14 +52,14 @@ fn choice_told<F: JournalFiles>(
     names: &[PathBuf],
     passed: Vec<u8>,
     side: Role,
-    choice: &Choice,
-) -> Result<Told, FilesError>
+    choice: &VolumeChoice,
+) -> Result<CommandOutput, FilesError>
     ensures { IfOk result (IsChoiceTold (F.had files.now) names.now passed.items side choice.now) }
 {
     match choice {
-        Choice::Chosen(chosen) => chosen_told(alloc, files, names, passed, side, chosen),
-        Choice::NoVolume => Ok(no_volume_told(alloc, passed, side)?),
-        Choice::Missing(number) => Ok(missing_told(alloc, passed, side, *number)?),
+        VolumeChoice::Chosen(chosen) => chosen_told(alloc, files, names, passed, side, chosen),
+        VolumeChoice::NoVolume => Ok(no_volume_told(alloc, passed, side)?),
+        VolumeChoice::Missing(number) => Ok(missing_told(alloc, passed, side, *number)?),
     }
 }
 
@@ -75,10 +75,10 @@ pub fn join_files<F: JournalFiles>(
     files: &F,
     names: &[PathBuf],
     query: &JoinQuery,
-) -> Result<Told, FilesError>
+) -> Result<CommandOutput, FilesError>
     ensures { IfOk result (IsJoinTold (F.had files.now) (F.files files.now) names.now query.now) }
 {
-    let catalogue = catalogue_of(alloc, files, Agreement::OfEach)?;
+    let catalogue = catalogue_of(alloc, files, SettingsScope::OfEach)?;
     expect_read(names, &catalogue.passed_over)?;
     let passed = passed_over(alloc, names, &catalogue.passed_over)?;
     let volumes = shelf_of(query.side, &catalogue.archive);

@@ -17,6 +17,6 @@ mod putting;
 mod telling;
 mod text;
 
-pub use choosing::Choice;
+pub use choosing::VolumeChoice;
 pub use joining::join_files;
-pub use outcome::{Outcome, Refusal};
+pub use outcome::{JoinOutcome, JoinRefusal};

@@ -4,24 +4,24 @@ ghost use Rattle.std.specs.Prelude.{◌≡◌, ◌∷◌, ◌↔◌, [], IsTrue,
 ghost use Rattle.volume_join.specs.Joined.{behind_head};
 ghost use Rattle.join_desk.specs.Joined.{IsLeftOut, IsOutcomeFrom, IsOutcome};
 
-use crate::outcome::{Outcome, refused};
+use crate::outcome::{JoinOutcome, refused};
 use archive_files::{FilesError, JournalFiles, read_again};
-use journal_archive::Filed;
+use journal_archive::FiledVolume;
 use journal_lines::Line;
 use open_volume::VolumeSoFar;
 use std::alloc::Global;
-use volume_join::{JoinedVolumes, is_told};
+use volume_join::{JoinedVolumes, is_published};
 
 /// Returns whether no line stands behind the head lines of a volume.
 #[tactic(auto, using(crate::proofs::Outcomes::not_told))]
 fn has_nothing_behind(lines: &[Line]) -> bool
     ensures { IsTrue result ↔ (behind_head lines.now ≡ []) }
 {
-    !is_told(lines)
+    !is_published(lines)
 }
 
 /// Returns whether nobody was told of the last volume: no line stands behind its head lines.
-fn is_left_out(later: &[Filed], volume: &VolumeSoFar) -> bool
+fn is_left_out(later: &[FiledVolume], volume: &VolumeSoFar) -> bool
     ensures { IsTrue result ↔ IsLeftOut later.now volume.now }
 {
     later.is_empty() && has_nothing_behind(volume.journal.lines.as_slice())
@@ -34,8 +34,8 @@ fn outcome_from<F: JournalFiles>(
     files: &F,
     begun: JoinedVolumes,
     first: usize,
-    later: &[Filed],
-) -> Result<Outcome, FilesError>
+    later: &[FiledVolume],
+) -> Result<JoinOutcome, FilesError>
     ensures { IfOk result (IsOutcomeFrom (F.had files.now) begun 1 first later.now) }
 {
     let mut joined = begun;
@@ -45,7 +45,7 @@ fn outcome_from<F: JournalFiles>(
     while let [filed, behind @ ..] = rest {
         let volume = read_again(alloc, files, filed)?;
         if is_left_out(behind, &volume) {
-            return Ok(Outcome::Joined(joined.into_journal(), count));
+            return Ok(JoinOutcome::Joined(joined.into_journal(), count));
         }
         joined = match joined.followed_by(alloc, &volume.journal) {
             Ok(joined) => joined,
@@ -55,7 +55,7 @@ fn outcome_from<F: JournalFiles>(
         before = filed.file;
         rest = behind;
     }
-    Ok(Outcome::Joined(joined.into_journal(), count))
+    Ok(JoinOutcome::Joined(joined.into_journal(), count))
 }
 
 /// What comes of the volumes of these files, in their order. `Changed` or `Faulty` where a file isn't what the archive
@@ -64,9 +64,9 @@ fn outcome_from<F: JournalFiles>(
 pub(crate) fn outcome_of<F: JournalFiles>(
     alloc: Global,
     files: &F,
-    first: &Filed,
-    later: &[Filed],
-) -> Result<Outcome, FilesError>
+    first: &FiledVolume,
+    later: &[FiledVolume],
+) -> Result<JoinOutcome, FilesError>
     ensures { IfOk result (IsOutcome (F.had files.now) (first.now ∷ later.now)) }
 {
     let volume = read_again(alloc, files, first)?;

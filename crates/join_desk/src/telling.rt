@@ -7,11 +7,11 @@ ghost use Rattle.join_desk.specs.Telling.{no_volume_line};
 ghost use Rattle.join_desk.specs.Telling.{missing_line, number_word};
 ghost use Rattle.join_desk.specs.Telling.{refusal_words, refusal_line, IsNoneTold, IsLackTold, IsOutcomeTold};
 
-use crate::outcome::{Outcome, Refusal};
+use crate::outcome::{JoinOutcome, JoinRefusal};
 use crate::text::text_of;
-use archive_desk::{Told, name_of};
+use archive_desk::{CommandOutput, name_of};
 use binding_rules::Role;
-use journal_archive::Filed;
+use journal_archive::FiledVolume;
 use std::alloc::{AllocError, Global};
 use std::path::PathBuf;
 use text_fields::push_number;
@@ -34,7 +34,7 @@ fn push_word(out: &mut Vec<u8>, number: u64) -> Result<(), AllocError>
 }
 
 /// Appends the names of the volumes' files, each behind a blank.
-fn push_files(out: &mut Vec<u8>, names: &[PathBuf], taken: &[Filed]) -> Result<(), AllocError>
+fn push_files(out: &mut Vec<u8>, names: &[PathBuf], taken: &[FiledVolume]) -> Result<(), AllocError>
     ensures { OnOk result (out.new.items ≡ out.old.items ++ file_words names.now taken.now) }
 {
     for volume in taken {
@@ -44,7 +44,7 @@ fn push_files(out: &mut Vec<u8>, names: &[PathBuf], taken: &[Filed]) -> Result<(
 }
 
 /// Appends the line that says of which files the journal is.
-fn push_taken(out: &mut Vec<u8>, names: &[PathBuf], taken: &[Filed]) -> Result<(), AllocError>
+fn push_taken(out: &mut Vec<u8>, names: &[PathBuf], taken: &[FiledVolume]) -> Result<(), AllocError>
     ensures { OnOk result (out.new.items ≡ out.old.items ++ taken_line names.now taken.now) }
 {
     out.extend_from_slice(b"journals")?;
@@ -97,26 +97,30 @@ fn push_missing(out: &mut Vec<u8>, side: Role, number: u32) -> Result<(), AllocE
 }
 
 /// Appends why the volumes of files aren't one journal.
-fn push_refusal(out: &mut Vec<u8>, names: &[PathBuf], refusal: &Refusal) -> Result<(), AllocError>
+fn push_refusal(
+    out: &mut Vec<u8>,
+    names: &[PathBuf],
+    refusal: &JoinRefusal,
+) -> Result<(), AllocError>
     ensures { OnOk result (out.new.items ≡ out.old.items ++ refusal_words names.now refusal.now) }
 {
     match refusal {
-        Refusal::NotClosed { file } => {
+        JoinRefusal::NotClosed { file } => {
             out.extend_from_slice(b"refused V5 NotClosed")?;
             push_file(out, names, *file)
         }
-        Refusal::Rule { file, line, rule } => {
+        JoinRefusal::Rule { file, line, rule } => {
             out.extend_from_slice(b"refused V6 Rule")?;
             push_file(out, names, *file)?;
             push_word(out, u64::from(*line))?;
             push_word(out, u64::from(rule.number()))
         }
-        Refusal::Head { file, line } => {
+        JoinRefusal::Head { file, line } => {
             out.extend_from_slice(b"refused V7 Head")?;
             push_file(out, names, *file)?;
             push_word(out, *line as u64)
         }
-        Refusal::TooLong { file } => {
+        JoinRefusal::TooLong { file } => {
             out.extend_from_slice(b"refused V8 TooLong")?;
             push_file(out, names, *file)
         }
@@ -124,12 +128,12 @@ fn push_refusal(out: &mut Vec<u8>, names: &[PathBuf], refusal: &Refusal) -> Resu
 }
 
 /// What is told where nothing can be given, with these notes.
-fn none_told(alloc: Global, notes: Vec<u8>) -> Result<Told, AllocError>
+fn none_told(alloc: Global, notes: Vec<u8>) -> Result<CommandOutput, AllocError>
     ensures { IfOk result (IsNoneTold notes.items) }
 {
     let mut text = Vec::new(alloc);
     text.extend_from_slice(b"none\n")?;
-    Ok(Told {
+    Ok(CommandOutput {
         text,
         status: 1,
         notes,
@@ -137,7 +141,11 @@ fn none_told(alloc: Global, notes: Vec<u8>) -> Result<Told, AllocError>
 }
 
 /// What is told where the side has no volume.
-pub(crate) fn no_volume_told(alloc: Global, passed: Vec<u8>, side: Role) -> Result<Told, AllocError>
+pub(crate) fn no_volume_told(
+    alloc: Global,
+    passed: Vec<u8>,
+    side: Role,
+) -> Result<CommandOutput, AllocError>
     ensures { IfOk result (IsLackTold passed.items (no_volume_line side)) }
 {
     let mut notes = passed;
@@ -151,7 +159,7 @@ pub(crate) fn missing_told(
     passed: Vec<u8>,
     side: Role,
     number: u32,
-) -> Result<Told, AllocError>
+) -> Result<CommandOutput, AllocError>
     ensures { IfOk result (IsLackTold passed.items (missing_line side number)) }
 {
     let mut notes = passed;
@@ -160,13 +168,17 @@ pub(crate) fn missing_told(
 }
 
 /// What is told where volumes aren't one journal: standard output says why, and nothing else is said.
-fn refusal_told(alloc: Global, names: &[PathBuf], refusal: &Refusal) -> Result<Told, AllocError>
+fn refusal_told(
+    alloc: Global,
+    names: &[PathBuf],
+    refusal: &JoinRefusal,
+) -> Result<CommandOutput, AllocError>
     ensures { IfOk result (IsRefusal (refusal_line names.now refusal.now)) }
 {
     let mut text = Vec::new(alloc);
     push_refusal(&mut text, names, refusal)?;
     text.push(b'\n')?;
-    Ok(Told {
+    Ok(CommandOutput {
         text,
         status: 1,
         notes: Vec::new(alloc),
@@ -175,7 +187,7 @@ fn refusal_told(alloc: Global, names: &[PathBuf], refusal: &Refusal) -> Result<T
 
 /// The first so many volumes, or all where there are fewer.
 #[tactic(auto, using(crate::proofs::Rows::take_whole))]
-fn first_of(chosen: &[Filed], count: usize) -> &[Filed]
+fn first_of(chosen: &[FiledVolume], count: usize) -> &[FiledVolume]
     ensures { result.now ≡ take count chosen.now }
 {
     if count < chosen.len() {
@@ -190,22 +202,22 @@ pub(crate) fn outcome_told(
     alloc: Global,
     names: &[PathBuf],
     passed: Vec<u8>,
-    chosen: &[Filed],
-    outcome: &Outcome,
-) -> Result<Told, AllocError>
+    chosen: &[FiledVolume],
+    outcome: &JoinOutcome,
+) -> Result<CommandOutput, AllocError>
     ensures { IfOk result (IsOutcomeTold names.now passed.items chosen.now outcome.now) }
 {
     match outcome {
-        Outcome::Joined(journal, count) => {
+        JoinOutcome::Joined(journal, count) => {
             let text = text_of(alloc, journal)?;
             let mut notes = passed;
             push_taken(&mut notes, names, first_of(chosen, *count))?;
-            Ok(Told {
+            Ok(CommandOutput {
                 text,
                 status: 0,
                 notes,
             })
         }
-        Outcome::Refused(refusal) => refusal_told(alloc, names, refusal),
+        JoinOutcome::Refused(refusal) => refusal_told(alloc, names, refusal),
     }
 }

@@ -1,7 +1,7 @@
 //! Asking a server, by its control socket.
 
 use crate::synced::{Synced, synced_in};
-use server_status::{Answer, Form, Request, Verdict};
+use server_status::{ControlReply, ControlRequest, ControlVerdict, StatusFormat};
 use std::alloc::Global;
 use std::io::{Read, Write};
 use std::net::Net;
@@ -20,7 +20,7 @@ fn answer_of(
     net: &impl Net,
     alloc: Global,
     control: Path<'_>,
-    request: &Request,
+    request: &ControlRequest,
 ) -> Option<Vec<u8>> {
     let mut stream = UnixStream::connect(net, control.as_str()).ok()?;
     let longest = Some(Duration::from_secs(LONGEST_WAIT));
@@ -34,20 +34,25 @@ fn answer_of(
 
 /// What the server of a control socket says of its disk; `None` where no server answers there, or says nothing of it.
 pub fn ask(net: &impl Net, alloc: Global, control: Path<'_>) -> Option<Synced> {
-    let octets = answer_of(net, alloc, control, &Request::Status(Form::Json))?;
+    let octets = answer_of(
+        net,
+        alloc,
+        control,
+        &ControlRequest::Status(StatusFormat::Json),
+    )?;
     let Ok(words) = str::from_utf8(&octets) else {
         return None;
     };
-    match Answer::read(words) {
+    match ControlReply::read(words) {
         Some(
-            Answer {
-                verdict: Verdict::Done,
+            ControlReply {
+                verdict: ControlVerdict::Done,
                 text,
             },
         ) => synced_in(alloc, text),
         Some(
-            Answer {
-                verdict: Verdict::Refused(_),
+            ControlReply {
+                verdict: ControlVerdict::Refused(_),
                 ..
             },
         )

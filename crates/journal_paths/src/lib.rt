@@ -7,7 +7,7 @@
 //!
 //! ```text
 //! let files = JournalPaths::at(&rt, &rt, &words)?;
-//! let catalogue = catalogue_of(rt.alloc(), &files, Agreement::OfBoth)?;
+//! let catalogue = catalogue_of(rt.alloc(), &files, SettingsScope::OfBoth)?;
 //! ```
 //!
 //! How much of a volume its server has on the disk, as the server says.
@@ -29,7 +29,7 @@ mod synced_lines;
 
 ghost use Rattle.std.specs.Prelude.{◌≤◌, ⊤, length, IfOk};
 
-use access_records::{AccessBeside, AccessError, AccessText};
+use access_records::{AccessError, AccessText, AccessTexts};
 use archive_files::{FileEnd, JournalFiles, Unreadable};
 pub use asking::ask;
 use std::alloc::{AllocError, Global};
@@ -276,7 +276,7 @@ impl JournalFiles for JournalPaths<'_> {
     }
 }
 
-impl AccessBeside for JournalPaths<'_> {
+impl AccessTexts for JournalPaths<'_> {
     ghost says = { λ s file text. ⊤ };
 
     fn beside(&self, alloc: Global, file: usize) -> Result<Option<AccessText>, AllocError> {

@@ -3,8 +3,8 @@ use Rattle.std.proofs.Common.{◌≡◌, ◌∙◌, ℕ, ◌+◌, List, [], ◌�
 use Rattle.std.proofs.lemmas.List.{length-append, take_at, drop_at}
 use Rattle.link_auth.specs.declared.derived.Purpose.{Purpose}
 use Rattle.link_auth.specs.declared.derived.Purpose.TheVariants.{Proof, Records}
-use Rattle.link_auth.specs.declared.side.Side.{Side}
-use Rattle.link_auth.specs.declared.side.Side.TheVariants.{Caller, Called}
+use Rattle.link_auth.specs.declared.handshake_role.HandshakeRole.{HandshakeRole}
+use Rattle.link_auth.specs.declared.handshake_role.HandshakeRole.TheVariants.{Initiator, Responder}
 use Rattle.link_auth.specs.Handshake.{own_for, other_for, other_side, message_of, label_of, side_octet}
 
 -- lists whose fronts have one length are the same only where both parts are
@@ -15,13 +15,13 @@ parts_same n front other back behind a b e = (
   sym (drop_at front back n a) ∙ ap (λ (w : List ℕ). drop n w) e ∙ drop_at other behind n b,
 )
 
-sides_same : (s t : Side) → side_octet s ≡ side_octet t → s ≡ t
-sides_same Caller Caller e = refl
-sides_same Caller Called e = absurd (omega arith)
-sides_same Called Caller e = absurd (omega arith)
-sides_same Called Called e = refl
+sides_same : (s t : HandshakeRole) → side_octet s ≡ side_octet t → s ≡ t
+sides_same Initiator Initiator e = refl
+sides_same Initiator Responder e = absurd (omega arith)
+sides_same Responder Initiator e = absurd (omega arith)
+sides_same Responder Responder e = refl
 
-one_purpose : (label own other mine theirs : List ℕ) (n : ℕ) (s t : Side) → length label ≡ n → length own ≡ 32
+one_purpose : (label own other mine theirs : List ℕ) (n : ℕ) (s t : HandshakeRole) → length label ≡ n → length own ≡ 32
     → length mine ≡ 32
     → ((label ++ side_octet s ∷ []) ++ own) ++ other ≡ ((label ++ side_octet t ∷ []) ++ mine) ++ theirs
     → (s ≡ t) × (own ≡ mine) × (other ≡ theirs)
@@ -35,7 +35,7 @@ one_purpose label own other mine theirs n s t long a b e =
     let side = parts_same n label label (side_octet s ∷ []) (side_octet t ∷ []) long long head.0 in
     (sides_same s t (ap (λ (w : List ℕ). get_or w 0 0) side.1), head.1, whole.1)
 
-message_length : (p : Purpose) (s : Side) (own other : List ℕ) → length own ≡ 32 → length other ≡ 32
+message_length : (p : Purpose) (s : HandshakeRole) (own other : List ℕ) → length own ≡ 32 → length other ≡ 32
     → length (message_of p s own other) ≡ length (label_of p) + 65
 message_length p s own other a b = omega (
   arith,
@@ -44,7 +44,7 @@ message_length p s own other a b = omega (
   length-append (label_of p) (side_octet s ∷ []),
 )
 
-two_purposes : (p q : Purpose) (s t : Side) (own other mine theirs : List ℕ) → length own ≡ 32
+two_purposes : (p q : Purpose) (s t : HandshakeRole) (own other mine theirs : List ℕ) → length own ≡ 32
     → length other ≡ 32 → length mine ≡ 32 → length theirs ≡ 32
     → message_of p s own other ≡ message_of q t mine theirs → length (label_of p) ≡ length (label_of q)
 two_purposes p q s t own other mine theirs a b c d e = omega (
@@ -54,7 +54,7 @@ two_purposes p q s t own other mine theirs a b c d e = omega (
   message_length q t mine theirs c d,
 )
 
-pub messages_apart : (p q : Purpose) (s t : Side) (own other mine theirs : List ℕ) → length own ≡ 32
+pub messages_apart : (p q : Purpose) (s t : HandshakeRole) (own other mine theirs : List ℕ) → length own ≡ 32
     → length other ≡ 32 → length mine ≡ 32 → length theirs ≡ 32
     → message_of p s own other ≡ message_of q t mine theirs
     → (p ≡ q) × (s ≡ t) × (own ≡ mine) × (other ≡ theirs)
@@ -69,7 +69,7 @@ messages_apart Proof Records s t own other mine theirs a b c d e =
 messages_apart Records Proof s t own other mine theirs a b c d e =
     let lengths = two_purposes Records Proof s t own other mine theirs a b c d e in absurd (omega arith)
 
-pub ends_are_one : (key own other : List ℕ) (side : Side) (purpose : Purpose)
+pub ends_are_one : (key own other : List ℕ) (side : HandshakeRole) (purpose : Purpose)
     → other_for (record { party = record { key = key; side = side; nonce = own }; other = other }) purpose
     ≡ own_for (record { party = record { key = key; side = other_side side; nonce = other }; other = own }) purpose
 ends_are_one key own other side purpose = refl

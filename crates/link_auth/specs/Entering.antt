@@ -7,23 +7,23 @@ use Rattle.failover_message.specs.declared.error.LinkError.{LinkError}
 use Rattle.failover_message.specs.declared.frame.Frame.{Frame}
 use Rattle.failover_message.specs.declared.frame.FrameKind.{FrameKind}
 use Rattle.failover_message.specs.declared.frame.FrameKind.TheVariants.{Connect}
-use Rattle.link_auth.specs.declared.side.Side.{Side}
-use Rattle.link_auth.specs.declared.side.Side.TheVariants.{Caller, Called}
+use Rattle.link_auth.specs.declared.handshake_role.HandshakeRole.{HandshakeRole}
+use Rattle.link_auth.specs.declared.handshake_role.HandshakeRole.TheVariants.{Initiator, Responder}
 use Rattle.link_auth.specs.Handshake.{Opened}
-use Rattle.link_auth.specs.Opening.{Hears as OpeningHears}
-use Rattle.link_auth.specs.declared.handshake.Joined.{Joined as JoinedValue}
-use Rattle.link_auth.specs.declared.opening.Heard.TheVariants.{More, Joined}
+use Rattle.link_auth.specs.KeyHandshakes.{Hears as OpeningHears}
+use Rattle.link_auth.specs.declared.handshake.RecordChannel.{RecordChannel as JoinedValue}
+use Rattle.link_auth.specs.declared.key_handshake.HandshakeProgress.TheVariants.{More, Joined}
 use Rattle.link_auth.specs.declared.fault.LinkFault.{LinkFault}
 use Rattle.link_auth.specs.declared.fault.LinkFault.TheVariants.{Forged as ForgedProof, Memory as NoMemory}
 use Rattle.link_auth.specs.Passing.{Takes}
-use Rattle.link_auth.specs.declared.passage.Passage.TheVariants.{Open, Records}
+use Rattle.link_auth.specs.declared.secure_channel.SecureChannel.TheVariants.{Plain, Authenticated}
 use Rattle.link_auth.specs.declared.entry_fault.EntryFault.{EntryFault}
 use Rattle.link_auth.specs.declared.entry_fault.EntryFault.TheVariants.{Forged, Stranger, Memory}
-use Rattle.link_auth.specs.declared.waiting.Entrant.{Entrant}
-use Rattle.link_auth.specs.declared.waiting.Waiting.{Waiting}
-use Rattle.link_auth.specs.declared.waiting.Waiting.TheVariants.{Proof, Greeting, Callee}
-use Rattle.link_auth.specs.declared.waiting.Verdict.{Verdict}
-use Rattle.link_auth.specs.declared.waiting.Verdict.TheVariants.{Waits, Enters}
+use Rattle.link_auth.specs.declared.peer_entry.AuthenticatedPeer.{AuthenticatedPeer}
+use Rattle.link_auth.specs.declared.peer_entry.PeerEntry.{PeerEntry}
+use Rattle.link_auth.specs.declared.peer_entry.PeerEntry.TheVariants.{Proof, Greeting, Callee}
+use Rattle.link_auth.specs.declared.peer_entry.EntryProgress.{EntryProgress}
+use Rattle.link_auth.specs.declared.peer_entry.EntryProgress.TheVariants.{Waits, Admitted}
 
 -- the primary's first frame
 abbrev pub IsConnect : FrameKind → Type 0
@@ -33,15 +33,15 @@ IsConnect _ = ⊥
 -- ---- beginnings
 
 -- a connection begins, by the side and the key of an end and the nonce that was drawn for it
-abbrev pub Begins : Side → Option (List ℕ) → (nonce : List ℕ) → Waiting → Type 0
+abbrev pub Begins : HandshakeRole → Option (List ℕ) → (nonce : List ℕ) → PeerEntry → Type 0
 Begins side (Some key) nonce waiting =
     waiting ≡ Proof (record { party = record { key = key; side = side; nonce = nonce }; heard = [] })
-Begins Caller None nonce waiting = waiting ≡ Callee
-Begins Called None nonce (Greeting heard) = heard.items ≡ []
-Begins Called None nonce _ = ⊥
+Begins Initiator None nonce waiting = waiting ≡ Callee
+Begins Responder None nonce (Greeting heard) = heard.items ≡ []
+Begins Responder None nonce _ = ⊥
 
 -- what is sent first
-abbrev pub greeting_of : Waiting → Option (List ℕ)
+abbrev pub greeting_of : PeerEntry → Option (List ℕ)
 greeting_of (Proof o) = Some o.party.nonce
 greeting_of (Greeting heard) = None
 greeting_of Callee = None
@@ -53,11 +53,11 @@ fault_of NoMemory = Memory
 fault_of _ = Forged
 
 -- The other end has the key, and what its records behind the proof say has come already.
-pub record IsProved (o : Opened) (chunk : List ℕ) (e : Entrant) : Type 0 where
+pub record IsProved (o : Opened) (chunk : List ℕ) (e : AuthenticatedPeer) : Type 0 where
   pub joined : JoinedValue
   pub behind : ℕ
   pub proof : OpeningHears o chunk (Ok (Joined joined e.answer behind))
-  pub first : Takes (Records joined) (drop (length chunk - behind) chunk) e.ahead.items e.passage
+  pub first : Takes (Authenticated joined) (drop (length chunk - behind) chunk) e.ahead.items e.passage
 
 -- It hasn't: its proof is wrong, or a record behind that.
 abbrev pub IsForged : Opened → (chunk : List ℕ) → Type 0
@@ -65,9 +65,9 @@ IsForged o chunk = OpeningHears o chunk (Err ForgedProof)
     ⊎ ((joined : JoinedValue) × (answer : Option (List ℕ)) × (behind : ℕ)
     × OpeningHears o chunk (Ok (Joined joined answer behind)))
 
-abbrev pub Proves : Opened → (chunk : List ℕ) → Result Verdict EntryFault → Type 0
+abbrev pub Proves : Opened → (chunk : List ℕ) → Result EntryProgress EntryFault → Type 0
 Proves o chunk (Ok (Waits (Proof more) answer)) = OpeningHears o chunk (Ok (More more answer))
-Proves o chunk (Ok (Enters e)) = IsProved o chunk e
+Proves o chunk (Ok (Admitted e)) = IsProved o chunk e
 Proves o chunk (Err Forged) = IsForged o chunk
 Proves o chunk (Err Memory) = ⊤
 Proves o chunk _ = ⊥
@@ -84,26 +84,26 @@ IsStrange come = ((fault : LinkError) × Breaks come fault)
     ⊎ ((frame : Frame) × (frames : List Frame) × (rest : List ℕ)
     × Splits come (frame ∷ frames) rest × (IsConnect frame.kind → ⊥))
 
-abbrev pub Greets : (come : List ℕ) → Result Verdict EntryFault → Type 0
+abbrev pub Greets : (come : List ℕ) → Result EntryProgress EntryFault → Type 0
 Greets come (Ok (Waits (Greeting heard) answer)) = IsPartial come × (heard.items ≡ come) × (answer ≡ None)
-Greets come (Ok (Enters e)) = IsGreeting come × (e.passage ≡ Open) × (e.ahead.items ≡ come) × (e.answer ≡ None)
+Greets come (Ok (Admitted e)) = IsGreeting come × (e.passage ≡ Plain) × (e.ahead.items ≡ come) × (e.answer ≡ None)
 Greets come (Err Stranger) = IsStrange come
 Greets come (Err Memory) = ⊤
 Greets come _ = ⊥
 
 -- for bodies only: the same, where what has come begins with these frames
-abbrev pub Greeted : (come : List ℕ) → List Frame → Result Verdict EntryFault → Type 0
+abbrev pub Greeted : (come : List ℕ) → List Frame → Result EntryProgress EntryFault → Type 0
 Greeted come [] (Ok (Waits (Greeting heard) answer)) = (heard.items ≡ come) × (answer ≡ None)
-Greeted come (frame ∷ frames) (Ok (Enters e)) =
-    IsConnect frame.kind × (e.passage ≡ Open) × (e.ahead.items ≡ come) × (e.answer ≡ None)
+Greeted come (frame ∷ frames) (Ok (Admitted e)) =
+    IsConnect frame.kind × (e.passage ≡ Plain) × (e.ahead.items ≡ come) × (e.answer ≡ None)
 Greeted come (frame ∷ frames) (Err Stranger) = IsConnect frame.kind → ⊥
 Greeted come _ _ = ⊥
 
 -- ---- what a chunk leads to
 
-abbrev pub Hears : Waiting → (chunk : List ℕ) → Result Verdict EntryFault → Type 0
+abbrev pub Hears : PeerEntry → (chunk : List ℕ) → Result EntryProgress EntryFault → Type 0
 Hears (Proof o) chunk result = Proves o chunk result
 Hears (Greeting heard) chunk result = Greets (heard.items ++ chunk) result
-Hears Callee chunk (Ok (Enters e)) = (e.passage ≡ Open) × (e.ahead.items ≡ chunk) × (e.answer ≡ None)
+Hears Callee chunk (Ok (Admitted e)) = (e.passage ≡ Plain) × (e.ahead.items ≡ chunk) × (e.answer ≡ None)
 Hears Callee chunk (Err Memory) = ⊤
 Hears Callee chunk _ = ⊥

@@ -1,37 +1,37 @@
 -- How the two ends of a connection prove to each other that they have the key, and by which keys they go on.
 use Rattle.std.specs.Prelude.{◌≡◌, ◌<◌, ℕ, length, List, [], ◌∷◌, ◌++◌, codes}
-use Rattle.link_auth.specs.declared.side.Side.{Side}
-use Rattle.link_auth.specs.declared.side.Side.TheVariants.{Caller, Called}
+use Rattle.link_auth.specs.declared.handshake_role.HandshakeRole.{HandshakeRole}
+use Rattle.link_auth.specs.declared.handshake_role.HandshakeRole.TheVariants.{Initiator, Responder}
 use Rattle.link_auth.specs.declared.derived.Purpose.{Purpose}
 use Rattle.link_auth.specs.declared.derived.Purpose.TheVariants.{Proof, Records}
 use Rattle.link_auth.specs.Hmac.{hmac}
 use Rattle.link_auth.specs.Records.{Sender, Receiver}
 
-abbrev pub side_octet : Side → ℕ
-side_octet Caller = 1
-side_octet Called = 2
+abbrev pub side_octet : HandshakeRole → ℕ
+side_octet Initiator = 1
+side_octet Responder = 2
 
-abbrev pub other_side : Side → Side
-other_side Caller = Called
-other_side Called = Caller
+abbrev pub other_side : HandshakeRole → HandshakeRole
+other_side Initiator = Responder
+other_side Responder = Initiator
 
 abbrev pub label_of : Purpose → List ℕ
 label_of Proof = codes "fengtuyas link: proof"
 label_of Records = codes "fengtuyas link: records"
 
 -- what an end's octets are the code of: what they are for, whose they are, and both nonces, its own first
-abbrev pub message_of : Purpose → Side → (own other : List ℕ) → List ℕ
+abbrev pub message_of : Purpose → HandshakeRole → (own other : List ℕ) → List ℕ
 message_of purpose side own other = ((label_of purpose ++ side_octet side ∷ []) ++ own) ++ other
 
 -- the octets of an end for a purpose
-unfoldable pub derived : (key : List ℕ) → Purpose → Side → (own other : List ℕ) → List ℕ
+unfoldable pub derived : (key : List ℕ) → Purpose → HandshakeRole → (own other : List ℕ) → List ℕ
 derived key purpose side own other = hmac key (message_of purpose side own other)
 
 -- ---- one end
 
 pub record Party : Type 0 where
   pub key : List ℕ
-  pub side : Side
+  pub side : HandshakeRole
   pub nonce : List ℕ
 
 -- with the other's nonce

@@ -2,7 +2,7 @@
 use Rattle.std.specs.Prelude.{ℕ, ◌-◌, nat_lt, List, ◌++◌, length, map, replicate, bit_xor, if◌then◌else◌}
 use Rattle.sha2.specs.Sha256.{sha256}
 use Rattle.sha2.specs.Hashers.{Holds256}
-use Rattle.link_auth.specs.declared.coder.Coder.{Coder}
+use Rattle.link_auth.specs.declared.coder.HmacState.{HmacState}
 
 -- octets and zeros behind them: 64 in all
 abbrev pub filled : List ℕ → List ℕ
@@ -21,6 +21,6 @@ hmac key message =
     sha256 (with_pad 0x5C (block_of key) ++ sha256 (with_pad 0x36 (block_of key) ++ message))
 
 -- the code under way is that of this message under this key, as far as it has come
-unfoldable pub Codes : Coder → (key message : List ℕ) → Type 0
+unfoldable pub Codes : HmacState → (key message : List ℕ) → Type 0
 Codes h key message = Holds256 h.inner (with_pad 0x36 (block_of key) ++ message)
     × Holds256 h.outer (with_pad 0x5C (block_of key))

@@ -7,7 +7,7 @@ use Rattle.std.specs.Prelude.{◌≡◌, ℕ, ◌+◌, ◌<◌, ◌≤◌, ◌^�
 use Rattle.std.specs.List.{concat, flat_map}
 use Rattle.link_auth.specs.declared.fault.LinkFault.{LinkFault}
 use Rattle.link_auth.specs.declared.derived.Purpose.{Purpose}
-use Rattle.link_auth.specs.declared.side.Side.{Side}
+use Rattle.link_auth.specs.declared.handshake_role.HandshakeRole.{HandshakeRole}
 use Rattle.link_auth.specs.Handshake.{message_of, other_side, own_for, other_for}
 use Rattle.link_auth.specs.Records.{record_of, records_of, AreFit, Splits, Breaks, Receiver, Receives}
 
@@ -16,14 +16,14 @@ use Rattle.link_auth.specs.Records.{record_of, records_of, AreFit, Splits, Break
 -- No message is that of two purposes, two sides or two pairs of nonces: so a proof that is sent back is no proof of the
 -- other end, and each direction of each connection has a key of its own, as far as codes of different messages differ.
 abbrev pub MessagesStandApart : Type 0
-MessagesStandApart = (p q : Purpose) (s t : Side) (own other mine theirs : List ℕ) → length own ≡ 32
+MessagesStandApart = (p q : Purpose) (s t : HandshakeRole) (own other mine theirs : List ℕ) → length own ≡ 32
     → length other ≡ 32 → length mine ≡ 32 → length theirs ≡ 32
     → message_of p s own other ≡ message_of q t mine theirs
     → (p ≡ q) × (s ≡ t) × (own ≡ mine) × (other ≡ theirs)
 
 -- two ends with one key find each other's proof right, and each reads by the key that the other writes by
 abbrev pub EndsMeet : Type 0
-EndsMeet = (key own other : List ℕ) (side : Side) (purpose : Purpose)
+EndsMeet = (key own other : List ℕ) (side : HandshakeRole) (purpose : Purpose)
     → other_for (record { party = record { key = key; side = side; nonce = own }; other = other }) purpose
     ≡ own_for (record { party = record { key = key; side = other_side side; nonce = other }; other = own }) purpose
 

@@ -3,7 +3,7 @@ pub mod Key
 pub mod Records
 pub mod Parsing
 pub mod Handshake
-pub mod Opening
+pub mod KeyHandshakes
 pub mod Laws
 pub mod Entering
 pub mod Passing

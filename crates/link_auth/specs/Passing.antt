@@ -2,19 +2,19 @@
 use Rattle.std.specs.Prelude.{◌≡◌, ℕ, List}
 use Rattle.std.specs.List.{concat}
 use Rattle.link_auth.specs.Records.{Sends, Receives}
-use Rattle.link_auth.specs.declared.passage.Passage.{Passage}
-use Rattle.link_auth.specs.declared.passage.Passage.TheVariants.{Open, Records}
+use Rattle.link_auth.specs.declared.secure_channel.SecureChannel.{SecureChannel}
+use Rattle.link_auth.specs.declared.secure_channel.SecureChannel.TheVariants.{Plain, Authenticated}
 
 -- Octets are put in: what is sent is they, or the records of pieces of them behind all records before.
-abbrev pub Puts : Passage → (octets sent : List ℕ) → Passage → Type 0
-Puts Open octets sent Open = sent ≡ octets
-Puts (Records old) octets sent (Records new) = Sends old.writer octets sent new.writer × (new.reader ≡ old.reader)
+abbrev pub Puts : SecureChannel → (octets sent : List ℕ) → SecureChannel → Type 0
+Puts Plain octets sent Plain = sent ≡ octets
+Puts (Authenticated old) octets sent (Authenticated new) = Sends old.writer octets sent new.writer × (new.reader ≡ old.reader)
 Puts _ octets sent _ = ⊥
 
 -- A chunk is taken: what came is it, or what the records say that it completed.
-abbrev pub Takes : Passage → (chunk octets : List ℕ) → Passage → Type 0
-Takes Open chunk octets Open = octets ≡ chunk
-Takes (Records old) chunk octets (Records new) =
+abbrev pub Takes : SecureChannel → (chunk octets : List ℕ) → SecureChannel → Type 0
+Takes Plain chunk octets Plain = octets ≡ chunk
+Takes (Authenticated old) chunk octets (Authenticated new) =
     (pieces : List (List ℕ)) × Receives old.reader chunk pieces new.reader × (octets ≡ concat pieces)
     × (new.writer ≡ old.writer)
 Takes _ chunk octets _ = ⊥

@@ -43,22 +43,22 @@ fn with_pad(block: &[u8; BLOCK], pad: u8) -> [u8; BLOCK]
 pub fn hmac(key: &[u8], message: &[u8]) -> [u8; 32]
     ensures { result ≡ hmac key.now message.now }
 {
-    let mut coder = Coder::new(key);
+    let mut coder = HmacState::new(key);
     coder.update(message);
     coder.code()
 }
 
 /// The code of a message under a key, while the message still comes.
 #[derive(Drop)]
-pub(crate) struct Coder {
+pub(crate) struct HmacState {
     inner: Sha256,
     outer: Sha256,
 }
 
-impl Coder {
+impl HmacState {
     /// The code of the empty message under this key, of any length.
     #[tactic(auto, unfolding(crate::specs::Hmac::Codes))]
-    pub(crate) fn new(key: &[u8]) -> Coder
+    pub(crate) fn new(key: &[u8]) -> HmacState
         ensures { Codes result key.now [] }
     {
         let block = block_of(key);
@@ -66,7 +66,7 @@ impl Coder {
         inner.update(with_pad(&block, INNER));
         let mut outer = Sha256::new();
         outer.update(with_pad(&block, OUTER));
-        Coder { inner, outer }
+        HmacState { inner, outer }
     }
 
     /// Adds octets to the message.

@@ -4,8 +4,8 @@ ghost use Rattle.std.specs.Prelude.{◌≡◌, length};
 ghost use Rattle.std.specs.Int.{w16, to_be_bytes, from_be_bytes};
 ghost use Rattle.link_auth.specs.Parsing.{Goes};
 
-use crate::code::{CODE, MOST, code_of};
-use crate::compare::is_same;
+use crate::code::{CODE, MOST, record_mac};
+use crate::compare::equal_in_constant_time;
 use crate::fault::LinkFault;
 use std::marker::Model;
 
@@ -75,7 +75,7 @@ impl<'a> Cursor<'a> {
         let Some((code, behind)) = behind.split_first_chunk::<CODE>() else {
             return Ok(None);
         };
-        if !is_same(code, &code_of(key, self.number, piece)) {
+        if !equal_in_constant_time(code, &record_mac(key, self.number, piece)) {
             return Err(LinkFault::Forged);
         }
         let Some(next) = self.number.checked_add(1) else {

@@ -3,9 +3,9 @@
 ghost use Rattle.std.specs.Prelude.{◌≡◌};
 ghost use Rattle.link_auth.specs.Handshake.{label_of, derived};
 
-use crate::coder::Coder;
+use crate::coder::HmacState;
+use crate::handshake_role::HandshakeRole;
 use crate::key::LinkKey;
-use crate::side::Side;
 
 /// What the octets of an end are for.
 #[derive(Clone, Copy)]
@@ -32,13 +32,13 @@ impl Purpose {
 pub(crate) fn derived(
     key: &LinkKey,
     purpose: Purpose,
-    side: Side,
+    side: HandshakeRole,
     own: &[u8; 32],
     other: &[u8; 32],
 ) -> [u8; 32]
     ensures { result ≡ derived key.now purpose side own.now other.now }
 {
-    let mut coder = Coder::new(key.block());
+    let mut coder = HmacState::new(key.block());
     coder.update(purpose.label());
     coder.update(&[side.octet()]);
     coder.update(own);

@@ -3,26 +3,26 @@
 ghost use Rattle.std.specs.Prelude.{◌≡◌, ◌↔◌, [], IfOk, IsOk, IfErr};
 ghost use Rattle.link_auth.specs.Handshake.{own_for, other_for, Joins};
 
-use crate::compare::is_same;
+use crate::compare::equal_in_constant_time;
 use crate::derived::{Purpose, derived};
 use crate::fault::LinkFault;
+use crate::handshake_role::HandshakeRole;
 use crate::key::LinkKey;
-use crate::reader::Reader;
-use crate::side::Side;
-use crate::writer::Writer;
+use crate::reader::RecordReader;
+use crate::writer::RecordWriter;
 use std::alloc::Global;
 use std::marker::Model;
 
 /// An end that knows both nonces, and waits for the other's proof. Contracts see all four.
 #[derive(Drop)]
-pub(crate) struct Proving {
+pub(crate) struct ProofExchange {
     key: LinkKey,
-    side: Side,
+    side: HandshakeRole,
     nonce: [u8; 32],
     other: [u8; 32],
 }
 
-impl Model for Proving {
+impl Model for ProofExchange {
     ghost use Rattle.link_auth.specs.Handshake.{Party, Meeting};
 
     ghost Value = { Meeting };
@@ -35,19 +35,24 @@ impl Model for Proving {
 
 /// The two directions of a connection whose other end has the key.
 #[derive(Drop)]
-pub struct Joined {
+pub struct RecordChannel {
     /// What goes to the other end.
-    pub writer: Writer,
+    pub writer: RecordWriter,
     /// What comes from it.
-    pub reader: Reader,
+    pub reader: RecordReader,
 }
 
-impl Proving {
+impl ProofExchange {
     /// An end with its nonce and the other's.
-    pub(crate) fn new(key: LinkKey, side: Side, nonce: [u8; 32], other: [u8; 32]) -> Proving
+    pub(crate) fn new(
+        key: LinkKey,
+        side: HandshakeRole,
+        nonce: [u8; 32],
+        other: [u8; 32],
+    ) -> ProofExchange
         ensures { result ≡ record { party = record { key = key; side = side; nonce = nonce }; other = other } }
     {
-        Proving {
+        ProofExchange {
             key,
             side,
             nonce,
@@ -78,17 +83,17 @@ impl Proving {
     }
 
     /// The connection, where `proof` is the other end's; else `Forged`. What this end sent, sent back, is no proof.
-    pub(crate) fn join(self, alloc: Global, proof: &[u8; 32]) -> Result<Joined, LinkFault>
+    pub(crate) fn join(self, alloc: Global, proof: &[u8; 32]) -> Result<RecordChannel, LinkFault>
         ensures proved { IsOk result ↔ (proof.now ≡ other_for self Purpose.Proof) }
         ensures joined { IfOk result (λ j. Joins self j.writer j.reader) }
         ensures fault { IfErr result (λ e. e ≡ LinkFault.Forged) }
     {
-        if !is_same(proof, &self.others(Purpose::Proof)) {
+        if !equal_in_constant_time(proof, &self.others(Purpose::Proof)) {
             return Err(LinkFault::Forged);
         }
-        Ok(Joined {
-            writer: Writer::new(alloc, self.own(Purpose::Records)),
-            reader: Reader::new(alloc, self.others(Purpose::Records)),
+        Ok(RecordChannel {
+            writer: RecordWriter::new(alloc, self.own(Purpose::Records)),
+            reader: RecordReader::new(alloc, self.others(Purpose::Records)),
         })
     }
 }

@@ -3,8 +3,8 @@
 //! A link that takes nobody but the partner: two ends that share a key, and records that nobody else can make.
 //!
 //! Each end of a connection sends 32 octets that were drawn for it alone (its nonce), then a proof: a code by the key
-//! over both nonces and its own side. Who has heard the other's proof goes on with records ([`Opening`], [`Heard`]):
-//! what [`Writer`] makes of octets, [`Reader`] gives back, however the stream was cut into chunks. Each direction of
+//! over both nonces and its own side. Who has heard the other's proof goes on with records ([`KeyHandshake`], [`HandshakeProgress`]):
+//! what [`RecordWriter`] makes of octets, [`RecordReader`] gives back, however the stream was cut into chunks. Each direction of
 //! each connection has a key of its own, and each record a number, which its code is over too. A code is half of
 //! HMAC-SHA-256 (RFC 2104). Nothing is hidden: who sees the stream can read it.
 //!
@@ -15,11 +15,11 @@
 //! known to both ends alone, and no nonce is drawn twice.
 //!
 //! ```text
-//! let opening = Opening::new(alloc, LinkKey::from_text(&file)?, Side::Caller, nonce);
+//! let opening = KeyHandshake::new(alloc, LinkKey::from_text(&file)?, HandshakeRole::Initiator, nonce);
 //! send(opening.greeting());
 //! match opening.hear(&chunk)? {
-//!     Heard::More { opening, answer } => .., // sends `answer`, where there is one, and hears the next chunk
-//!     Heard::Joined { joined, answer, behind } => { // sends `answer`, where there is one
+//!     HandshakeProgress::More { opening, answer } => .., // sends `answer`, where there is one, and hears the next chunk
+//!     HandshakeProgress::RecordChannel { joined, answer, behind } => { // sends `answer`, where there is one
 //!         let octets = joined.reader.feed(&chunk[chunk.len() - behind..])?;
 //!         send(&joined.writer.write(&octets)?);
 //!     }
@@ -28,17 +28,17 @@
 //!
 //! Who is let in as the partner, and how octets go over its connection.
 //!
-//! Each connection waits first ([`Waiting`]): with a key until its other end has proved that it has it, and without one
+//! Each connection waits first ([`PeerEntry`]): with a key until its other end has proved that it has it, and without one
 //! until it has said the partner's first frame, CONNECT. Until then nothing that it says counts, and whatever else
-//! comes refuses it alone ([`EntryFault`]). Who was let in ([`Entrant`]) goes on by a [`Passage`]: octets as they are,
+//! comes refuses it alone ([`EntryFault`]). Who was let in ([`AuthenticatedPeer`]) goes on by a [`SecureChannel`]: octets as they are,
 //! or in records that only who has the key can make (`link_auth`).
 //!
 //! ```text
 //! let mut waiting = keeper.begin(alloc, nonce);
 //! send(waiting.greeting());
 //! match waiting.hear(alloc, &chunk)? {
-//!     Verdict::Waits { waiting, answer } => .., // sends `answer`, where there is one, and hears the next chunk
-//!     Verdict::Enters(entrant) => .., // sends `entrant.answer`, where there is one, and goes on with what is `ahead`
+//!     EntryProgress::Waits { waiting, answer } => .., // sends `answer`, where there is one, and hears the next chunk
+//!     EntryProgress::Admitted(entrant) => .., // sends `entrant.answer`, where there is one, and goes on with what is `ahead`
 //! }
 //! ```
 #![tactic(auto)]
@@ -51,28 +51,28 @@ mod derived;
 mod entry_fault;
 mod fault;
 mod handshake;
-mod keeper;
+mod handshake_role;
 mod key;
+mod key_handshake;
 mod laws;
-mod opening;
-mod passage;
+mod peer_authenticator;
+mod peer_entry;
 mod reader;
-mod side;
-mod waiting;
+mod secure_channel;
 mod writer;
 
 pub use coder::hmac;
 pub use entry_fault::EntryFault;
 pub use fault::LinkFault;
-pub use handshake::Joined;
-pub use keeper::Keeper;
+pub use handshake::RecordChannel;
+pub use handshake_role::HandshakeRole;
 pub use key::{KeyError, LinkKey};
+pub use key_handshake::{HandshakeProgress, KeyHandshake};
 pub use laws::{
     chunks_join, ends_meet, messages_stand_apart, nothing_is_forged, records_stand_apart,
 };
-pub use opening::{Heard, Opening};
-pub use passage::Passage;
-pub use reader::Reader;
-pub use side::Side;
-pub use waiting::{Entrant, Verdict, Waiting};
-pub use writer::Writer;
+pub use peer_authenticator::PeerAuthenticator;
+pub use peer_entry::{AuthenticatedPeer, EntryProgress, PeerEntry};
+pub use reader::RecordReader;
+pub use secure_channel::SecureChannel;
+pub use writer::RecordWriter;

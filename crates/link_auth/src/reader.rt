@@ -64,14 +64,14 @@ fn take_chunk(
 /// The receiving end of a direction. Between chunks it holds less than a whole record. Contracts see its key, the
 /// number of the next record and the octets that it holds.
 #[derive(Drop)]
-pub struct Reader {
+pub struct RecordReader {
     key: [u8; 32],
     number: u64,
     held: Vec<u8>,
     alloc: Global,
 }
 
-impl Model for Reader {
+impl Model for RecordReader {
     ghost use Rattle.link_auth.specs.Records.{Receiver};
 
     ghost Value = { Receiver };
@@ -79,12 +79,12 @@ impl Model for Reader {
     ghost view = { λ r. record { key = r.key; number = r.number; held = r.held.items } };
 }
 
-impl Reader {
+impl RecordReader {
     /// The end of a direction with this key, of which nothing has come yet.
-    pub(crate) fn new(alloc: Global, key: [u8; 32]) -> Reader
+    pub(crate) fn new(alloc: Global, key: [u8; 32]) -> RecordReader
         ensures { result ≡ record { key = key; number = 0; held = [] } }
     {
-        Reader {
+        RecordReader {
             key,
             number: 0,
             held: Vec::new(alloc),

@@ -4,7 +4,7 @@ ghost use Rattle.std.specs.Prelude.{◌≡◌, ◌+◌, ◌^◌, ◌≤◌, ◌�
 ghost use Rattle.link_auth.specs.Records.{record_of, Sends};
 ghost use Rattle.link_auth.specs.Parsing.{Written};
 
-use crate::code::{MOST, code_of};
+use crate::code::{MOST, record_mac};
 use crate::fault::LinkFault;
 use std::alloc::{AllocError, Global};
 use std::marker::Model;
@@ -22,7 +22,7 @@ fn put_record(
 {
     out.extend_from_slice(&(piece.len() as u16).to_be_bytes())?;
     out.extend_from_slice(piece)?;
-    out.extend_from_slice(&code_of(key, number, piece))
+    out.extend_from_slice(&record_mac(key, number, piece))
 }
 
 /// Appends the records of octets, cut into pieces, from this number on. Answers the number of the next record.
@@ -52,13 +52,13 @@ fn put_records(
 
 /// The sending end of a direction. Contracts see its key and the number of the next record.
 #[derive(Drop)]
-pub struct Writer {
+pub struct RecordWriter {
     key: [u8; 32],
     number: u64,
     alloc: Global,
 }
 
-impl Model for Writer {
+impl Model for RecordWriter {
     ghost use Rattle.link_auth.specs.Records.{Sender};
 
     ghost Value = { Sender };
@@ -66,12 +66,12 @@ impl Model for Writer {
     ghost view = { λ w. record { key = w.key; number = w.number } };
 }
 
-impl Writer {
+impl RecordWriter {
     /// The end of a direction with this key, over which nothing has gone yet.
-    pub(crate) fn new(alloc: Global, key: [u8; 32]) -> Writer
+    pub(crate) fn new(alloc: Global, key: [u8; 32]) -> RecordWriter
         ensures { result ≡ record { key = key; number = 0 } }
     {
-        Writer {
+        RecordWriter {
             key,
             number: 0,
             alloc,

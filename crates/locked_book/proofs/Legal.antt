@@ -18,7 +18,7 @@ use Rattle.order_book.specs.Answer.{reply_to}
 use Rattle.order_book.specs.Replayed.{IsLegal, state_of, with_line}
 use Rattle.locked_book.specs.declared.receipt.Receipt.{Receipt}
 use Rattle.locked_book.specs.Serving.{line_at, ReceiptStands}
-use Rattle.locked_book.specs.Telling.{AreOutcomes, outcome_in, reply_behind}
+use Rattle.locked_book.specs.Replies.{AreOutcomes, outcome_in, reply_behind}
 use Rattle.locked_book.proofs.Lists.{get_front, get_last, take_front, take_all}
 
 -- ---- lines are counted, and few

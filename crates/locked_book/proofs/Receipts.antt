@@ -13,7 +13,7 @@ use Rattle.order_book.specs.Replayed.{IsLegal, state_of, with_line}
 use Rattle.locked_book.specs.declared.receipt.Receipt.{Receipt}
 use Rattle.locked_book.specs.Closing.{AreAbove, IsReceiptOf}
 use Rattle.locked_book.specs.Serving.{ReceiptStands, last_receipt}
-use Rattle.locked_book.specs.Telling.{AreOutcomes, outcome_in, reply_behind, first_lines}
+use Rattle.locked_book.specs.Replies.{AreOutcomes, outcome_in, reply_behind, first_lines}
 use Rattle.locked_book.proofs.Legal.{counted, stands_below, told_more}
 use Rattle.locked_book.proofs.Lists.{get_last}
 use Rattle.locked_book.proofs.Rising.{above_more}

@@ -1,3 +1,3 @@
-pub mod Telling
+pub mod Replies
 pub mod Serving
 pub mod Closing

@@ -9,12 +9,12 @@ use Rattle.book_state.specs.Book.{BookState, is_unit}
 use Rattle.order_book.specs.declared.order.Order.{Order}
 use Rattle.order_book.specs.declared.reply.Reply.TheVariants.{Granted}
 use Rattle.order_book.specs.Answer.{IsAnswer, IsFirstRefusal, IsRefusal}
-use Rattle.unit_finder.specs.Units.{IsLeastOf, IsUsable}
-use Rattle.unit_finder.specs.Queries.{IsToExpire, IsFirstExpiry, IsToSeize, HasReply, HasChange, HasMark}
+use Rattle.unit_index.specs.Units.{IsLeastOf, IsUsable}
+use Rattle.unit_index.specs.Queries.{IsToExpire, IsFirstExpiry, IsToSeize, HasReply, HasChange, HasMark}
 use Rattle.order_book.specs.Replayed.{state_of}
 use Rattle.locked_book.specs.declared.receipt.Receipt.{Receipt}
 use Rattle.locked_book.specs.declared.receipt.Look.{Look}
-use Rattle.locked_book.specs.declared.receipt.Work.{Work}
+use Rattle.locked_book.specs.declared.receipt.PendingWork.{PendingWork}
 use Rattle.locked_book.specs.declared.error.ServeError.{ServeError}
 use Rattle.locked_book.specs.declared.error.ServeError.TheVariants.{Stranger, Book, Memory}
 
@@ -47,10 +47,10 @@ IsStrange lines last number found =
     (r : Receipt) × (last ≡ Some r) × (number ≡ r.number) × (found ≡ line_at lines number) × (found ≢ Some r.line)
 
 -- the only refusal is that the line that was found isn't the last receipt's
-abbrev pub IsShown : List Line → Option Receipt → Result (Unit {0}) ServeError → Type 0
-IsShown lines last (Ok done) = ReceiptStands lines last
-IsShown lines last (Err (Stranger number found)) = IsStrange lines last number found
-IsShown lines last (Err _) = ⊥
+abbrev pub HasItsReceipt : List Line → Option Receipt → Result (Unit {0}) ServeError → Type 0
+HasItsReceipt lines last (Ok done) = ReceiptStands lines last
+HasItsReceipt lines last (Err (Stranger number found)) = IsStrange lines last number found
+HasItsReceipt lines last (Err _) = ⊥
 
 -- ---- answers at a journal, for a pass with this last receipt
 
@@ -87,7 +87,7 @@ IsLooked j last p (Err (Stranger number found)) = IsStrange j.lines last number 
 IsLooked j last p (Err _) = ⊥
 
 -- what there is to do at a reading; of what is to be sent, for units that begin at an address or above
-pub record IsWork (j : Journal) (now from : ℕ) (work : Work) : Type 0 where
+pub record IsWork (j : Journal) (now from : ℕ) (work : PendingWork) : Type 0 where
   pub lines : work.lines ≡ length j.lines
   pub expired : IsLeastOf (IsToExpire (state_of j) now) work.expired
   pub expiry : IsFirstExpiry (state_of j) work.expiry
@@ -99,7 +99,7 @@ pub record IsWork (j : Journal) (now from : ℕ) (work : Work) : Type 0 where
   pub waiting : work.waiting ≡ (state_of j).waiting
   pub down : work.down ≡ (state_of j).down
 
-abbrev pub IsWorkFound : Journal → Option Receipt → ℕ → ℕ → Result Work ServeError → Type 0
+abbrev pub IsWorkFound : Journal → Option Receipt → ℕ → ℕ → Result PendingWork ServeError → Type 0
 IsWorkFound j last now from (Ok work) = ReceiptStands j.lines last × IsWork j now from work
 IsWorkFound j last now from (Err (Stranger number found)) = IsStrange j.lines last number found
 IsWorkFound j last now from (Err _) = ⊥

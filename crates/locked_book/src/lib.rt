@@ -23,13 +23,13 @@ mod keeping;
 mod looking;
 mod name;
 mod receipt;
+mod receipt_check;
+mod replies;
 mod shared;
-mod showing;
-mod telling;
 
 pub use error::{CloseFault, LockFault, ServeError};
 pub use keeping::{Kept, Pass, newest};
 pub use looking::{look_at, work_at};
 pub use name::BookName;
-pub use receipt::{Look, Receipt, Work};
+pub use receipt::{Look, PendingWork, Receipt};
 pub use shared::{CloseError, LockError, SharedBook};

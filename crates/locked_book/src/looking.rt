@@ -5,8 +5,8 @@ ghost use Rattle.order_book.specs.Replayed.{IsLegal};
 ghost use Rattle.locked_book.specs.Serving.{IsLooked, IsPassOffered, IsWorkFound};
 
 use crate::error::ServeError;
-use crate::receipt::{Look, Receipt, Work};
-use crate::showing::show;
+use crate::receipt::{Look, PendingWork, Receipt};
+use crate::receipt_check::check_receipt;
 use lead_time::Reading;
 use order_book::{Book, Order};
 use prefix_range::Prefix;
@@ -18,7 +18,7 @@ pub fn look_at(book: &Book, last: Option<Receipt>, prefix: Prefix) -> Result<Loo
     ensures legal { IsLegal book.now }
 {
     let lines = book.journal();
-    show(lines, last)?;
+    check_receipt(lines, last)?;
     Ok(Look {
         lines: lines.len(),
         unit: book.unit(prefix),
@@ -34,13 +34,13 @@ pub fn work_at(
     last: Option<Receipt>,
     now: Reading,
     from: u128,
-) -> Result<Work, ServeError>
+) -> Result<PendingWork, ServeError>
     ensures found { IsWorkFound book.now last now from result }
     ensures legal { IsLegal book.now }
 {
     let lines = book.journal();
-    show(lines, last)?;
-    Ok(Work {
+    check_receipt(lines, last)?;
+    Ok(PendingWork {
         lines: lines.len(),
         expired: book.first_to_expire(now),
         expiry: book.first_expiry(),
@@ -65,7 +65,7 @@ pub(crate) fn offer_of(
     ensures offered { IsPassOffered book.now last now order.now result }
     ensures legal { IsLegal book.now }
 {
-    show(book.journal(), last)?;
+    check_receipt(book.journal(), last)?;
     match book.offer(now, order) {
         Ok(offer) => Ok(offer),
         Err(error) => Err(ServeError::Book(error)),

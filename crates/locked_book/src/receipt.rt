@@ -30,7 +30,7 @@ pub struct Look {
 /// The work that there is in a book at a reading: of each kind the unit with the lowest address, if there is one. Where
 /// it was asked from an address on, that is for what is to be sent: the reply, the change and the mark.
 #[derive(Clone, Copy, Debug, PartialEq, Eq)]
-pub struct Work {
+pub struct PendingWork {
     /// How many lines the journal has.
     pub lines: usize,
     /// The unit that an Expire ends.

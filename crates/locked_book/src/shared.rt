@@ -6,7 +6,7 @@ ghost use Rattle.journal_lines.specs.declared.line.Journal.{Journal};
 ghost use Rattle.order_book.specs.Answer.{IsRequest};
 ghost use Rattle.order_book.specs.Replayed.{IsLegal};
 ghost use Rattle.locked_book.specs.Serving.{last_receipt, IsPassServed, IsLooked, IsPassOffered, IsWorkFound};
-ghost use Rattle.locked_book.specs.Closing.{receipt_count, IsWhole, new_pass};
+ghost use Rattle.locked_book.specs.Closing.{receipt_count, IsOpeningAndReceipts, new_pass};
 ghost use Rattle.locked_book.specs.declared.error.CloseFault.TheVariants.{MissingPass, ReceiptMismatch};
 ghost use Rattle.locked_book.specs.declared.error.LockFault.TheVariants.{Passes};
 
@@ -14,7 +14,7 @@ use crate::error::{CloseFault, LockFault, ServeError};
 use crate::keeping::{Kept, Pass};
 use crate::looking::{look_at, offer_of, work_at};
 use crate::name::BookName;
-use crate::receipt::{Look, Receipt, Work};
+use crate::receipt::{Look, PendingWork, Receipt};
 use journal_lines::Line;
 use lead_time::Reading;
 use order_book::{Book, Order};
@@ -142,7 +142,7 @@ impl<N: BookName> SharedBook<N> {
         rt: &R,
         pass: &mut Pass<N>,
         now: Reading,
-    ) -> Result<Work, ServeError>
+    ) -> Result<PendingWork, ServeError>
         ensures found { (j : Journal) × IsLegal j × IsWorkFound j (last_receipt pass.old.receipts) now 0 result }
         ensures same { pass.new ≡ pass.old }
     {
@@ -157,7 +157,7 @@ impl<N: BookName> SharedBook<N> {
         pass: &mut Pass<N>,
         now: Reading,
         from: u128,
-    ) -> Result<Work, ServeError>
+    ) -> Result<PendingWork, ServeError>
         ensures found { (j : Journal) × IsLegal j × IsWorkFound j (last_receipt pass.old.receipts) now from result }
         ensures same { pass.new ≡ pass.old }
     {
@@ -192,9 +192,9 @@ impl<N: BookName> SharedBook<N> {
         ensures closed { (j : Journal) × IsLegal j
             × (length passes.items ≡ N.passes → length self + receipt_count passes.items ≡ length j.lines)
             × MatchResult result
-            (λ book. (book ≡ j) × (length passes.items ≡ N.passes) × IsWhole self passes.items j)
+            (λ book. (book ≡ j) × (length passes.items ≡ N.passes) × IsOpeningAndReceipts self passes.items j)
             (λ e. (e.why ≡ MissingPass → length passes.items ≢ N.passes)
-            × (e.why ≡ ReceiptMismatch → (length passes.items ≡ N.passes) × ¬ IsWhole self passes.items j)) }
+            × (e.why ≡ ReceiptMismatch → (length passes.items ≡ N.passes) × ¬ IsOpeningAndReceipts self passes.items j)) }
         ensures back { IfErr result (λ e. (e.shared ≡ self) × (e.passes.items ≡ passes.items)) }
     {
         let SharedBook { opening, kept } = self;

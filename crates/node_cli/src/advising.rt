@@ -6,9 +6,9 @@ use crate::MOST_OCTETS;
 use node_threads::NodeSettings;
 use serve_settings::{ServeSettings, ServeSettingsError};
 use server_book::OpenError;
-use settings_advice::{
-    KEYS, Key, POOL_KEYS, Place, lead_doubt, line_ends, link_doubt, pool_doubt, reasons_of,
-    stranger,
+use settings_diagnostics::{
+    KEYS, Key, KeyTable, POOL_KEYS, lead_time_warning, line_ends, link_warning, pool_warning,
+    reasons_of, suggested_key,
 };
 use std::alloc::{AllocError, Global};
 use toml::Table;
@@ -40,26 +40,26 @@ fn tell_reasons<P: Print>(notes: &P, alloc: Global, table: &Table) -> Result<(),
 /// Warns of settings that are read, and are odd.
 fn warn_of_doubts<P: Print>(notes: &P, settings: &NodeSettings) {
     for (before, pool) in settings.server.pools().iter().enumerate() {
-        if let Some(doubt) = pool_doubt(&pool.prefix) {
-            let place = Place::Pool(before);
+        if let Some(doubt) = pool_warning(&pool.prefix) {
+            let place = KeyTable::Pool(before);
             let _ = println!(notes; "node: warning: {place}{doubt}");
         }
     }
     let (listen, link) = (settings.ways.listen, settings.ways.link);
-    if let Some(doubt) = lead_doubt(&settings.server, link) {
+    if let Some(doubt) = lead_time_warning(&settings.server, link) {
         let _ = println!(notes; "node: warning: {doubt}");
     }
-    if let Some(doubt) = link_doubt(listen, link) {
+    if let Some(doubt) = link_warning(listen, link) {
         let _ = println!(notes; "node: warning: {doubt}");
     }
 }
 
 /// Warns of each key of a table that is none of the known ones, with the one that it was likely meant for.
-fn warn_of_strangers<P: Print>(notes: &P, table: &Table, place: Place, known: &[Key])
+fn warn_of_strangers<P: Print>(notes: &P, table: &Table, place: KeyTable, known: &[Key])
     requires { 1 ≤ length known.now }
 {
     for (name, _) in table {
-        if let Some(meant) = stranger(known, name.as_str()) {
+        if let Some(meant) = suggested_key(known, name.as_str()) {
             let _ = println!(notes;
                 "node: warning: {place}{name:?} is no key: do you mean {meant}?"
             );
@@ -69,7 +69,7 @@ fn warn_of_strangers<P: Print>(notes: &P, table: &Table, place: Place, known: &[
 
 /// Warns of the unknown keys of a document and of its pools.
 fn warn_of_keys<P: Print>(notes: &P, table: &Table) {
-    warn_of_strangers(notes, table, Place::Top, &KEYS);
+    warn_of_strangers(notes, table, KeyTable::Top, &KEYS);
     let Some(value) = table.get("pool") else {
         return;
     };
@@ -78,7 +78,7 @@ fn warn_of_keys<P: Print>(notes: &P, table: &Table) {
     };
     for (before, pool) in pools.iter().enumerate() {
         if let Some(table) = pool.as_table() {
-            warn_of_strangers(notes, table, Place::Pool(before), &POOL_KEYS);
+            warn_of_strangers(notes, table, KeyTable::Pool(before), &POOL_KEYS);
         }
     }
 }

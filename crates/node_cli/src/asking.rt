@@ -1,8 +1,8 @@
 //! Asking the server of a directory, by its control socket.
 
-use crate::fault::Fault;
+use crate::fault::NodeFault;
 use node_daemon::CONTROL;
-use server_status::{Answer, Request, Verdict};
+use server_status::{ControlReply, ControlRequest, ControlVerdict};
 use std::alloc::Global;
 use std::io::{Read, Write};
 use std::net::Net;
@@ -17,7 +17,12 @@ const LONGEST_WAIT: u64 = 30;
 const MOST_OCTETS: u64 = 1 << 20;
 
 /// What the server answers to a request; `None` where no server runs in the directory, or it doesn't answer.
-fn answer_of(net: &impl Net, alloc: Global, directory: &str, request: &Request) -> Option<Vec<u8>> {
+fn answer_of(
+    net: &impl Net,
+    alloc: Global,
+    directory: &str,
+    request: &ControlRequest,
+) -> Option<Vec<u8>> {
     let path = Path::new(directory).join(alloc, CONTROL).ok()?;
     let mut stream = UnixStream::connect(net, path.as_path().as_str()).ok()?;
     let longest = Some(Duration::from_secs(LONGEST_WAIT));
@@ -36,33 +41,33 @@ pub fn ask(
     rt: &HostRuntime,
     net: &impl Net,
     directory: &str,
-    request: &Request,
-) -> Result<u8, Fault> {
+    request: &ControlRequest,
+) -> Result<u8, NodeFault> {
     let Some(octets) = answer_of(net, rt.alloc(), directory, request) else {
-        return Err(Fault::Silent);
+        return Err(NodeFault::Silent);
     };
     let Ok(words) = str::from_utf8(&octets) else {
-        return Err(Fault::Silent);
+        return Err(NodeFault::Silent);
     };
-    match Answer::read(words) {
+    match ControlReply::read(words) {
         Some(
-            Answer {
-                verdict: Verdict::Done,
+            ControlReply {
+                verdict: ControlVerdict::Done,
                 text,
             },
         ) => match rt.stdout().write_all(text.as_bytes()) {
             Ok(()) => Ok(0),
-            Err(_) => Err(Fault::Write),
+            Err(_) => Err(NodeFault::Write),
         },
         Some(
-            Answer {
-                verdict: Verdict::Refused(reason),
+            ControlReply {
+                verdict: ControlVerdict::Refused(reason),
                 ..
             },
         ) => {
             let _ = eprintln!(rt; "node: refused: {reason}");
             Ok(1)
         }
-        None => Err(Fault::Silent),
+        None => Err(NodeFault::Silent),
     }
 }

@@ -1,20 +1,20 @@
 //! Why the program has no answer.
 
 ghost use Rattle.std.specs.Prelude.{◌≡◌};
-ghost use Rattle.node_cli.specs.declared.fault.Fault.TheVariants.{Words, Run, Memory};
+ghost use Rattle.node_cli.specs.declared.fault.NodeFault.TheVariants.{Words, Run, Memory};
 
+use node_args::ArgsError;
 use node_run::RunError;
 use node_threads::NodeError;
-use node_words::WordsError;
 use std::alloc::AllocError;
 use thiserror::Error;
 
 /// Why the program has no answer.
 #[derive(Clone, Copy, Debug, PartialEq, Eq, Error)]
-pub enum Fault {
+pub enum NodeFault {
     /// The words are none of its commands.
     #[error("{0}")]
-    Words(WordsError),
+    Words(ArgsError),
     /// Standard input can't be read.
     #[error("fault Read")]
     Read,
@@ -35,26 +35,26 @@ pub enum Fault {
     Node(NodeError),
 }
 
-impl From<WordsError> for Fault {
+impl From<ArgsError> for NodeFault {
     ghost from_gives = { λ error e. e ≡ Words error };
 
-    fn from(error: WordsError) -> Fault {
-        Fault::Words(error)
+    fn from(error: ArgsError) -> NodeFault {
+        NodeFault::Words(error)
     }
 }
 
-impl From<RunError> for Fault {
+impl From<RunError> for NodeFault {
     ghost from_gives = { λ error e. e ≡ Run error };
 
-    fn from(error: RunError) -> Fault {
-        Fault::Run(error)
+    fn from(error: RunError) -> NodeFault {
+        NodeFault::Run(error)
     }
 }
 
-impl From<AllocError> for Fault {
+impl From<AllocError> for NodeFault {
     ghost from_gives = { λ _ e. e ≡ Memory };
 
-    fn from(_error: AllocError) -> Fault {
-        Fault::Memory
+    fn from(_error: AllocError) -> NodeFault {
+        NodeFault::Memory
     }
 }

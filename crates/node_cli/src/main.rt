@@ -14,10 +14,10 @@ mod serving;
 
 use advising::{advise, advise_to_serve};
 use asking::ask;
-use fault::Fault;
-use node_run::{Run, run_node};
+use fault::NodeFault;
+use node_args::{ArgsError, NodeCommand, TrialCommand, advice_of, command_of};
+use node_run::{RunResult, run_node};
 use node_threads::NodeSettings;
-use node_words::{Command, Once, WordsError, advice_of, command_of};
 use server_book::OpenError;
 use serving::serve_directory;
 use std::alloc::Global;
@@ -56,25 +56,25 @@ fn units_of(settings: &NodeSettings) -> usize {
 
 /// The text that a command writes, and the status, or the fault that its run ended by.
 #[derive(Drop)]
-struct Outcome {
+struct CommandResult {
     octets: Vec<u8>,
-    status: Result<u8, Fault>,
+    status: Result<u8, NodeFault>,
 }
 
-impl Outcome {
-    fn of(octets: Vec<u8>, status: u8) -> Outcome {
-        Outcome {
+impl CommandResult {
+    fn of(octets: Vec<u8>, status: u8) -> CommandResult {
+        CommandResult {
             octets,
             status: Ok(status),
         }
     }
 
-    fn of_run(run: Run) -> Outcome {
-        Outcome {
+    fn of_run(run: RunResult) -> CommandResult {
+        CommandResult {
             octets: run.journal,
             status: match run.received {
                 Ok(_) => Ok(0),
-                Err(why) => Err(Fault::Node(why)),
+                Err(why) => Err(NodeFault::Node(why)),
             },
         }
     }
@@ -84,10 +84,10 @@ impl Outcome {
 fn answer<R: Threads + Wait + Sync + Net + Clock, P: Print + Sync>(
     rt: &R,
     alloc: Global,
-    command: Once,
+    command: TrialCommand,
     text: &[u8],
     notes: &P,
-) -> Result<Outcome, Fault>
+) -> Result<CommandResult, NodeFault>
 where
     R::Stream: Send + Drop,
     R::Listener: Send + Drop,
@@ -100,39 +100,39 @@ where
         settings.as_ref().map_err(|error| *error),
     );
     match (command, settings) {
-        (_, Err(OpenError::Memory)) => Err(Fault::Memory),
+        (_, Err(OpenError::Memory)) => Err(NodeFault::Memory),
         (_, Err(refusal)) => {
             let line = format!(in alloc; "{refusal}\n")?;
-            Ok(Outcome::of(line.into_bytes(), 1))
+            Ok(CommandResult::of(line.into_bytes(), 1))
         }
-        (Once::Check, Ok(settings)) => {
+        (TrialCommand::Check, Ok(settings)) => {
             advise_to_serve(notes, alloc, text);
             let units = units_of(&settings);
             let line = format!(in alloc; "ok {units}\n")?;
-            Ok(Outcome::of(line.into_bytes(), 0))
+            Ok(CommandResult::of(line.into_bytes(), 0))
         }
-        (Once::Run { count, partner }, Ok(settings)) => {
+        (TrialCommand::Run { count, partner }, Ok(settings)) => {
             match run_node(rt, alloc, &settings, count, partner, notes) {
-                Ok(run) => Ok(Outcome::of_run(run)),
-                Err(error) => Err(Fault::Run(error)),
+                Ok(run) => Ok(CommandResult::of_run(run)),
+                Err(error) => Err(NodeFault::Run(error)),
             }
         }
     }
 }
 
 /// The words of the command line; `Usage` where one isn't text.
-fn words_given(rt: &HostRuntime) -> Result<Vec<String>, Fault> {
+fn words_given(rt: &HostRuntime) -> Result<Vec<String>, NodeFault> {
     let words = match env::args(rt) {
         Ok(words) => words,
-        Err(error) => return Err(memory_or(error, Fault::Words(WordsError::Usage))),
+        Err(error) => return Err(memory_or(error, NodeFault::Words(ArgsError::Usage))),
     };
-    words.collect(rt.alloc()).map_err(|_| Fault::Memory)
+    words.collect(rt.alloc()).map_err(|_| NodeFault::Memory)
 }
 
 /// Returns what ends the program where its words or its input didn't come: want of memory, or the fault.
-fn memory_or(error: io::Error, fault: Fault) -> Fault {
+fn memory_or(error: io::Error, fault: NodeFault) -> NodeFault {
     if error.kind() == io::ErrorKind::OutOfMemory {
-        Fault::Memory
+        NodeFault::Memory
     } else {
         fault
     }
@@ -142,8 +142,8 @@ fn memory_or(error: io::Error, fault: Fault) -> Fault {
 fn done_once<R: Threads + Wait + Sync + Net + Clock>(
     rt: &HostRuntime,
     handles: &R,
-    command: Once,
-) -> Result<u8, Fault>
+    command: TrialCommand,
+) -> Result<u8, NodeFault>
 where
     R::Stream: Send + Drop,
     R::Listener: Send + Drop,
@@ -151,7 +151,7 @@ where
     let mut text = Vec::new(rt.alloc());
     let mut input = rt.stdin().take(MOST_OCTETS as u64 + 1);
     if let Err(error) = input.read_to_end(&mut text) {
-        return Err(memory_or(error, Fault::Read));
+        return Err(memory_or(error, NodeFault::Read));
     }
     let outcome = match answer(handles, rt.alloc(), command, &text, &rt.stderr()) {
         Ok(outcome) => outcome,
@@ -159,7 +159,7 @@ where
     };
     match rt.stdout().write_all(&outcome.octets) {
         Ok(()) => outcome.status,
-        Err(_) => Err(Fault::Write),
+        Err(_) => Err(NodeFault::Write),
     }
 }
 
@@ -168,22 +168,24 @@ fn answered<R: Threads + Wait + Sync + Files + Net + RandomSource + Clock>(
     rt: &HostRuntime,
     handles: &R,
     words: &[String],
-) -> Result<u8, Fault>
+) -> Result<u8, NodeFault>
 where
     R::Stream: Send + Drop,
     R::Listener: Send + Drop,
 {
     match command_of(rt.alloc(), words)? {
-        Command::Once(command) => done_once(rt, handles, command),
-        Command::Serve(served) => serve_directory(rt, handles, &served),
-        Command::Ask { directory, request } => { ask(rt, handles, directory.as_str(), &request) }
+        NodeCommand::Once(command) => done_once(rt, handles, command),
+        NodeCommand::Serve(served) => serve_directory(rt, handles, &served),
+        NodeCommand::Ask { directory, request } => {
+            ask(rt, handles, directory.as_str(), &request)
+        }
     }
 }
 
 /// Says on standard error why there is no answer; of words that are no command, what would do too.
-fn tell(rt: &HostRuntime, words: &[String], fault: &Fault) {
+fn tell(rt: &HostRuntime, words: &[String], fault: &NodeFault) {
     let _ = eprintln!(rt; "{fault}");
-    if let Fault::Words(WordsError::Usage) = fault {
+    if let NodeFault::Words(ArgsError::Usage) = fault {
         if let Ok(advice) = advice_of(rt.alloc(), words) {
             let _ = eprintln!(rt; "{advice}");
         }

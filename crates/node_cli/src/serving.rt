@@ -2,11 +2,11 @@
 
 use crate::MOST_OCTETS;
 use crate::advising::advise;
-use crate::fault::Fault;
+use crate::fault::NodeFault;
 use crate::link_key::{KeyRefusal, key_in};
 use link_auth::LinkKey;
+use node_args::ServeCommand;
 use node_daemon::{ServeFailure, serve};
-use node_words::Served;
 use serve_settings::{LinkProtection, ServeSettings, ServeSettingsError};
 use std::alloc::{AllocError, Global};
 use std::fs::{File, Files};
@@ -34,7 +34,7 @@ fn content_of(rt: &HostRuntime, alloc: Global, path: Path<'_>) -> io::Result<Vec
 }
 
 /// The path of the settings: the file that is named, or the directory's own.
-fn path_of(alloc: Global, served: &Served) -> Result<PathBuf, AllocError> {
+fn path_of(alloc: Global, served: &ServeCommand) -> Result<PathBuf, AllocError> {
     match &served.settings {
         Some(file) => Path::new(file.as_str()).to_path_buf(alloc),
         None => Path::new(served.directory.as_str()).join(alloc, SETTINGS),
@@ -98,8 +98,8 @@ fn status_of(failure: &ServeFailure) -> u8 {
 pub fn serve_directory<R: Wait + Files + Net + RandomSource + Clock>(
     rt: &HostRuntime,
     handles: &R,
-    served: &Served,
-) -> Result<u8, Fault> {
+    served: &ServeCommand,
+) -> Result<u8, NodeFault> {
     let alloc = rt.alloc();
     let path = path_of(alloc, served)?;
     let text = match content_of(rt, alloc, path.as_path()) {

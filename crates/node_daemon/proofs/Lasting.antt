@@ -9,19 +9,19 @@ use Rattle.disk_model.specs.Volumes.{HasSettled}
 use Rattle.open_volume.specs.Spelling.{text_lines}
 use Rattle.open_volume.specs.declared.volume.VolumeSoFar.{VolumeSoFar}
 use Rattle.volume_store.specs.Volumes.{ended_volume}
-use Rattle.server_core.specs.Live.{LiveState}
+use Rattle.server_core.specs.VolumeWriters.{WriterState}
 use Rattle.server_core.specs.Going.{so_far}
-use Rattle.server_core.specs.Running.{RunState}
-use Rattle.server_core.specs.Settling.{IsRolled}
+use Rattle.server_core.specs.ServerStates.{CoreState}
+use Rattle.server_core.specs.Committing.{IsRolled}
 use Rattle.server_core.specs.Servers.{IsServers}
-use Rattle.server_core.specs.Laws.{StaysServers, SettlesKeep, RollsKeep}
-use Rattle.daemon_parties.specs.Hearing.{HasSameFiles}
+use Rattle.server_core.specs.Laws.{StaysServers, CommitsKeep, RollsKeep}
+use Rattle.daemon_endpoints.specs.Receiving.{HasSameFiles}
 use Rattle.node_daemon.specs.Turning.{Ways, IsTurn, Turns, none, more, HasTurned}
 use Rattle.node_daemon.specs.Lasting.{Keeps, goes_on, rolls, Lasts, at_first, one_more, HasLasted}
 
 -- what puts nothing to the disk keeps the volumes
 same_servers : {P : Type 0} (role : Role) (earlier : List VolumeSoFar) (files : List (List Call)) (j : Journal)
-    (old new : RunState P) → HasSameFiles old new → IsServers role earlier files j old.names old.volume
+    (old new : CoreState P) → HasSameFiles old new → IsServers role earlier files j old.names old.volume
     → IsServers role earlier files j new.names new.volume
 same_servers role earlier files j old new same is = record {
   are = is.are;
@@ -33,23 +33,23 @@ same_servers role earlier files j old new same is = record {
 }
 
 with_names : (role : Role) (earlier : List VolumeSoFar) (files : List (List Call)) (j : Journal)
-    (names now : List NameCall) (v : LiveState) → now ≡ names → IsServers role earlier files j names v
+    (names now : List NameCall) (v : WriterState) → now ≡ names → IsServers role earlier files j names v
     → IsServers role earlier files j now v
 with_names role earlier files j names now v same is =
     subst (λ (ns : List NameCall). IsServers role earlier files j ns v) (sym same) is
 
-module _ {P Line : Type 0} (settle_law : SettlesKeep) (roll_law : RollsKeep) (Listens : Line → Line → Type 0)
-    (Sends : Line → P → List ℕ → Line → Type 0) (transit : ℕ) (first : Ways Line) (begun : RunState P) (role : Role)
+module _ {P Line : Type 0} (settle_law : CommitsKeep) (roll_law : RollsKeep) (Listens : Line → Line → Type 0)
+    (Sends : Line → P → List ℕ → Line → Type 0) (transit : ℕ) (first : Ways Line) (begun : CoreState P) (role : Role)
     (earlier : List VolumeSoFar) (files : List (List Call)) (j : Journal) where
   -- what is reached by turns, and by which
-  record Reached (way : Ways Line) (reached : RunState P) : Type 0 where
+  record Reached (way : Ways Line) (reached : CoreState P) : Type 0 where
     ended : List VolumeSoFar
     settled : List (List Call)
     journal : Journal
     lasts : Lasts Listens Sends transit first begun role earlier files j way reached ended settled journal
     is : IsServers role ended settled journal reached.names reached.volume
 
-  module _ (way : Ways Line) (old : RunState P) (next : Ways Line) (new : RunState P) (r : Reached way old)
+  module _ (way : Ways Line) (old : CoreState P) (next : Ways Line) (new : CoreState P) (r : Reached way old)
       (turn : IsTurn Listens Sends transit way old next new) where
     heard : IsServers role r.ended r.settled r.journal turn.ready.names turn.ready.volume
     heard = same_servers role r.ended r.settled r.journal old turn.ready turn.same r.is
@@ -74,7 +74,7 @@ module _ {P Line : Type 0} (settle_law : SettlesKeep) (roll_law : RollsKeep) (Li
     without_roll same =
         let stays = settle_law role r.ended r.settled r.journal turn.begun.names turn.begun.volume
         turn.tells.settled.volume
-        (subst (λ (s : RunState P). IsServers role r.ended r.settled r.journal s.names s.volume) (sym same) heard)
+        (subst (λ (s : CoreState P). IsServers role r.ended r.settled r.journal s.names s.volume) (sym same) heard)
         turn.tells.settles.put in
         reached_by r.ended r.settled r.journal stays (goes_on stays)
 
@@ -95,7 +95,7 @@ module _ {P Line : Type 0} (settle_law : SettlesKeep) (roll_law : RollsKeep) (Li
       | inr rolled ↦ with_roll rolled
     ]
 
-  reached : (way : Ways Line) (s : RunState P) → Turns Listens Sends transit first begun way s
+  reached : (way : Ways Line) (s : CoreState P) → Turns Listens Sends transit first begun way s
       → IsServers role earlier files j begun.names begun.volume → Reached way s
   reached _ _ none is = record { ended = earlier; settled = files; journal = j; lasts = at_first; is = is }
   reached _ _ (more way old next new before turn) is =

@@ -5,7 +5,7 @@ use Rattle.journal_lines.specs.declared.line.Journal.{Journal}
 use Rattle.disk_model.specs.Disk.{Call}
 use Rattle.open_volume.specs.declared.volume.VolumeSoFar.{VolumeSoFar}
 use Rattle.volume_store.specs.Volumes.{ended_volume}
-use Rattle.server_core.specs.Running.{RunState}
+use Rattle.server_core.specs.ServerStates.{CoreState}
 use Rattle.server_core.specs.Servers.{IsServers}
 use Rattle.server_core.specs.Laws.{StaysServers, RollsServers}
 use Rattle.node_daemon.specs.Turning.{Ways, IsTurn, SinceThen}
@@ -14,7 +14,7 @@ use Rattle.node_daemon.specs.Turning.{Ways, IsTurn, SinceThen}
 -- the open volume goes on, or it ends, and the next one goes on behind it. Each says what a loss of power leaves at
 -- each moment meanwhile (specs/Laws of server_laws).
 pub data Keeps {P : Type 0} (role : Role) (earlier : List VolumeSoFar) (files : List (List Call)) (j : Journal)
-    (heard begun put : RunState P) : List VolumeSoFar → List (List Call) → Type 0 where
+    (heard begun put : CoreState P) : List VolumeSoFar → List (List Call) → Type 0 where
   goes_on : StaysServers role earlier files j begun.names begun.volume put.volume
       → Keeps role earlier files j heard begun put earlier files
   rolls : (closed : Journal) (ended : List Call)
@@ -26,12 +26,12 @@ pub data Keeps {P : Type 0} (role : Role) (earlier : List VolumeSoFar) (files : 
 -- Turns, one after the other, each of which keeps the server's volumes: which of them have ended by now, in which
 -- files, and the journal of the open one, as far as it is in its file.
 pub data Lasts {P Line : Type 0} (Listens : Line → Line → Type 0) (Sends : Line → P → List ℕ → Line → Type 0)
-    (transit : ℕ) (first : Ways Line) (begun : RunState P) (role : Role) (earlier : List VolumeSoFar)
+    (transit : ℕ) (first : Ways Line) (begun : CoreState P) (role : Role) (earlier : List VolumeSoFar)
     (files : List (List Call)) (j : Journal)
-    : Ways Line → RunState P → List VolumeSoFar → List (List Call) → Journal → Type 0 where
+    : Ways Line → CoreState P → List VolumeSoFar → List (List Call) → Journal → Type 0 where
   at_first : Lasts Listens Sends transit first begun role earlier files j first begun earlier files j
-  one_more : (way : Ways Line) (old : RunState P) (ended : List VolumeSoFar) (settled : List (List Call)) (k : Journal)
-      (next : Ways Line) (new : RunState P) (ended_now : List VolumeSoFar) (settled_now : List (List Call))
+  one_more : (way : Ways Line) (old : CoreState P) (ended : List VolumeSoFar) (settled : List (List Call)) (k : Journal)
+      (next : Ways Line) (new : CoreState P) (ended_now : List VolumeSoFar) (settled_now : List (List Call))
       → Lasts Listens Sends transit first begun role earlier files j way old ended settled k
       → (turn : IsTurn Listens Sends transit way old next new)
       → Keeps role ended settled k turn.ready turn.begun turn.tells.settled ended_now settled_now
@@ -41,10 +41,10 @@ pub data Lasts {P Line : Type 0} (Listens : Line → Line → Type 0) (Sends : L
 -- The volumes of a daemon that began with a server's are that server's: turns were made that kept them, and since the
 -- last one nothing was put to the disk.
 pub record HasLasted {P Line : Type 0} (Listens : Line → Line → Type 0) (Sends : Line → P → List ℕ → Line → Type 0)
-    (transit : ℕ) (first : Ways Line) (begun : RunState P) (last : Ways Line) (role : Role) (earlier : List VolumeSoFar)
+    (transit : ℕ) (first : Ways Line) (begun : CoreState P) (last : Ways Line) (role : Role) (earlier : List VolumeSoFar)
     (files : List (List Call)) (j : Journal) : Type 0 where
   pub way : Ways Line
-  pub reached : RunState P
+  pub reached : CoreState P
   pub ended : List VolumeSoFar
   pub settled : List (List Call)
   pub journal : Journal

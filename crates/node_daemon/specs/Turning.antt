@@ -1,15 +1,15 @@
 -- What a daemon does to a server, its clients and its partner, turn after turn.
 use Rattle.std.specs.Prelude.{◌≡◌, ◌⊎◌, ℕ, List, [], Option}
-use Rattle.daemon_devices.specs.Giving.{Sent}
+use Rattle.daemon_io.specs.ConnectionWrites.{Sent}
 use Rattle.server_core.specs.Served.{receipts_in}
-use Rattle.link_talk.specs.declared.outbox.Handed.{Handed}
-use Rattle.server_core.specs.declared.leaving.HeldAnswer.{HeldAnswer}
-use Rattle.server_core.specs.Running.{RunState}
+use Rattle.failover_session.specs.declared.outbox.OutboundFrame.{OutboundFrame}
+use Rattle.server_core.specs.declared.committed_output.HeldAnswer.{HeldAnswer}
+use Rattle.server_core.specs.ServerStates.{CoreState}
 use Rattle.server_core.specs.Saying.{AreBacked, handed_of}
-use Rattle.server_core.specs.Settling.{IsRolled, IsSettled}
-use Rattle.daemon_parties.specs.Hearing.{MayHear, HasSameFiles}
-use Rattle.daemon_parties.specs.Saying.{frames_of, SaysOver, MayStand}
-use Rattle.daemon_parties.specs.Telling.{AllLeave}
+use Rattle.server_core.specs.Committing.{IsRolled, IsCommitted}
+use Rattle.daemon_endpoints.specs.Receiving.{MayReceive, HasSameFiles}
+use Rattle.daemon_endpoints.specs.Saying.{frames_of, SaysOver, MayStand}
+use Rattle.daemon_endpoints.specs.Sending.{AllLeave}
 
 -- Listens and Sends say of a way to those who send datagrams, before and behind a call, that one may have come, and
 -- what was sent
@@ -23,19 +23,19 @@ abbrev pub ways : {Line : Type 0} → Line → Option Sent → Ways Line
 ways datagrams link = record { datagrams = datagrams; link = link }
 
 -- the next volume was begun, or none was
-abbrev pub MayRoll : {P : Type 0} → RunState P → RunState P → Type 0
+abbrev pub MayRoll : {P : Type 0} → CoreState P → CoreState P → Type 0
 MayRoll old new = (new ≡ old) ⊎ IsRolled old new
 
 -- All lines were put to the disk. Only then the answers that were held back left, and the frames, each of which is what
 -- a receipt of these lines says, went to the partner.
-pub record Tells {P Line : Type 0} (Sends : Line → P → List ℕ → Line → Type 0) (transit : ℕ)
-    (way : Ways Line) (old : RunState P) (next : Ways Line) (new : RunState P) : Type 0 where
-  pub settled : RunState P
+pub record SendsAfterCommit {P Line : Type 0} (Sends : Line → P → List ℕ → Line → Type 0) (transit : ℕ)
+    (way : Ways Line) (old : CoreState P) (next : Ways Line) (new : CoreState P) : Type 0 where
+  pub settled : CoreState P
   pub answers : List (HeldAnswer P)
-  pub settles : IsSettled old answers settled
+  pub settles : IsCommitted old answers settled
   pub now : ℕ
   pub leave : AllLeave Sends transit now way.datagrams answers next.datagrams
-  pub frames : List Handed
+  pub frames : List OutboundFrame
   pub held : frames ≡ handed_of old.talk
   pub backed : AreBacked (receipts_in old.volume.served) frames
   pub said : SaysOver (frames_of frames) way.link next.link
@@ -43,35 +43,35 @@ pub record Tells {P Line : Type 0} (Sends : Line → P → List ℕ → Line →
 
 -- A turn: what came was heard; the next volume was begun, where one was due; then what was held back was told.
 pub record IsTurn {P Line : Type 0} (Listens : Line → Line → Type 0) (Sends : Line → P → List ℕ → Line → Type 0)
-    (transit : ℕ) (way : Ways Line) (old : RunState P) (next : Ways Line) (new : RunState P) : Type 0 where
+    (transit : ℕ) (way : Ways Line) (old : CoreState P) (next : Ways Line) (new : CoreState P) : Type 0 where
   pub heard : Ways Line
-  pub hears : MayHear Listens way.datagrams heard.datagrams
+  pub hears : MayReceive Listens way.datagrams heard.datagrams
   pub stands : MayStand way.link heard.link
-  pub ready : RunState P
+  pub ready : CoreState P
   pub same : HasSameFiles old ready
-  pub begun : RunState P
+  pub begun : CoreState P
   pub rolls : MayRoll ready begun
-  pub tells : Tells Sends transit heard begun next new
+  pub tells : SendsAfterCommit Sends transit heard begun next new
 
 -- turns, one after the other
 pub data Turns {P Line : Type 0} (Listens : Line → Line → Type 0) (Sends : Line → P → List ℕ → Line → Type 0)
-    (transit : ℕ) (first : Ways Line) (begun : RunState P) : Ways Line → RunState P → Type 0 where
+    (transit : ℕ) (first : Ways Line) (begun : CoreState P) : Ways Line → CoreState P → Type 0 where
   none : Turns Listens Sends transit first begun first begun
-  more : (way : Ways Line) (old : RunState P) (next : Ways Line) (new : RunState P)
+  more : (way : Ways Line) (old : CoreState P) (next : Ways Line) (new : CoreState P)
       → Turns Listens Sends transit first begun way old → IsTurn Listens Sends transit way old next new
       → Turns Listens Sends transit first begun next new
 
 -- Since the last turn datagrams may have come, and none was sent; the partner was told nothing but perhaps the last
 -- word.
 pub record SinceThen {Line : Type 0} (Listens : Line → Line → Type 0) (way last : Ways Line) : Type 0 where
-  pub hears : MayHear Listens way.datagrams last.datagrams
+  pub hears : MayReceive Listens way.datagrams last.datagrams
   pub stood : Option Sent
   pub stands : MayStand way.link stood
   pub said : SaysOver [] stood last.link
 
 -- all that was told was told in a turn, behind its sync
 abbrev pub HasTurned : {P Line : Type 0} → (Line → Line → Type 0) → (Line → P → List ℕ → Line → Type 0)
-    → (transit : ℕ) → Ways Line → RunState P → Ways Line → Type 0
+    → (transit : ℕ) → Ways Line → CoreState P → Ways Line → Type 0
 HasTurned {P} {Line} Listens Sends transit first begun last =
-    (way : Ways Line) × (reached : RunState P) × Turns Listens Sends transit first begun way reached
+    (way : Ways Line) × (reached : CoreState P) × Turns Listens Sends transit first begun way reached
     × SinceThen Listens way last

@@ -1,29 +1,31 @@
 //! What a running server does as a person tells it.
 
 ghost use Rattle.std.specs.Prelude.{◌≡◌};
-ghost use Rattle.daemon_parties.specs.Hearing.{HasSameFiles};
-ghost use Rattle.node_daemon.specs.declared.commands.Refusal.TheVariants.{Memory};
+ghost use Rattle.daemon_endpoints.specs.Receiving.{HasSameFiles};
+ghost use Rattle.node_daemon.specs.declared.commands.RequestRefusal.TheVariants.{Memory};
 
 use crate::daemon::Daemon;
 use crate::reporting::{standing_of, units_of, volume_of};
 use binding_rules::ServerState;
-use daemon_devices::{Control, Datagrams, Door, Rest};
-use daemon_parties::{Clocks, Moment};
-use disk_files::AccessKeeper;
+use daemon_endpoints::{Clocks, Moment};
+use daemon_io::{ConnectionSource, Control, Datagrams, Poller};
+use disk_files::AccessRecordStore;
 use disk_model::Folder;
 use lead_time::Reading;
 use locked_book::ServeError;
 use order_book::Order;
-use server_core::Running;
-use server_notices::Happening;
-use server_status::{ClockState, Form, Leave, Link, Request, Status};
-use server_upkeep::{Bar, Roll, Told};
+use server_core::ServerCore;
+use server_log::LogEvent;
+use server_status::{
+    ClockState, ControlRequest, LinkState, ServerStatus, ShutdownMode, StatusFormat,
+};
+use server_timers::{OperatorRequest, RollBlocked, RollState};
 use std::alloc::AllocError;
 use thiserror::Error;
 
 /// Why a request is refused.
 #[derive(Clone, Copy, Debug, PartialEq, Eq, Error)]
-enum Refusal {
+enum RequestRefusal {
     /// The clock is too far behind the journal.
     #[error("the clock is behind the journal by more than twice the skew: set it right first")]
     ClockBehind,
@@ -44,37 +46,36 @@ enum Refusal {
     Memory,
 }
 
-impl From<AllocError> for Refusal {
+impl From<AllocError> for RequestRefusal {
     ghost from_gives = { λ _ e. e ≡ Memory };
 
-    fn from(_error: AllocError) -> Refusal {
-        Refusal::Memory
+    fn from(_error: AllocError) -> RequestRefusal {
+        RequestRefusal::Memory
     }
 }
 
-impl From<Bar> for Refusal {
-    fn from(bar: Bar) -> Refusal {
+impl From<RollBlocked> for RequestRefusal {
+    fn from(bar: RollBlocked) -> RequestRefusal {
         match bar {
-            Bar::PartnerDown => Refusal::PartnerDown,
-            Bar::UnitMarked => Refusal::UnitMarked,
+            RollBlocked::PartnerDown => RequestRefusal::PartnerDown,
+            RollBlocked::UnitMarked => RequestRefusal::UnitMarked,
         }
     }
 }
 
-impl<G: Datagrams, D: Door, K: Control, C: Clocks, T: Rest, A: AccessKeeper, L: Print> Daemon<
-    '_,
-    G,
-    D,
-    K,
-    C,
-    T,
-    A,
-    L,
-> {
+impl<
+    G: Datagrams,
+    D: ConnectionSource,
+    K: Control,
+    C: Clocks,
+    T: Poller,
+    A: AccessRecordStore,
+    L: Print,
+> Daemon<'_, G, D, K, C, T, A, L> {
     /// Hears one request, if one has come, and does it; its answer is held back. Returns whether one had come.
-    pub(crate) fn heed_request<F: Folder + Drop>(
+    pub(crate) fn handle_request<F: Folder + Drop>(
         &mut self,
-        running: &mut Running<F, G::Peer>,
+        running: &mut ServerCore<F, G::Peer>,
         now: &Moment,
     ) -> bool
     where
@@ -83,18 +84,18 @@ impl<G: Datagrams, D: Door, K: Control, C: Clocks, T: Rest, A: AccessKeeper, L: 
         ensures link { self.new.partner ≡ self.old.partner }
         ensures files { HasSameFiles running.old running.new }
     {
-        let Some(request) = self.desk.hear(now.instant) else {
+        let Some(request) = self.desk.next_request(now.instant) else {
             return false;
         };
         match self.done(request, running, now) {
-            Ok(text) => self.desk.grant(text.as_str()),
+            Ok(text) => self.desk.accept_request(text.as_str()),
             Err(refusal) => self.refuse(&refusal),
         }
         true
     }
 
     /// Refuses a request.
-    fn refuse(&mut self, refusal: &Refusal)
+    fn refuse(&mut self, refusal: &RequestRefusal)
         ensures clients { self.new.clients ≡ self.old.clients }
         ensures link { self.new.partner ≡ self.old.partner }
     {
@@ -107,30 +108,32 @@ impl<G: Datagrams, D: Door, K: Control, C: Clocks, T: Rest, A: AccessKeeper, L: 
     /// Does what is asked, and gives the text to tell.
     fn done<F: Folder + Drop>(
         &mut self,
-        request: Request,
-        running: &mut Running<F, G::Peer>,
+        request: ControlRequest,
+        running: &mut ServerCore<F, G::Peer>,
         now: &Moment,
-    ) -> Result<String, Refusal>
+    ) -> Result<String, RequestRefusal>
     where
         F::File: Drop,
         ensures clients { self.new.clients ≡ self.old.clients }
         ensures link { self.new.partner ≡ self.old.partner }
         ensures files { HasSameFiles running.old running.new }
     {
-        if let Request::Status(form) = request {
+        if let ControlRequest::Status(form) = request {
             return Ok(self.status(running, now)?.text(self.alloc, form)?);
         }
-        if request != Request::Stop(Leave::Open) && self.watch.clock() == ClockState::Behind {
-            return Err(Refusal::ClockBehind);
+        if request != ControlRequest::Stop(ShutdownMode::Open)
+            && self.watch.clock() == ClockState::Behind
+        {
+            return Err(RequestRefusal::ClockBehind);
         }
         match request {
-            Request::Status(_) => {}
-            Request::Stop(leave) => self.stop(leave, running, now)?,
-            Request::Roll => self.ask_roll(running)?,
-            Request::PartnerDown => self.take_for_down(running, now)?,
-            Request::PartnerNormal => {
+            ControlRequest::Status(_) => {}
+            ControlRequest::Stop(leave) => self.stop(leave, running, now)?,
+            ControlRequest::Roll => self.ask_roll(running)?,
+            ControlRequest::PartnerDown => self.take_for_down(running, now)?,
+            ControlRequest::PartnerNormal => {
                 order(running, now, &Order::State(ServerState::Normal))?;
-                self.log.tell(&Happening::PartnerNormal);
+                self.log.log(&LogEvent::PartnerNormal);
             }
         }
         Ok(String::new(self.alloc))
@@ -139,35 +142,38 @@ impl<G: Datagrams, D: Door, K: Control, C: Clocks, T: Rest, A: AccessKeeper, L: 
     /// Stops behind this turn, with the volume open or closed.
     fn stop<F: Folder + Drop>(
         &mut self,
-        leave: Leave,
-        running: &mut Running<F, G::Peer>,
+        leave: ShutdownMode,
+        running: &mut ServerCore<F, G::Peer>,
         now: &Moment,
-    ) -> Result<(), Refusal>
+    ) -> Result<(), RequestRefusal>
     where
         F::File: Drop,
         ensures clients { self.new.clients ≡ self.old.clients }
         ensures link { self.new.partner ≡ self.old.partner }
         ensures files { HasSameFiles running.old running.new }
     {
-        if leave == Leave::Closed {
+        if leave == ShutdownMode::Closed {
             order(running, now, &Order::Close)?;
         }
         self.leave = Some(leave);
-        self.log.tell(&Happening::Stops);
+        self.log.log(&LogEvent::Stops);
         Ok(())
     }
 
     /// Begins the next volume in this turn, where the rules let.
-    fn ask_roll<F: Folder + Drop>(&mut self, running: &Running<F, G::Peer>) -> Result<(), Refusal>
+    fn ask_roll<F: Folder + Drop>(
+        &mut self,
+        running: &ServerCore<F, G::Peer>,
+    ) -> Result<(), RequestRefusal>
     where
         F::File: Drop,
         ensures clients { self.new.clients ≡ self.old.clients }
         ensures link { self.new.partner ≡ self.old.partner }
     {
-        match running.bar() {
-            Some(bar) => Err(Refusal::from(bar)),
+        match running.roll_blocked() {
+            Some(bar) => Err(RequestRefusal::from(bar)),
             None => {
-                self.told = Told::ToRoll;
+                self.told = OperatorRequest::Roll;
                 Ok(())
             }
         }
@@ -176,9 +182,9 @@ impl<G: Datagrams, D: Door, K: Control, C: Clocks, T: Rest, A: AccessKeeper, L: 
     /// Takes the partner for down, unless there is a connection with it.
     fn take_for_down<F: Folder + Drop>(
         &mut self,
-        running: &mut Running<F, G::Peer>,
+        running: &mut ServerCore<F, G::Peer>,
         now: &Moment,
-    ) -> Result<(), Refusal>
+    ) -> Result<(), RequestRefusal>
     where
         F::File: Drop,
         ensures clients { self.new.clients ≡ self.old.clients }
@@ -186,35 +192,35 @@ impl<G: Datagrams, D: Door, K: Control, C: Clocks, T: Rest, A: AccessKeeper, L: 
         ensures files { HasSameFiles running.old running.new }
     {
         if self.partner.connected().is_some() {
-            return Err(Refusal::PartnerConnected);
+            return Err(RequestRefusal::PartnerConnected);
         }
         order(running, now, &Order::State(ServerState::Down))?;
-        self.log.tell(&Happening::PartnerDown);
+        self.log.log(&LogEvent::PartnerDown);
         Ok(())
     }
 
     /// How the server is linked to its partner.
-    fn link(&self) -> Link {
+    fn link(&self) -> LinkState {
         match self.partner.connected() {
-            Some(since) => Link::Connected { since },
-            None if self.is_alone => Link::Alone,
-            None => Link::Apart,
+            Some(since) => LinkState::Connected { since },
+            None if self.is_alone => LinkState::Alone,
+            None => LinkState::Apart,
         }
     }
 
     /// How the server is.
     fn status<F: Folder + Drop>(
         &self,
-        running: &Running<F, G::Peer>,
+        running: &ServerCore<F, G::Peer>,
         now: &Moment,
-    ) -> Result<Status, AllocError>
+    ) -> Result<ServerStatus, AllocError>
     where
         F::File: Drop,
     {
         let book = running.book();
         let growth = self.growth(book, now);
         let owed = self.owed(running, now);
-        Ok(Status {
+        Ok(ServerStatus {
             role: book.role(),
             reading: now.reading,
             clock: self.watch.clock(),
@@ -231,16 +237,16 @@ impl<G: Datagrams, D: Door, K: Control, C: Clocks, T: Rest, A: AccessKeeper, L: 
 
 /// Gives the server an order.
 fn order<F: Folder + Drop, P: Drop>(
-    running: &mut Running<F, P>,
+    running: &mut ServerCore<F, P>,
     now: &Moment,
     order: &Order,
-) -> Result<(), Refusal>
+) -> Result<(), RequestRefusal>
 where
     F::File: Drop,
     ensures files { HasSameFiles running.old running.new }
 {
     match running.serve(now.reading, order) {
         Ok(_) => Ok(()),
-        Err(refusal) => Err(Refusal::Book(refusal)),
+        Err(refusal) => Err(RequestRefusal::Book(refusal)),
     }
 }

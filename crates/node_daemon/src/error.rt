@@ -1,8 +1,8 @@
 //! Why a daemon ends by itself.
 
-use daemon_parties::HearingError;
-use folder_start::NotRolled;
-use server_core::{EndFault, SettleError};
+use daemon_endpoints::ReceiveError;
+use folder_start::RollFailure;
+use server_core::{EndFault, VolumeCommitError};
 use std::io;
 use thiserror::Error;
 
@@ -11,16 +11,16 @@ use thiserror::Error;
 pub enum DaemonError {
     /// The journal wasn't written: what was held back is never told.
     #[error("{0}")]
-    NotSettled(SettleError),
+    NotCommitted(VolumeCommitError),
     /// The volume was to be followed, and wasn't.
     #[error("the volume isn't followed: {0}")]
-    NotRolled(NotRolled),
+    NotRolled(RollFailure),
     /// The volume that was closed wasn't ended.
     #[error("the volume isn't ended: {0}")]
     NotEnded(EndFault),
     /// Nobody can be heard any more.
     #[error("{0}")]
-    Hearing(HearingError),
+    Hearing(ReceiveError),
     /// It can't wait for what comes.
     #[error("can't wait for what comes: {0}")]
     Rest(io::Error),
@@ -29,8 +29,8 @@ pub enum DaemonError {
     Memory,
 }
 
-impl From<HearingError> for DaemonError {
-    fn from(error: HearingError) -> DaemonError {
+impl From<ReceiveError> for DaemonError {
+    fn from(error: ReceiveError) -> DaemonError {
         DaemonError::Hearing(error)
     }
 }
@@ -40,9 +40,9 @@ impl DaemonError {
     pub fn is_disk(&self) -> bool {
         matches!(
             self,
-            DaemonError::NotSettled(_)
+            DaemonError::NotCommitted(_)
                 | DaemonError::NotEnded(_)
-                | DaemonError::NotRolled(NotRolled::NotEnded(_) | NotRolled::NotBegun)
+                | DaemonError::NotRolled(RollFailure::NotEnded(_) | RollFailure::NotBegun)
         )
     }
 }

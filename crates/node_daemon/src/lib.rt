@@ -1,7 +1,7 @@
 //! A server of a pair as a daemon of one thread.
 //!
-//! A [`Daemon`] runs a server (`server_core`) over devices that don't wait (`daemon_devices`), a turn after another: it
-//! hears clients, the partner and the control socket (`daemon_parties`), does what is owed, puts all new lines to the
+//! A [`Daemon`] runs a server (`server_core`) over devices that don't wait (`daemon_io`), a turn after another: it
+//! hears clients, the partner and the control socket (`daemon_endpoints`), does what is owed, puts all new lines to the
 //! disk by one write and one sync, and only then tells: answers to their clients, frames to the partner, and the
 //! control socket. So nothing is told that a loss of power could take back: [`Daemon::run`] promises it.
 //!

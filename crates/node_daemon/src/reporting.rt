@@ -5,8 +5,8 @@ use book_state::Pool;
 use journal_lines::{Event, Line};
 use lead_time::Reading;
 use order_book::Book;
-use server_status::{Standing, UnitCounts, VolumeStatus};
-use server_upkeep::{Growth, Owed};
+use server_status::{PartnerState, UnitCounts, VolumeStatus};
+use server_timers::{DueActions, Growth};
 
 /// Counts the units of a pool.
 fn count_units(book: &Book, pool: &Pool, counts: &mut UnitCounts) {
@@ -40,13 +40,13 @@ fn restarted(book: &Book) -> Option<Reading> {
 }
 
 /// What a server takes its partner for.
-pub(crate) fn standing_of(book: &Book, now: Reading) -> Standing {
+pub(crate) fn standing_of(book: &Book, now: Reading) -> PartnerState {
     match book.down() {
-        Some(since) => Standing::Down { since },
-        None if book.waiting() => Standing::Waiting {
+        Some(since) => PartnerState::Down { since },
+        None if book.waiting() => PartnerState::Waiting {
             since: restarted(book).unwrap_or(now),
         },
-        None => Standing::Normal,
+        None => PartnerState::Normal,
     }
 }
 
@@ -83,7 +83,12 @@ pub(crate) fn growth_of(book: &Book, head_lines: usize, now: Reading) -> Growth 
 }
 
 /// How the open volume is.
-pub(crate) fn volume_of(book: &Book, kept: usize, growth: &Growth, owed: &Owed) -> VolumeStatus {
+pub(crate) fn volume_of(
+    book: &Book,
+    kept: usize,
+    growth: &Growth,
+    owed: &DueActions,
+) -> VolumeStatus {
     VolumeStatus {
         number: book.head().volume(),
         lines: growth.lines,

@@ -8,17 +8,19 @@ use crate::error::DaemonError;
 use crate::reporting::head_lines_of;
 use binding_rules::Role;
 use client_limits::{Limiter, Limits};
-use daemon_devices::{ControlSocket, Readiness, SystemDoor, UdpDatagrams, Watched};
-use daemon_parties::{Clients, Clocks, Desk, HearingError, Moment, Partner, SystemClocks};
-use disk_files::{FolderError, FolderKeeper, RealFolder, RealVolumes};
-use folder_start::{Began, Pairing, StartFailure, Started, start};
-use link_auth::{Keeper, LinkKey, Side};
+use daemon_endpoints::{
+    ClientEndpoint, Clocks, ControlServer, Moment, PartnerEndpoint, ReceiveError, SystemClocks,
+};
+use daemon_io::{ControlSocket, PollRegistry, Readiness, SystemConnectionSource, UdpDatagrams};
+use disk_files::{AccessRecordFolder, FolderError, RealFolder, RealVolumes};
+use folder_start::{Pairing, StartFailure, StartMode, Started, start};
+use link_auth::{HandshakeRole, LinkKey, PeerAuthenticator};
 use order_book::Book;
 use serve_settings::ServeSettings;
-use server_notices::{Happening, Log, Watch};
+use server_log::{Log, LogEvent, StateWatch};
 use server_settings::Settings;
 use server_status::SyncTimes;
-use server_upkeep::Told;
+use server_timers::OperatorRequest;
 use std::alloc::{AllocError, Global};
 use std::fs::Files;
 use std::net::{Net, SocketAddr};
@@ -36,11 +38,11 @@ pub const CONTROL: &str = "control";
 type SystemDaemon<'a, R, L> = Daemon<
     'a,
     UdpDatagrams,
-    SystemDoor<'a, R>,
+    SystemConnectionSource<'a, R>,
     ControlSocket,
     SystemClocks<'a, R>,
     Readiness,
-    FolderKeeper,
+    AccessRecordFolder,
     L,
 >;
 
@@ -71,7 +73,7 @@ pub enum ServeFailure {
 #[derive(Drop)]
 struct Sockets<'a, R: Net + RandomSource> {
     datagrams: UdpDatagrams,
-    door: SystemDoor<'a, R>,
+    door: SystemConnectionSource<'a, R>,
     control: ControlSocket,
     rest: Readiness,
 }
@@ -99,9 +101,9 @@ fn access_in(
     rt: &HostRuntime,
     folder: &RealFolder,
     role: Role,
-) -> Result<FolderKeeper, ServeFailure> {
+) -> Result<AccessRecordFolder, ServeFailure> {
     match folder.shared(rt) {
-        Ok(folder) => Ok(FolderKeeper::new(*rt, folder, role)),
+        Ok(folder) => Ok(AccessRecordFolder::new(*rt, folder, role)),
         Err(error) => Err(ServeFailure::Folder(FolderError::System(error))),
     }
 }
@@ -110,27 +112,27 @@ fn access_in(
 fn limiter_of<L: Print>(
     alloc: Global,
     limits: Limits,
-    keeper: &FolderKeeper,
+    keeper: &AccessRecordFolder,
     book: &Book,
     log: &Log<'_, L>,
 ) -> Limiter {
     let mut limiter = Limiter::new(alloc, limits);
-    let records = match keeper.read_back(book.head().volume()) {
+    let records = match keeper.read_records(book.head().volume()) {
         Ok(records) => records,
         Err(_) => {
-            log.tell(&Happening::AccessUnread);
+            log.log(&LogEvent::AccessUnread);
             Vec::new(alloc)
         }
     };
     if limiter.restore(book, records).is_err() {
-        log.tell(&Happening::AccessUnread);
+        log.log(&LogEvent::AccessUnread);
     }
     limiter
 }
 
 /// What the clocks read, or that they tell no time.
 fn moment<R: Handle>(clocks: &SystemClocks<'_, R>) -> Result<Moment, ServeFailure> {
-    clocks.now().ok_or(ServeFailure::Ended(DaemonError::Hearing(HearingError::Clock)))
+    clocks.now().ok_or(ServeFailure::Ended(DaemonError::Hearing(ReceiveError::Clock)))
 }
 
 /// The door by which the partner comes, by a server's role; shut where it has none.
@@ -138,22 +140,22 @@ fn door_of<'a, R: Net + RandomSource, L: Print>(
     system: &'a R,
     role: Role,
     link: Option<SocketAddr>,
-    watched: Watched,
+    watched: PollRegistry,
     now: &Moment,
     log: &Log<'_, L>,
-) -> Result<SystemDoor<'a, R>, ServeFailure> {
+) -> Result<SystemConnectionSource<'a, R>, ServeFailure> {
     let Some(address) = link else {
-        log.tell(&Happening::IsAlone);
-        return Ok(SystemDoor::shut(system, watched));
+        log.log(&LogEvent::IsAlone);
+        return Ok(SystemConnectionSource::shut(system, watched));
     };
     match role {
         Role::Primary => {
-            log.tell(&Happening::Calls(address));
-            Ok(SystemDoor::call(system, address, watched, now.instant))
+            log.log(&LogEvent::Calls(address));
+            Ok(SystemConnectionSource::call(system, address, watched, now.instant))
         }
-        Role::Secondary => match SystemDoor::listen(system, address, watched) {
+        Role::Secondary => match SystemConnectionSource::listen(system, address, watched) {
             Ok(door) => {
-                log.tell(&Happening::ListensForPartner(address));
+                log.log(&LogEvent::ListensForPartner(address));
                 Ok(door)
             }
             Err(error) => Err(ServeFailure::Listen { address, error }),
@@ -170,8 +172,8 @@ fn readiness(net: &impl Net, alloc: Global) -> Result<Readiness, ServeFailure> {
 }
 
 /// The sockets that end a rest.
-fn watched_by(rest: &Readiness) -> Result<Watched, ServeFailure> {
-    match rest.watched() {
+fn watched_by(rest: &Readiness) -> Result<PollRegistry, ServeFailure> {
+    match rest.registry() {
         Ok(watched) => Ok(watched),
         Err(error) => Err(ServeFailure::Ended(DaemonError::Rest(error))),
     }
@@ -182,7 +184,7 @@ fn control_of<R: Files + Net>(
     rt: &R,
     alloc: Global,
     directory: &str,
-    watched: Watched,
+    watched: PollRegistry,
 ) -> Result<ControlSocket, ServeFailure> {
     let Ok(path) = Path::new(directory).join(alloc, CONTROL) else {
         return Err(ServeFailure::Ended(DaemonError::Memory));
@@ -209,7 +211,7 @@ fn open_sockets<'a, R: Files + Net + RandomSource, L: Print>(
         Ok(datagrams) => datagrams,
         Err(error) => return Err(ServeFailure::Listen { address, error }),
     };
-    log.tell(&Happening::Listens(address));
+    log.log(&LogEvent::Listens(address));
     let door = door_of(
         rt,
         node.server.role(),
@@ -265,14 +267,14 @@ fn pairing_of(link: Option<SocketAddr>) -> Pairing {
 /// Tells with what a server has started.
 fn tell_start<L: Print>(log: &Log<'_, L>, started: &Started<RealVolumes, SocketAddr>) {
     if started.torn > 0 {
-        log.tell(&Happening::Cut {
+        log.log(&LogEvent::Cut {
             octets: started.torn,
         });
     }
     let volume = started.running.book().head().volume();
-    log.tell(&match started.began {
-        Began::First | Began::Next => Happening::Begins { volume },
-        Began::Again => Happening::GoesOn {
+    log.log(&match started.began {
+        StartMode::First | StartMode::Next => LogEvent::Begins { volume },
+        StartMode::Again => LogEvent::GoesOn {
             volume,
             lines: started.running.kept(),
         },
@@ -280,12 +282,12 @@ fn tell_start<L: Print>(log: &Log<'_, L>, started: &Started<RealVolumes, SocketA
 }
 
 /// How a server lets its partner in: the primary calls, and the secondary is called.
-fn keeper_of(role: Role, key: Option<LinkKey>) -> Keeper {
+fn keeper_of(role: Role, key: Option<LinkKey>) -> PeerAuthenticator {
     let side = match role {
-        Role::Primary => Side::Caller,
-        Role::Secondary => Side::Called,
+        Role::Primary => HandshakeRole::Initiator,
+        Role::Secondary => HandshakeRole::Responder,
     };
-    Keeper { side, key }
+    PeerAuthenticator { side, key }
 }
 
 /// The daemon of settings and sockets, for a server that has this book.
@@ -295,7 +297,7 @@ fn daemon_of<'a, R: Net + RandomSource + Handle, L: Print>(
     settings: &'a ServeSettings,
     key: Option<LinkKey>,
     sockets: Sockets<'a, R>,
-    keeper: FolderKeeper,
+    keeper: AccessRecordFolder,
     book: &Book,
     log: Log<'a, L>,
 ) -> Result<SystemDaemon<'a, R, L>, AllocError> {
@@ -304,18 +306,18 @@ fn daemon_of<'a, R: Net + RandomSource + Handle, L: Print>(
     Ok(Daemon {
         alloc,
         settings: server,
-        manner: &settings.manner,
+        manner: &settings.reply_policy,
         upkeep: settings.upkeep,
-        clients: Clients::new(alloc, sockets.datagrams, server.transit(), limiter)?,
-        partner: Partner::new(alloc, sockets.door, keeper_of(server.role(), key))?,
-        desk: Desk::new(alloc, sockets.control),
+        clients: ClientEndpoint::new(alloc, sockets.datagrams, server.transit(), limiter)?,
+        partner: PartnerEndpoint::new(alloc, sockets.door, keeper_of(server.role(), key))?,
+        desk: ControlServer::new(alloc, sockets.control),
         clocks: SystemClocks::new(rt),
         rest: sockets.rest,
         keeper,
         log,
-        watch: Watch::new(),
+        watch: StateWatch::new(),
         syncs: SyncTimes::new(alloc),
-        told: Told::Nothing,
+        told: OperatorRequest::Nothing,
         is_alone: settings.node.ways.link.is_none(),
         leave: None,
         head_lines: head_lines_of(book),
@@ -360,7 +362,7 @@ pub fn serve<R: Wait + Files + Net + RandomSource + Handle, L: Print>(
     )?;
     tell_start(&log, &started);
     if settings.node.ways.link.is_some() && key.is_none() {
-        log.tell(&Happening::HasNoKey);
+        log.log(&LogEvent::HasNoKey);
     }
     let Started { running, .. } = started;
     let Ok(mut daemon) = daemon_of(

@@ -1,6 +1,6 @@
 //! A connection to the partner, and what became of it.
 
-use node_threads::{Got, NetFault, Pauses, TcpWire, Wire};
+use node_threads::{Got, IdleTimer, NetFault, TcpWire, Wire};
 use std::io::{Read, Write};
 use std::net::{OpenListener, OpenStream};
 use std::time::{Clock as Handle, Duration};
@@ -21,13 +21,13 @@ const MUCH: u32 = 10;
 /// up where nothing comes over it at first, and where a second one comes after a minute of silence: its other end may
 /// have lost it without a word.
 #[derive(Drop)]
-pub struct Connection<'a, R: Handle, S: Read + Write + OpenStream + Drop, L: OpenListener> {
+pub struct PartnerWire<'a, R: Handle, S: Read + Write + OpenStream + Drop, L: OpenListener> {
     wire: TcpWire<'a, R, S>,
     listener: Option<&'a L>,
     /// How many reads brought octets.
     heard: u32,
     /// The pauses that make up the next second without octets.
-    pauses: Pauses,
+    pauses: IdleTimer,
     /// How many seconds brought none, since the last octet.
     silence: u32,
     has_rested: bool,
@@ -36,23 +36,23 @@ pub struct Connection<'a, R: Handle, S: Read + Write + OpenStream + Drop, L: Ope
     others: u32,
 }
 
-impl<'a, R: Handle, S: Read + Write + OpenStream + Drop, L: OpenListener> Connection<'a, R, S, L> {
+impl<'a, R: Handle, S: Read + Write + OpenStream + Drop, L: OpenListener> PartnerWire<'a, R, S, L> {
     /// A connection by a stream, whose partner came to the listener, if there is one. A fault where the stream can't be
     /// told how long to wait.
     pub fn new(
         handle: &'a R,
         stream: S,
         listener: Option<&'a L>,
-    ) -> Result<Connection<'a, R, S, L>, NetFault> {
+    ) -> Result<PartnerWire<'a, R, S, L>, NetFault> {
         let longest = Some(Duration::from_secs(LONGEST_WRITE));
         if stream.set_write_timeout(longest).is_err() || stream.set_nodelay(true).is_err() {
             return Err(NetFault);
         }
-        Ok(Connection {
+        Ok(PartnerWire {
             wire: TcpWire::new(handle, stream),
             listener,
             heard: 0,
-            pauses: Pauses::new(),
+            pauses: IdleTimer::new(),
             silence: 0,
             has_rested: false,
             has_ended: false,
@@ -115,7 +115,7 @@ impl<'a, R: Handle, S: Read + Write + OpenStream + Drop, L: OpenListener> Connec
 }
 
 impl<R: Handle, S: Read + Write + OpenStream + Drop, L: OpenListener> Wire
-    for Connection<'_, R, S, L> {
+    for PartnerWire<'_, R, S, L> {
     ghost brings = { λ old octets new. Unit };
 
     ghost writes = { λ old octets new. Unit };

@@ -17,4 +17,4 @@ mod running;
 mod telling;
 
 pub use error::RunError;
-pub use running::{Run, run_node};
+pub use running::{RunResult, run_node};

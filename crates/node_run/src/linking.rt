@@ -1,7 +1,7 @@
 //! The node's end of the link: which connection it has, when it has another, and what a person is told of it.
 
-use crate::connection::Connection;
-use crate::meeting::{Door, FIRST_PAUSE, LATER_PAUSE, door_of, next_stream, rests};
+use crate::connection::PartnerWire;
+use crate::meeting::{FIRST_PAUSE, LATER_PAUSE, PartnerSocket, door_of, next_stream, rests};
 use binding_rules::Role;
 use locked_book::{BookName, Pass, ServeError, SharedBook};
 use node_threads::{Clock, NodeError, Notices, Turns, serve_link};
@@ -13,7 +13,7 @@ use std::time::Clock as Handle;
 
 /// How a connection ended.
 #[derive(Clone, Copy, Debug, PartialEq, Eq)]
-enum Ending {
+enum ConnectionEnd {
     /// This node's workers have ended.
     Served,
     /// The partner said DISCONNECT.
@@ -26,14 +26,14 @@ enum Ending {
     Failed(NodeError),
 }
 
-impl Ending {
+impl ConnectionEnd {
     /// Returns whether there is to be no other connection.
     fn is_last(&self) -> bool {
         matches!(
             self,
-            Ending::Served
-                | Ending::PartnerGone
-                | Ending::Failed(NodeError::Serve(ServeError::Stranger { .. }))
+            ConnectionEnd::Served
+                | ConnectionEnd::PartnerGone
+                | ConnectionEnd::Failed(NodeError::Serve(ServeError::Stranger { .. }))
         )
     }
 }
@@ -44,31 +44,31 @@ fn ending_of(
     has_ended: bool,
     has_failed: bool,
     is_over: bool,
-) -> Ending {
+) -> ConnectionEnd {
     match ended {
-        Ok(()) if is_over => Ending::Served,
-        Ok(()) if has_ended => Ending::Lost,
-        Ok(()) => Ending::PartnerGone,
-        Err(NodeError::Read) if has_failed => Ending::Lost,
-        Err(NodeError::Read) => Ending::Refused,
-        Err(NodeError::Write) => Ending::Lost,
-        Err(fault) => Ending::Failed(fault),
+        Ok(()) if is_over => ConnectionEnd::Served,
+        Ok(()) if has_ended => ConnectionEnd::Lost,
+        Ok(()) => ConnectionEnd::PartnerGone,
+        Err(NodeError::Read) if has_failed => ConnectionEnd::Lost,
+        Err(NodeError::Read) => ConnectionEnd::Refused,
+        Err(NodeError::Write) => ConnectionEnd::Lost,
+        Err(fault) => ConnectionEnd::Failed(fault),
     }
 }
 
 /// Says how a connection ended.
-fn tell<P: Print>(notes: &P, peer: SocketAddr, ending: &Ending) {
+fn tell<P: Print>(notes: &P, peer: SocketAddr, ending: &ConnectionEnd) {
     let _ = match ending {
-        Ending::Served => println!(notes; "node: said DISCONNECT to its partner"),
-        Ending::PartnerGone => println!(notes; "node: its partner said DISCONNECT"),
-        Ending::Lost => println!(notes; "node: lost the connection with {peer}"),
-        Ending::Refused => println!(notes;
+        ConnectionEnd::Served => println!(notes; "node: said DISCONNECT to its partner"),
+        ConnectionEnd::PartnerGone => println!(notes; "node: its partner said DISCONNECT"),
+        ConnectionEnd::Lost => println!(notes; "node: lost the connection with {peer}"),
+        ConnectionEnd::Refused => println!(notes;
             "node: refused {peer}: what it sent may not come there, or one of the two has lost its journal"
         ),
-        Ending::Failed(NodeError::Serve(refusal)) => {
+        ConnectionEnd::Failed(NodeError::Serve(refusal)) => {
             println!(notes; "node: ended the connection with {peer}: {refusal}")
         }
-        Ending::Failed(fault) => {
+        ConnectionEnd::Failed(fault) => {
             println!(notes; "node: ended the connection with {peer}: {fault}")
         }
     };
@@ -86,13 +86,13 @@ fn served<N: BookName, R: Wait + Handle + Net, C: Clock, P: Print, V: Notices>(
     notes: &P,
     notices: &V,
     stream: R::Stream,
-    door: &Door<R::Listener>,
-) -> (Ending, bool) {
+    door: &PartnerSocket<R::Listener>,
+) -> (ConnectionEnd, bool) {
     let Ok(peer) = stream.peer_addr() else {
-        return (Ending::Lost, false);
+        return (ConnectionEnd::Lost, false);
     };
-    let Ok(mut connection) = Connection::new(rt, stream, door.listener()) else {
-        return (Ending::Lost, false);
+    let Ok(mut connection) = PartnerWire::new(rt, stream, door.listener()) else {
+        return (ConnectionEnd::Lost, false);
     };
     let _ = println!(notes; "node: connected with {peer}");
     let ended = serve_link(

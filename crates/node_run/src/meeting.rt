@@ -17,18 +17,18 @@ pub const LATER_PAUSE: u64 = 10_000;
 
 /// Where streams to the partner come from.
 #[derive(Drop)]
-pub enum Door<L: OpenListener + Drop> {
+pub enum PartnerSocket<L: OpenListener + Drop> {
     /// The secondary's address, to which the primary connects.
     Partner(SocketAddr),
     /// The secondary's own listener.
     Listener(L),
 }
 
-impl<L: OpenListener + Drop> Door<L> {
+impl<L: OpenListener + Drop> PartnerSocket<L> {
     pub fn listener(&self) -> Option<&L> {
         match self {
-            Door::Partner(_) => None,
-            Door::Listener(listener) => Some(listener),
+            PartnerSocket::Partner(_) => None,
+            PartnerSocket::Listener(listener) => Some(listener),
         }
     }
 }
@@ -46,13 +46,13 @@ pub fn rests<R: Wait + Handle>(rt: &R, turns: &Turns, milliseconds: u64) -> bool
 
 /// The primary's door is the address, the secondary's a listener there that blocks nobody. `None` where it can't
 /// listen.
-fn opens<R: Net>(rt: &R, role: Role, address: SocketAddr) -> Option<Door<R::Listener>> {
+fn opens<R: Net>(rt: &R, role: Role, address: SocketAddr) -> Option<PartnerSocket<R::Listener>> {
     match role {
-        Role::Primary => Some(Door::Partner(address)),
+        Role::Primary => Some(PartnerSocket::Partner(address)),
         Role::Secondary => {
             let listener = TcpListener::bind(rt, address).ok()?;
             listener.set_nonblocking(true).ok()?;
-            Some(Door::Listener(listener))
+            Some(PartnerSocket::Listener(listener))
         }
     }
 }
@@ -65,7 +65,7 @@ pub fn door_of<R: Wait + Handle + Net, P: Print>(
     address: SocketAddr,
     turns: &Turns,
     notes: &P,
-) -> Option<Door<R::Listener>> {
+) -> Option<PartnerSocket<R::Listener>> {
     let mut pause = FIRST_PAUSE;
     for _ in rt.forever() {
         if let Some(door) = opens(rt, role, address) {
@@ -85,12 +85,12 @@ pub fn door_of<R: Wait + Handle + Net, P: Print>(
 }
 
 /// A stream by the door, if there is one now.
-fn tried<R: Net>(rt: &R, door: &Door<R::Listener>) -> Option<R::Stream> {
+fn tried<R: Net>(rt: &R, door: &PartnerSocket<R::Listener>) -> Option<R::Stream> {
     match door {
-        Door::Partner(address) => {
+        PartnerSocket::Partner(address) => {
             TcpStream::connect_timeout(rt, address, Duration::from_secs(1)).ok()
         }
-        Door::Listener(listener) => {
+        PartnerSocket::Listener(listener) => {
             let (stream, _) = listener.accept().ok()?;
             Some(stream)
         }
@@ -100,12 +100,12 @@ fn tried<R: Net>(rt: &R, door: &Door<R::Listener>) -> Option<R::Stream> {
 /// The next stream to the partner. `None` where the workers have ended before.
 pub fn next_stream<R: Wait + Handle + Net>(
     rt: &R,
-    door: &Door<R::Listener>,
+    door: &PartnerSocket<R::Listener>,
     turns: &Turns,
 ) -> Option<R::Stream> {
     let mut pause = match door {
-        Door::Partner(_) => FIRST_PAUSE,
-        Door::Listener(_) => LOOK,
+        PartnerSocket::Partner(_) => FIRST_PAUSE,
+        PartnerSocket::Listener(_) => LOOK,
     };
     for _ in rt.forever() {
         if let Some(stream) = tried(rt, door) {
@@ -114,7 +114,7 @@ pub fn next_stream<R: Wait + Handle + Net>(
         if !rests(rt, turns, pause) {
             return None;
         }
-        if let Door::Partner(_) = door {
+        if let PartnerSocket::Partner(_) = door {
             pause = LATER_PAUSE;
         }
     }

@@ -4,13 +4,13 @@ ghost use Rattle.std.specs.Prelude.{◌≡◌, ◌≤◌, ◌+◌, length, IfSom
 
 use crate::error::RunError;
 use crate::linking::keep_link;
-use crate::telling::Lines;
+use crate::telling::NoticeLines;
 use binding_rules::ServerState;
 use journal_text::write;
 use locked_book::{BookName, Pass, SharedBook};
 use node_threads::{
-    Clock, EachOnce, NodeError, NodeSettings, Notices, Partner, SystemClock, Turns, UdpMailbox,
-    leave_seats, seats_of, serve_seats,
+    Clock, EachOnce, NodeError, NodeSettings, Notices, PartnerAvailability, SystemClock, Turns,
+    UdpMailbox, leave_seats, seats_of, serve_seats,
 };
 use server_book::{Book, Order};
 use std::alloc::Global;
@@ -23,14 +23,14 @@ use std::thread::Threads;
 use std::time::Clock as Handle;
 
 /// The return of the workers: their passes, and how many datagrams they received in all or why one of them ended.
-struct Done<N: BookName> {
+struct WorkersDone<N: BookName> {
     passes: Vec<Pass<N>>,
     received: Result<u32, NodeError>,
 }
 
 /// The return of a node: the text of its closed journal, and how many datagrams it received or why a worker ended.
 #[derive(Drop)]
-pub struct Run {
+pub struct RunResult {
     pub journal: Vec<u8>,
     pub received: Result<u32, NodeError>,
 }
@@ -41,7 +41,7 @@ struct Node<'a, R, C, P, V> {
     rt: &'a R,
     alloc: Global,
     settings: &'a NodeSettings,
-    partner: Partner,
+    partner: PartnerAvailability,
     socket: &'a UdpSocket,
     clock: &'a C,
     turns: &'a Turns,
@@ -76,7 +76,7 @@ where
         &self,
         shared: &SharedBook<N>,
         passes: Vec<Pass<N>>,
-    ) -> Option<Done<N>> {
+    ) -> Option<WorkersDone<N>> {
         let mut left = Vec::with_capacity(self.alloc, passes.len() + 1).ok()?;
         let mailboxes = self.mailboxes(passes.len())?;
         let mut seats = seats_of(self.alloc, passes, mailboxes).ok()?;
@@ -92,7 +92,7 @@ where
             self.notices,
         );
         match leave_seats(seats, &mut left) {
-            Ok(received) => Some(Done {
+            Ok(received) => Some(WorkersDone {
                 passes: left,
                 received,
             }),
@@ -104,8 +104,8 @@ where
     fn link_address(&self) -> Option<SocketAddr> {
         let address = self.settings.ways.link?;
         match self.partner {
-            Partner::Up => Some(address),
-            Partner::Down => {
+            PartnerAvailability::Up => Some(address),
+            PartnerAvailability::Down => {
                 let _ = println!(self.notes;
                     "node: takes its partner for down, and passes over the link"
                 );
@@ -166,7 +166,7 @@ where
         let Some(done) = done else {
             return Err(RunError::Memory);
         };
-        let Done {
+        let WorkersDone {
             mut passes,
             received,
         } = done;
@@ -193,7 +193,7 @@ fn closes<C: Clock>(book: &mut Book, clock: &C) -> Result<(), RunError> {
 fn opened<C: Clock>(
     alloc: Global,
     settings: &NodeSettings,
-    partner: Partner,
+    partner: PartnerAvailability,
     clock: &C,
 ) -> Result<Book, RunError> {
     let Ok(now) = clock.now() else {
@@ -203,8 +203,8 @@ fn opened<C: Clock>(
         return Err(RunError::Memory);
     };
     match partner {
-        Partner::Up => Ok(book),
-        Partner::Down => match book.apply(now, &Order::State(ServerState::Down)) {
+        PartnerAvailability::Up => Ok(book),
+        PartnerAvailability::Down => match book.apply(now, &Order::State(ServerState::Down)) {
             Ok(_) => Ok(book),
             Err(_) => Err(RunError::Memory),
         },
@@ -219,9 +219,9 @@ pub fn run_node<R: Threads + Wait + Sync + Net + Handle, P: Print + Sync>(
     alloc: Global,
     settings: &NodeSettings,
     count: u32,
-    partner: Partner,
+    partner: PartnerAvailability,
     notes: &P,
-) -> Result<Run, RunError>
+) -> Result<RunResult, RunError>
 where
     R::Stream: Send + Drop,
     R::Listener: Send + Drop,
@@ -233,7 +233,7 @@ where
     let _ = println!(notes; "node: listens for clients and relays at {listen}");
     let clock = SystemClock::new(rt);
     let turns = Turns::new(count);
-    let lines = Lines { notes };
+    let lines = NoticeLines { notes };
     let notices = EachOnce::new(&lines);
     let book = opened(alloc, settings, partner, &clock)?;
     let passes = settings.ways.workers() + 1;
@@ -258,7 +258,7 @@ where
     }
     closes(&mut book, &clock)?;
     match write(alloc, book.role(), book.head(), book.journal()) {
-        Ok(journal) => Ok(Run { journal, received }),
+        Ok(journal) => Ok(RunResult { journal, received }),
         Err(_) => Err(RunError::Memory),
     }
 }

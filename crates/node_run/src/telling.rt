@@ -4,11 +4,11 @@ use node_threads::{Notice, Notices};
 
 /// Prints a line for each notice.
 #[derive(Drop)]
-pub struct Lines<'a, P: Print> {
+pub struct NoticeLines<'a, P: Print> {
     pub notes: &'a P,
 }
 
-impl<P: Print> Notices for Lines<'_, P> {
+impl<P: Print> Notices for NoticeLines<'_, P> {
     fn tell(&self, notice: Notice) {
         let _ = match notice {
             Notice::JournalFull => println!(self.notes;

@@ -9,16 +9,16 @@ use Rattle.journal_lines.specs.declared.event.Event.{Event}
 use Rattle.journal_lines.specs.declared.line.Journal.{Journal}
 use Rattle.book_state.specs.Book.{BookState}
 use Rattle.order_book.specs.declared.order.Order.{Order}
-use Rattle.order_book.specs.declared.order.Asked.{Asked}
+use Rattle.order_book.specs.declared.order.LeaseRequest.{LeaseRequest}
 use Rattle.server_book.specs.Messages.{order_by}
 use Rattle.order_book.specs.Named.{IsNamed}
 use Rattle.order_book.specs.Replayed.{IsLegal, state_of}
 use Rattle.locked_book.specs.declared.error.ServeError.{ServeError}
 use Rattle.locked_book.specs.declared.receipt.Receipt.{Receipt}
 use Rattle.locked_book.specs.Serving.{PassState, IsPassServed, last_receipt}
-use Rattle.link_talk.specs.Receipts.{last_taken, IsNext, Goes, IsOther}
-use Rattle.link_talk.proofs.Saying.{other_takes}
-use Rattle.link_talk.proofs.Taken.{next_on, other_next}
+use Rattle.failover_session.specs.Receipts.{last_taken, IsNext, Goes, IsOther}
+use Rattle.failover_session.proofs.Saying.{other_takes}
+use Rattle.failover_session.proofs.Taken.{next_on, other_next}
 
 -- ---- lists
 
@@ -57,7 +57,7 @@ other_goes old new now order (Err e) served accepted refused other =
 
 -- ---- clients' orders
 
-pub by_kind : (kind : ClientKind) (a : Asked) → IsOther (order_by kind a)
+pub by_kind : (kind : ClientKind) (a : LeaseRequest) → IsOther (order_by kind a)
 by_kind Solicit a = tt
 by_kind RequestKind a = tt
 by_kind RenewKind a = tt

@@ -6,44 +6,44 @@ use Rattle.binding_rules.specs.declared.message.PartnerMessage.{PartnerMessage}
 use Rattle.binding_rules.specs.declared.role.Role.{Role}
 use Rattle.binding_rules.specs.declared.role.Role.TheVariants.{Primary, Secondary}
 use Rattle.locked_book.specs.declared.receipt.Receipt.{Receipt}
-use Rattle.link_talk.specs.declared.outbox.Handed.{Handed}
-use Rattle.link_talk.specs.declared.came.Came.{Came}
-use Rattle.link_talk.specs.Handed.{Said, said_in, said_of, sends_of, greeting_kind, opening}
-use Rattle.link_talk.specs.Receipts.{last_taken}
-use Rattle.link_talk.specs.declared.stage.Stage.TheVariants.{Greeting}
-use Rattle.link_talk.specs.Talking.{Hears, Met, Unmet, met_at, IsGoing, first_said}
-use Rattle.link_talk.specs.Turning.{TalkState, octets_of, IsTurn, IsWholeTurn}
-use Rattle.link_talk.proofs.Hearing.{hears_nothing, hears_on}
+use Rattle.failover_session.specs.declared.outbox.OutboundFrame.{OutboundFrame}
+use Rattle.failover_session.specs.declared.link_input.LinkInput.{LinkInput}
+use Rattle.failover_session.specs.OutboundFrames.{FrameMeaning, meaning_in, meanings_of, sends_of, greeting_kind, opening}
+use Rattle.failover_session.specs.Receipts.{last_taken}
+use Rattle.failover_session.specs.declared.stage.SessionStage.TheVariants.{Greeting}
+use Rattle.failover_session.specs.Sessions.{Handles, Met, Unmet, met_at, IsGoing, first_meanings}
+use Rattle.failover_session.specs.Polling.{SessionModel, octets_of, IsPoll, IsWholePoll}
+use Rattle.failover_session.proofs.Hearing.{hears_nothing, hears_on}
 use Rattle.node_threads.specs.declared.error.NodeError.{NodeError}
 use Rattle.node_threads.specs.declared.error.NodeError.TheVariants.{Memory}
 use Rattle.node_threads.specs.Reading.{HeardAll, HeardOn, AllBehind, HeardFront, FrontBehind, HeardTill}
-use Rattle.node_threads.specs.Writing.{Carried, nothing, MayLose, HandsOut, SaysWords, HearsBehind, Tells, HasTold}
+use Rattle.node_threads.specs.Writing.{Carried, nothing, MayLose, HandsOut, SaysWords, HearsBehind, WritesInOrder, HasTold}
 use Rattle.node_threads.proofs.Reading.{front_heard, heard_on, all_on, till_front, front_more, nothing_heard}
 use Rattle.node_threads.proofs.Wires.{carried_on, one_came}
 
 -- ---- frames
 
 -- the same behind other frames
-behind : (role : Role) (gs fs : List Handed) (heard : List PartnerMessage) (x y : Met) (a b : List Receipt)
-    → HearsBehind role [] heard x y a b fs → Hears role heard x y a b gs (gs ++ fs)
+behind : (role : Role) (gs fs : List OutboundFrame) (heard : List PartnerMessage) (x y : Met) (a b : List Receipt)
+    → HearsBehind role [] heard x y a b fs → Handles role heard x y a b gs (gs ++ fs)
 behind role gs fs heard x y a b behind_words =
     let h = behind_words.2 in
-    let first : List Said = first_said role x y a in
-    let sends : List Said = sends_of h.added in
-    let its : said_of fs ≡ first ++ sends = h.sends ∙ ap (λ ms. ms ++ first ++ sends) behind_words.1 in
+    let first : List FrameMeaning = first_meanings role x y a in
+    let sends : List FrameMeaning = sends_of h.added in
+    let its : meanings_of fs ≡ first ++ sends = h.sends ∙ ap (λ ms. ms ++ first ++ sends) behind_words.1 in
     record {
       added = h.added;
       all = h.all;
       takes = h.takes;
       next = h.next;
       sends =
-          filter_map-append said_in gs fs
-          ∙ (ap (λ ms. said_of gs ++ ms) its ∙ sym (append_assoc (said_of gs) first sends));
+          filter_map-append meaning_in gs fs
+          ∙ (ap (λ ms. meanings_of gs ++ ms) its ∙ sym (append_assoc (meanings_of gs) first sends));
       stays = h.stays;
       silent = h.silent;
     }
 
-all_behind : (role : Role) (first : List Said) (x y z : Met) (a b c : List Receipt) (fs gs : List Handed)
+all_behind : (role : Role) (first : List FrameMeaning) (x y z : Met) (a b c : List Receipt) (fs gs : List OutboundFrame)
     (heard more : List PartnerMessage) → HearsBehind role first heard x y a b fs → HearsBehind role [] more y z b c gs
     → HearsBehind role first (heard ++ more) x z a c (fs ++ gs)
 all_behind role first x y z a b c fs gs heard more h k = (
@@ -52,23 +52,23 @@ all_behind role first x y z a b c fs gs heard more h k = (
   hears_on role x y z a b c h.0 fs (fs ++ gs) heard more h.2 (behind role fs gs more y z b c k),
 )
 
-turn_alone : (role : Role) (heard : List PartnerMessage) (x y : Met) (a b : List Receipt) (fs : List Handed)
-    → Hears role heard x y a b [] fs → HearsBehind role [] heard x y a b fs
+turn_alone : (role : Role) (heard : List PartnerMessage) (x y : Met) (a b : List Receipt) (fs : List OutboundFrame)
+    → Handles role heard x y a b [] fs → HearsBehind role [] heard x y a b fs
 turn_alone role heard x y a b fs h = ([], refl, h)
 
 -- words that say nothing of a journal, or what is said first
-words_alone : (role : Role) (first : List Said) (x : Met) (a : List Receipt) (words : List Handed)
-    → said_of words ≡ first → HearsBehind role first [] x x a a words
+words_alone : (role : Role) (first : List FrameMeaning) (x : Met) (a : List Receipt) (words : List OutboundFrame)
+    → meanings_of words ≡ first → HearsBehind role first [] x x a a words
 words_alone role first x a words said = (words, said, hears_nothing role x a a words words refl refl)
 
 -- the frames of what is said first
-abbrev opening_words : Role → List Receipt → List Handed
+abbrev opening_words : Role → List Receipt → List OutboundFrame
 opening_words Primary had =
     record { frame = record { term = 0; serial = 0; kind = greeting_kind Primary (last_taken had) }; number = None }
     ∷ []
 opening_words Secondary had = []
 
-opening_said : (role : Role) (had : List Receipt) → said_of (opening_words role had) ≡ opening role had
+opening_said : (role : Role) (had : List Receipt) → meanings_of (opening_words role had) ≡ opening role had
 opening_said Primary had = refl
 opening_said Secondary had = refl
 
@@ -80,7 +80,7 @@ module _ {Line : Type 0} (Brings Writes : Line → List ℕ → Line → Type 0)
   pub told_nothing : {T : Type 0} (Reads : List ℕ → List PartnerMessage → Type 0) (x : Met) (a : List Receipt)
       (old last new : Line) (octets : List ℕ) (result : Result T NodeError) → Reads octets []
       → Carried Brings Writes old octets [] last → (new ≡ last) ⊎ Fails last new
-      → Tells Brings Writes Fails Reads role [] x x a a old new result
+      → WritesInOrder Brings Writes Fails Reads role [] x x a a old new result
   told_nothing Reads x a old last new octets result reads h ends =
       record {
         octets = octets;
@@ -96,24 +96,24 @@ module _ {Line : Type 0} (Brings Writes : Line → List ℕ → Line → Type 0)
       }
 
   -- a turn of the talk, from one state of it to the next, and what it hands out is written
-  module _ (it : Came) (s t u : TalkState) (none : s.handed ≡ []) (out : u ≡ record t { handed = [] })
+  module _ (it : LinkInput) (s t u : SessionModel) (none : s.handed ≡ []) (out : u ≡ record t { handed = [] })
       (a b : List Receipt) (old new : Line) where
-    turned : IsTurn role it s.held (met_at s.stage) (met_at t.stage) a b s.handed t.handed
-        → IsTurn role it s.held (met_at s.stage) (met_at u.stage) a b [] t.handed
+    turned : IsPoll role it s.held (met_at s.stage) (met_at t.stage) a b s.handed t.handed
+        → IsPoll role it s.held (met_at s.stage) (met_at u.stage) a b [] t.handed
     turned turn =
-        subst (λ fs. IsTurn role it s.held (met_at s.stage) (met_at u.stage) a b fs t.handed) none
-        (subst (λ v. IsTurn role it s.held (met_at s.stage) (met_at v.stage) a b s.handed t.handed) (sym out) turn)
+        subst (λ fs. IsPoll role it s.held (met_at s.stage) (met_at u.stage) a b fs t.handed) none
+        (subst (λ v. IsPoll role it s.held (met_at s.stage) (met_at v.stage) a b s.handed t.handed) (sym out) turn)
 
-    reads_front : (turn : IsTurn role it s.held (met_at s.stage) (met_at u.stage) a b [] t.handed)
+    reads_front : (turn : IsPoll role it s.held (met_at s.stage) (met_at u.stage) a b [] t.handed)
         → FrontBehind s.held (octets_of it) [] turn.2.0
     reads_front turn =
         front_more s.held (octets_of it) [] turn.2.0
         (front_heard role it s.held (met_at s.stage) (met_at u.stage) a b [] t.handed turn)
 
     tells_turn : {S T : Type 0} (wrote : Result S NodeError) (result : Result T NodeError)
-        → IsTurn role it s.held (met_at s.stage) (met_at u.stage) a b [] t.handed
+        → IsPoll role it s.held (met_at s.stage) (met_at u.stage) a b [] t.handed
         → HandsOut Brings Writes Fails [] t.handed old new wrote → (MayLose wrote → MayLose result)
-        → Tells Brings Writes Fails (FrontBehind s.held (octets_of it)) role [] (met_at s.stage) (met_at u.stage) a b
+        → WritesInOrder Brings Writes Fails (FrontBehind s.held (octets_of it)) role [] (met_at s.stage) (met_at u.stage) a b
         old new result
     tells_turn wrote result turn written loses =
         record {
@@ -124,7 +124,7 @@ module _ {Line : Type 0} (Brings Writes : Line → List ℕ → Line → Type 0)
           reads = reads_front turn;
           told =
               turn_alone role turn.2.0 (met_at s.stage) (met_at u.stage) a b (written.front ++ written.rest)
-              (subst (λ fs. Hears role turn.2.0 (met_at s.stage) (met_at u.stage) a b [] fs) written.all turn.2.3);
+              (subst (λ fs. Handles role turn.2.0 (met_at s.stage) (met_at u.stage) a b [] fs) written.all turn.2.3);
           last = written.last;
           carried = written.carried;
           ended = written.ended;
@@ -136,13 +136,13 @@ module _ {Line : Type 0} (Brings Writes : Line → List ℕ → Line → Type 0)
         lost_by (inr left) = inr left
 
     pub turn_told : {S T : Type 0} (wrote : Result S NodeError) (result : Result T NodeError)
-        → IsTurn role it s.held (met_at s.stage) (met_at t.stage) a b s.handed t.handed
+        → IsPoll role it s.held (met_at s.stage) (met_at t.stage) a b s.handed t.handed
         → HandsOut Brings Writes Fails [] t.handed old new wrote → (MayLose wrote → MayLose result)
-        → Tells Brings Writes Fails (FrontBehind s.held (octets_of it)) role [] (met_at s.stage) (met_at u.stage) a b
+        → WritesInOrder Brings Writes Fails (FrontBehind s.held (octets_of it)) role [] (met_at s.stage) (met_at u.stage) a b
         old new result
     turn_told wrote result turn written loses = tells_turn wrote result (turned turn) written loses
 
-    pub turn_has_told : IsTurn role it s.held (met_at s.stage) (met_at t.stage) a b s.handed t.handed
+    pub turn_has_told : IsPoll role it s.held (met_at s.stage) (met_at t.stage) a b s.handed t.handed
         → Carried Brings Writes old [] t.handed new
         → HasTold Brings Writes (FrontBehind s.held (octets_of it)) role [] (met_at s.stage) (met_at u.stage) a b old
         new
@@ -157,7 +157,7 @@ module _ {Line : Type 0} (Brings Writes : Line → List ℕ → Line → Type 0)
           carried = written;
         }
 
-    whole : IsWholeTurn role it s.held t.held (met_at s.stage) (met_at t.stage) a b s.handed t.handed
+    whole : IsWholePoll role it s.held t.held (met_at s.stage) (met_at t.stage) a b s.handed t.handed
         → Carried Brings Writes old [] t.handed new
         → HasTold Brings Writes (AllBehind s.held t.held (octets_of it)) role [] (met_at s.stage) (met_at t.stage) a b
         old new
@@ -171,12 +171,12 @@ module _ {Line : Type 0} (Brings Writes : Line → List ℕ → Line → Type 0)
               (heard_on it s.held t.held turn.0 turn.1);
           told =
               turn_alone role turn.0 (met_at s.stage) (met_at t.stage) a b t.handed
-              (subst (λ fs. Hears role turn.0 (met_at s.stage) (met_at t.stage) a b fs t.handed) none turn.2);
+              (subst (λ fs. Handles role turn.0 (met_at s.stage) (met_at t.stage) a b fs t.handed) none turn.2);
           carried = written;
         }
 
     pub whole_has_told :
-        (IsGoing t.stage → IsWholeTurn role it s.held t.held (met_at s.stage) (met_at t.stage) a b s.handed t.handed)
+        (IsGoing t.stage → IsWholePoll role it s.held t.held (met_at s.stage) (met_at t.stage) a b s.handed t.handed)
         → Carried Brings Writes old [] t.handed new
         → IsGoing u.stage → HasTold Brings Writes (AllBehind s.held u.held (octets_of it)) role [] (met_at s.stage)
         (met_at u.stage) a b old new
@@ -189,8 +189,8 @@ module _ {Line : Type 0} (Brings Writes : Line → List ℕ → Line → Type 0)
   module _ (Reads : List ℕ → List PartnerMessage → Type 0) (x y : Met) (a b : List Receipt) (old mid new : Line)
       (octets brought : List ℕ) (same : octets ≡ brought) (read : Brings old brought mid) where
     pub read_then_tells : {T : Type 0} (result : Result T NodeError)
-        → Tells Brings Writes Fails (λ more heard. Reads (octets ++ more) heard) role [] x y a b mid new result
-        → Tells Brings Writes Fails Reads role [] x y a b old new result
+        → WritesInOrder Brings Writes Fails (λ more heard. Reads (octets ++ more) heard) role [] x y a b mid new result
+        → WritesInOrder Brings Writes Fails Reads role [] x y a b old new result
     read_then_tells result k =
         record {
           octets = brought ++ k.octets;
@@ -231,11 +231,11 @@ module _ {Line : Type 0} (Brings Writes : Line → List ℕ → Line → Type 0)
 
   -- ---- one thing behind another
 
-  module _ (first : List Said) (x y z : Met) (a b c : List Receipt) (held : List ℕ) (old mid new : Line)
+  module _ (first : List FrameMeaning) (x y z : Met) (a b c : List Receipt) (held : List ℕ) (old mid new : Line)
       (h : HasTold Brings Writes (HeardAll held) role first x y a b old mid) where
     pub then_tells : {T : Type 0} (result : Result T NodeError)
-        → Tells Brings Writes Fails (HeardFront held) role [] y z b c mid new result
-        → Tells Brings Writes Fails HeardTill role first x z a c old new result
+        → WritesInOrder Brings Writes Fails (HeardFront held) role [] y z b c mid new result
+        → WritesInOrder Brings Writes Fails HeardTill role first x z a c old new result
     then_tells result k =
         record {
           octets = h.octets ++ k.octets;
@@ -272,11 +272,11 @@ module _ {Line : Type 0} (Brings Writes : Line → List ℕ → Line → Type 0)
       (old mid new : Line) (result : Result T NodeError)
       → HasTold Brings Writes (λ more heard. HeardFront held (octets ++ more) heard) role [] x y a b old mid
       → SaysWords Brings Writes Fails mid new result
-      → Tells Brings Writes Fails (HeardFront held) role [] x y a b old new result
+      → WritesInOrder Brings Writes Fails (HeardFront held) role [] x y a b old new result
   then_says held octets none x y a b old mid new result h says =
       let written = says.3 in
       let words : HearsBehind role [] [] y y b b (written.front ++ written.rest) =
-      words_alone role [] y b (written.front ++ written.rest) (ap said_of (sym written.all) ∙ says.2) in
+      words_alone role [] y b (written.front ++ written.rest) (ap meanings_of (sym written.all) ∙ says.2) in
       record {
         octets = h.octets ++ says.0;
         frames = h.frames ++ written.front;
@@ -300,10 +300,10 @@ module _ {Line : Type 0} (Brings Writes : Line → List ℕ → Line → Type 0)
       }
 
   -- what is said first, before the partner is met
-  pub opening_told : {T : Type 0} (a : List Receipt) (words : List Handed) (old new : Line)
-      (result : Result T NodeError) → said_of words ≡ opening role a
+  pub opening_told : {T : Type 0} (a : List Receipt) (words : List OutboundFrame) (old new : Line)
+      (result : Result T NodeError) → meanings_of words ≡ opening role a
       → HandsOut Brings Writes Fails [] words old new result
-      → Tells Brings Writes Fails HeardTill role (opening role a) Unmet Unmet a a old new result
+      → WritesInOrder Brings Writes Fails HeardTill role (opening role a) Unmet Unmet a a old new result
   opening_told a words old new result said written =
       record {
         octets = [];
@@ -321,7 +321,7 @@ module _ {Line : Type 0} (Brings Writes : Line → List ℕ → Line → Type 0)
 
   -- memory lacked for it
   pub opening_lost : {T : Type 0} (a : List Receipt) (old : Line) (result : Result T NodeError) → result ≡ Err Memory
-      → Tells Brings Writes Fails HeardTill role (opening role a) Unmet Unmet a a old old result
+      → WritesInOrder Brings Writes Fails HeardTill role (opening role a) Unmet Unmet a a old old result
   opening_lost a old result lost =
       record {
         octets = [];
@@ -336,7 +336,7 @@ module _ {Line : Type 0} (Brings Writes : Line → List ℕ → Line → Type 0)
         lost = inl (subst (λ r. MayLose r) (sym lost) tt);
       }
 
-  opening_has_told : (a : List Receipt) (words : List Handed) (old new : Line) → said_of words ≡ opening role a
+  opening_has_told : (a : List Receipt) (words : List OutboundFrame) (old new : Line) → meanings_of words ≡ opening role a
       → Carried Brings Writes old [] words new
       → HasTold Brings Writes (HeardAll []) role (opening role a) Unmet Unmet a a old new
   opening_has_told a words old new said written =
@@ -349,14 +349,14 @@ module _ {Line : Type 0} (Brings Writes : Line → List ℕ → Line → Type 0)
         carried = written;
       }
 
-  pub opening_whole : {T : Type 0} (a : List Receipt) (words : List Handed) (old new : Line)
-      (result : Result T NodeError) → said_of words ≡ opening role a
+  pub opening_whole : {T : Type 0} (a : List Receipt) (words : List OutboundFrame) (old new : Line)
+      (result : Result T NodeError) → meanings_of words ≡ opening role a
       → OnOk result (Carried Brings Writes old [] words new)
       → OnOk result (HasTold Brings Writes (HeardAll []) role (opening role a) Unmet Unmet a a old new)
   opening_whole a words old new (Ok t) said written = opening_has_told a words old new said written
   opening_whole a words old new (Err e) said written = tt
 
-  pub talk_begun : (s : TalkState) (first : List Said) (a : List Receipt) (old new : Line)
+  pub talk_begun : (s : SessionModel) (first : List FrameMeaning) (a : List Receipt) (old new : Line)
       → s ≡ record { held = []; stage = Greeting; handed = [] }
       → HasTold Brings Writes (HeardAll []) role first Unmet Unmet a a old new
       → HasTold Brings Writes (HeardAll s.held) role first Unmet (met_at s.stage) a a old new

@@ -4,12 +4,12 @@ use Rattle.std.proofs.Common.{ap, sym, ◌∙◌, subst, append_assoc, append-ni
 use Rattle.binding_rules.specs.declared.message.PartnerMessage.{PartnerMessage}
 use Rattle.binding_rules.specs.declared.role.Role.{Role}
 use Rattle.locked_book.specs.declared.receipt.Receipt.{Receipt}
-use Rattle.link_talk.specs.declared.came.Came.{Came}
-use Rattle.link_talk.specs.declared.came.Came.TheVariants.{Octets, Nothing, Beat, End}
-use Rattle.link_talk.specs.declared.outbox.Handed.{Handed}
-use Rattle.link_talk.specs.Talking.{Met}
-use Rattle.link_talk.specs.Turning.{Carries, AreMessages, octets_of, IsTurn}
-use Rattle.link_talk.proofs.Streams.{nothing_carries, carries_on}
+use Rattle.failover_session.specs.declared.link_input.LinkInput.{LinkInput}
+use Rattle.failover_session.specs.declared.link_input.LinkInput.TheVariants.{Octets, Idle, HeartbeatDue, Closed}
+use Rattle.failover_session.specs.declared.outbox.OutboundFrame.{OutboundFrame}
+use Rattle.failover_session.specs.Sessions.{Met}
+use Rattle.failover_session.specs.Polling.{Carries, AreMessages, octets_of, IsPoll}
+use Rattle.failover_session.proofs.Streams.{nothing_carries, carries_on}
 use Rattle.node_threads.specs.Reading.{HeardAll, HeardOn, HeardFront, HeardTill}
 
 front_empty : (heard left : List PartnerMessage) → heard ++ left ≡ [] → heard ≡ []
@@ -18,7 +18,7 @@ front_empty (m ∷ ms) left none = absurd cc
 
 -- ---- one turn
 
-front_by : (it : Came) (held rest : List ℕ) (messages heard left : List PartnerMessage)
+front_by : (it : LinkInput) (held rest : List ℕ) (messages heard left : List PartnerMessage)
     → AreMessages it held rest messages → messages ≡ heard ++ left → HeardFront held (octets_of it) heard
 front_by (Octets octets) held rest messages heard left are all =
     inr (record {
@@ -29,12 +29,12 @@ front_by (Octets octets) held rest messages heard left are all =
       all = sym (append-nil octets.now);
       carries = subst (λ ms. Carries held octets.now rest ms) all are;
     })
-front_by Nothing held rest messages heard left are all = inl (front_empty heard left (sym all ∙ are.0))
-front_by Beat held rest messages heard left are all = inl (front_empty heard left (sym all ∙ are.0))
-front_by End held rest messages heard left are all = inl (front_empty heard left (sym all ∙ are.0))
+front_by Idle held rest messages heard left are all = inl (front_empty heard left (sym all ∙ are.0))
+front_by HeartbeatDue held rest messages heard left are all = inl (front_empty heard left (sym all ∙ are.0))
+front_by Closed held rest messages heard left are all = inl (front_empty heard left (sym all ∙ are.0))
 
-pub front_heard : (role : Role) (it : Came) (held : List ℕ) (x y : Met) (a b : List Receipt) (o p : List Handed)
-    → (turn : IsTurn role it held x y a b o p) → HeardFront held (octets_of it) turn.2.0
+pub front_heard : (role : Role) (it : LinkInput) (held : List ℕ) (x y : Met) (a b : List Receipt) (o p : List OutboundFrame)
+    → (turn : IsPoll role it held x y a b o p) → HeardFront held (octets_of it) turn.2.0
 front_heard role it held x y a b o p turn = by turn.1
   where
     by : (turn.0 ≡ []) ⊎ ((rest : List ℕ) × AreMessages it held rest turn.0)
@@ -42,12 +42,12 @@ front_heard role it held x y a b o p turn = by turn.1
     by (inl none) = inl (front_empty turn.2.0 turn.2.1 (sym turn.2.2 ∙ none))
     by (inr are) = front_by it held are.0 turn.0 turn.2.0 turn.2.1 are.1 turn.2.2
 
-pub heard_on : (it : Came) (held rest : List ℕ) (messages : List PartnerMessage) → AreMessages it held rest messages
+pub heard_on : (it : LinkInput) (held rest : List ℕ) (messages : List PartnerMessage) → AreMessages it held rest messages
     → HeardOn held rest (octets_of it) messages
 heard_on (Octets octets) held rest messages are = inl are
-heard_on Nothing held rest messages are = inr (refl, are.1, are.0)
-heard_on Beat held rest messages are = inr (refl, are.1, are.0)
-heard_on End held rest messages are = inr (refl, are.1, are.0)
+heard_on Idle held rest messages are = inr (refl, are.1, are.0)
+heard_on HeartbeatDue held rest messages are = inr (refl, are.1, are.0)
+heard_on Closed held rest messages are = inr (refl, are.1, are.0)
 
 -- ---- turns one behind another
 

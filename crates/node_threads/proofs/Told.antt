@@ -15,18 +15,18 @@ use Rattle.order_book.specs.declared.reply.Reply.TheVariants.{Granted, Released 
 use Rattle.order_book.specs.Replayed.{state_of}
 use Rattle.server_book.specs.declared.messages.IaAnswer.{IaAnswer}
 use Rattle.server_book.specs.declared.messages.IaAnswer.TheVariants.{Given, NoPrefix, NoBinding, Released}
-use Rattle.server_book.specs.declared.manner.Manner.{Manner}
+use Rattle.server_book.specs.declared.reply_policy.ReplyPolicy.{ReplyPolicy}
 use Rattle.server_book.specs.Messages.{asked_in}
 use Rattle.locked_book.specs.declared.error.ServeError.{ServeError}
 use Rattle.locked_book.specs.declared.receipt.Receipt.{Receipt}
-use Rattle.client_service.specs.declared.partner.Partner.{Partner}
-use Rattle.client_service.specs.declared.partner.Partner.TheVariants.{Up, Down}
-use Rattle.client_service.specs.declared.silence.Silence.{Silence}
-use Rattle.client_service.specs.declared.silence.Silence.TheVariants.{NothingAsked, Refused, Elsewhere, TooLong, Memory}
+use Rattle.client_service.specs.declared.partner_availability.PartnerAvailability.{PartnerAvailability}
+use Rattle.client_service.specs.declared.partner_availability.PartnerAvailability.TheVariants.{Up, Down}
+use Rattle.client_service.specs.declared.no_reply_reason.NoReplyReason.{NoReplyReason}
+use Rattle.client_service.specs.declared.no_reply_reason.NoReplyReason.TheVariants.{NothingRequested, Refused, UnknownBinding, TooLong, Memory}
 use Rattle.client_service.specs.Serving.{IsOrderServed}
-use Rattle.client_service.specs.Telling.{ByLine, IsServedAs, IsOfferedAs, EndsAtOnce, Ends}
-use Rattle.client_service.specs.Answering.{order_for, AreTold, IsTold, IsSilent}
-use Rattle.link_talk.specs.Receipts.{last_taken, Goes, IsOther}
+use Rattle.client_service.specs.Telling.{ByLine, IsServedAs, IsOfferedAs, EndsAtOnce, EndsWithSeize}
+use Rattle.client_service.specs.Answering.{order_for, AreTold, IsTold, HasNoReply}
+use Rattle.failover_session.specs.Receipts.{last_taken, Goes, IsOther}
 use Rattle.node_threads.proofs.Going.{named_next, one_goes, goes_nowhere, goes_on, by_kind}
 
 -- no receipt more
@@ -70,8 +70,8 @@ module _ (MayHave : List Receipt → Journal → Type 0) (now : ℕ) where
   at_once_goes ReleaseKind had order added (Ok answer) other h = served_goes had order added answer other h
   at_once_goes kind had order added (Err e) other h = none_more had added h.0
 
-  ends_goes : (partner : Partner) (kind : ClientKind) (had : List Receipt) (order : Order) (added : List Receipt)
-      (result : Result IaAnswer ServeError) → IsOther order → Ends MayHave partner kind now had order added result
+  ends_goes : (partner : PartnerAvailability) (kind : ClientKind) (had : List Receipt) (order : Order) (added : List Receipt)
+      (result : Result IaAnswer ServeError) → IsOther order → EndsWithSeize MayHave partner kind now had order added result
       → Goes had (had ++ added)
   ends_goes Up kind had order added result other h = at_once_goes kind had order added result other h
   ends_goes Down kind had order added result other (inl h) = at_once_goes kind had order added result other h.1
@@ -85,7 +85,7 @@ module _ (MayHave : List Receipt → Journal → Type 0) (now : ℕ) where
         | inr h ↦ none_more had added h.0
       ]
 
-  module _ (partner : Partner) (m : ClientMessage) where
+  module _ (partner : PartnerAvailability) (m : ClientMessage) where
     all_go : (had : List Receipt) (ias : List IaPd) (answers : List IaAnswer) (added : List Receipt)
         → AreTold MayHave partner m [] now had ias answers added → Goes had (had ++ added)
     all_go had [] [] added h = none_more had added h
@@ -99,15 +99,15 @@ module _ (MayHave : List Receipt → Journal → Type 0) (now : ℕ) where
         (goes_on had (had ++ h.0) ((had ++ h.0) ++ h.1) first then)
 
     -- what is told of a message
-    pub told_goes : (own : List ℕ) (manner : Manner) (had has : List Receipt) (octets : List ℕ) (line : Option ℕ)
+    pub told_goes : (own : List ℕ) (manner : ReplyPolicy) (had has : List Receipt) (octets : List ℕ) (line : Option ℕ)
         → IsTold MayHave partner own manner m [] now had has octets line → Goes had has
     told_goes own manner had has octets line h =
         subst (λ rs. Goes had rs) (sym h.all) (all_go had m.ias h.answers h.added h.told)
 
     -- why it is told nothing
-    pub silent_goes : (own : List ℕ) (manner : Manner) (had has : List Receipt) (why : Silence)
-        → IsSilent MayHave partner own manner m [] now had has why → Goes had has
-    silent_goes own manner had has NothingAsked h =
+    pub silent_goes : (own : List ℕ) (manner : ReplyPolicy) (had has : List Receipt) (why : NoReplyReason)
+        → HasNoReply MayHave partner own manner m [] now had has why → Goes had has
+    silent_goes own manner had has NothingRequested h =
         subst (λ rs. Goes had rs) (sym h.1) (none_more had h.0 h.2.1)
     silent_goes own manner had has (Refused e) h =
         let t = h.2 in
@@ -117,7 +117,7 @@ module _ (MayHave : List Receipt → Journal → Type 0) (now : ℕ) where
         subst (λ rs. Goes had rs)
         (append_assoc had t.3 t.4 ∙ (ap (λ rs. had ++ rs) (sym t.6) ∙ sym h.1))
         (goes_on had (had ++ t.3) ((had ++ t.3) ++ t.4) first then)
-    silent_goes own manner had has Elsewhere h =
+    silent_goes own manner had has UnknownBinding h =
         subst (λ rs. Goes had rs) (sym h.1) (all_go had m.ias h.2.0 h.0 h.2.1)
     silent_goes own manner had has TooLong h =
         subst (λ rs. Goes had rs) (sym h.1) (all_go had m.ias h.2.0 h.0 h.2.1)

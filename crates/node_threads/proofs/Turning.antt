@@ -2,20 +2,20 @@
 use Rattle.std.specs.Prelude.{◌≡◌, ℕ, ◌+◌, List, [], ◌∷◌, ◌++◌, length, Ok, Err}
 use Rattle.std.proofs.Common.{refl, ap, subst, ◌∙◌, inl, inr, length-append}
 use Rattle.locked_book.specs.declared.receipt.Receipt.{Receipt}
-use Rattle.client_service.specs.declared.partner.Partner.{Partner}
+use Rattle.client_service.specs.declared.partner_availability.PartnerAvailability.{PartnerAvailability}
 use Rattle.node_threads.specs.declared.error.NodeError.{NodeError}
 use Rattle.node_threads.specs.declared.error.NodeError.TheVariants.{Net, Read, Write, Serve, Memory}
-use Rattle.node_threads.specs.declared.heard.Heard.{Heard}
+use Rattle.node_threads.specs.declared.worker_outcome.WorkerOutcome.{WorkerOutcome}
 use Rattle.node_threads.specs.Sending.{IsTurn, AreTurns, IsServed}
 
 module _ {Mail Peer : Type 0} (Receives Sends : Mail → Peer → List ℕ → Mail → Type 0) (Fails : Mail → Mail → Type 0)
-    (partner : Partner) (own : List ℕ) where
+    (partner : PartnerAvailability) (own : List ℕ) where
   -- so many turns were made
   abbrev pub HasMade : ℕ → Mail → Mail → List Receipt → List Receipt → Type 0
   HasMade count old new had has =
-      (turns : List Heard) × (length turns ≡ count) × AreTurns Receives Sends Fails partner own turns old new had has
+      (turns : List WorkerOutcome) × (length turns ≡ count) × AreTurns Receives Sends Fails partner own turns old new had has
 
-  behind : (turns : List Heard) (heard : Heard) (old mid new : Mail) (had between has : List Receipt)
+  behind : (turns : List WorkerOutcome) (heard : WorkerOutcome) (old mid new : Mail) (had between has : List Receipt)
       → AreTurns Receives Sends Fails partner own turns old mid had between
       → IsTurn Receives Sends Fails partner own mid new between has (Ok heard)
       → AreTurns Receives Sends Fails partner own (turns ++ heard ∷ []) old new had has
@@ -32,7 +32,7 @@ module _ {Mail Peer : Type 0} (Receives Sends : Mail → Peer → List ℕ → M
   pub none_made : (old : Mail) (had : List Receipt) → HasMade 0 old old had had
   none_made old had = ([], refl, (refl, refl))
 
-  pub one_made : (count : ℕ) (heard : Heard) (old mid new : Mail) (had between has : List Receipt)
+  pub one_made : (count : ℕ) (heard : WorkerOutcome) (old mid new : Mail) (had between has : List Receipt)
       → HasMade count old mid had between → IsTurn Receives Sends Fails partner own mid new between has (Ok heard)
       → HasMade (count + 1) old new had has
   one_made count heard old mid new had between has before turn =

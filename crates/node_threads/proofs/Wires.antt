@@ -4,15 +4,15 @@ use Rattle.std.proofs.Common.{ap, sym, ◌∙◌, subst, append_assoc, append-ni
 use Rattle.std.proofs.Math.Seq.{take-suc, take-length}
 use Rattle.std.proofs.lemmas.List.{take-append-drop}
 use Rattle.failover_message.specs.Frames.{frame_octets}
-use Rattle.link_talk.specs.declared.outbox.Handed.{Handed}
-use Rattle.link_talk.specs.Handed.{said_of}
+use Rattle.failover_session.specs.declared.outbox.OutboundFrame.{OutboundFrame}
+use Rattle.failover_session.specs.OutboundFrames.{meanings_of}
 use Rattle.node_threads.specs.declared.error.NodeError.{NodeError}
 use Rattle.node_threads.specs.declared.error.NodeError.TheVariants.{Net, Read, Write, Serve, Memory}
 use Rattle.node_threads.specs.Writing.{Carried, nothing, came, went, MayLose, HandsOut, SaysWords, HasHeard, MayHear}
 use Rattle.node_threads.specs.Writing.{IsWritten}
 
 module _ {Line : Type 0} (Brings Writes : Line → List ℕ → Line → Type 0) (Fails : Line → Line → Type 0) where
-  pub carried_on : (a b c : Line) (os ps : List ℕ) (fs gs : List Handed) → Carried Brings Writes a os fs b
+  pub carried_on : (a b c : Line) (os ps : List ℕ) (fs gs : List OutboundFrame) → Carried Brings Writes a os fs b
       → Carried Brings Writes b ps gs c → Carried Brings Writes a (os ++ ps) (fs ++ gs) c
   carried_on a b _ os _ fs _ h nothing =
       subst (λ xs. Carried Brings Writes a xs (fs ++ []) b) (sym (append-nil os))
@@ -29,7 +29,7 @@ module _ {Line : Type 0} (Brings Writes : Line → List ℕ → Line → Type 0)
 
   -- ---- frames one after the other
 
-  all_out : {T : Type 0} (fs : List Handed) (old new : Line) (result : Result T NodeError)
+  all_out : {T : Type 0} (fs : List OutboundFrame) (old new : Line) (result : Result T NodeError)
       → Carried Brings Writes old [] fs new → HandsOut Brings Writes Fails [] fs old new result
   all_out fs old new result h =
       record {
@@ -42,7 +42,7 @@ module _ {Line : Type 0} (Brings Writes : Line → List ℕ → Line → Type 0)
         lost = inr refl;
       }
 
-  pub all_behind_the_last : {T : Type 0} (fs : List Handed) (i : ℕ) (old new : Line) (result : Result T NodeError)
+  pub all_behind_the_last : {T : Type 0} (fs : List OutboundFrame) (i : ℕ) (old new : Line) (result : Result T NodeError)
       → i ≡ length fs → Carried Brings Writes old [] (take i fs) new
       → HandsOut Brings Writes Fails [] fs old new result
   all_behind_the_last fs i old new result end h =
@@ -50,7 +50,7 @@ module _ {Line : Type 0} (Brings Writes : Line → List ℕ → Line → Type 0)
       (subst (λ xs. Carried Brings Writes old [] xs new) (ap (λ (n : ℕ). take n fs) end ∙ take-length fs) h)
 
   -- up to one that wasn't written
-  front_out : {T : Type 0} (fs front rest : List Handed) (old last new : Line) (result : Result T NodeError)
+  front_out : {T : Type 0} (fs front rest : List OutboundFrame) (old last new : Line) (result : Result T NodeError)
       → fs ≡ front ++ rest → Carried Brings Writes old [] front last → (new ≡ last) ⊎ Fails last new → MayLose result
       → HandsOut Brings Writes Fails [] fs old new result
   front_out fs front rest old last new result all h ends lose =
@@ -64,7 +64,7 @@ module _ {Line : Type 0} (Brings Writes : Line → List ℕ → Line → Type 0)
         lost = inl lose;
       }
 
-  pub one_unwritten : (T S : Type 0) (e : NodeError) (fs front rest : List Handed) (octets : List ℕ)
+  pub one_unwritten : (T S : Type 0) (e : NodeError) (fs front rest : List OutboundFrame) (octets : List ℕ)
       (old last new : Line) → fs ≡ front ++ rest → Carried Brings Writes old [] front last
       → IsWritten {Line = Line} {T = T} Writes Fails octets last new (Err e)
       → HandsOut {Line = Line} {T = S} Brings Writes Fails [] fs old new (Err e)
@@ -77,7 +77,7 @@ module _ {Line : Type 0} (Brings Writes : Line → List ℕ → Line → Type 0)
   one_unwritten T S (Serve e) fs front rest octets old last new all h unwritten = absurd unwritten
 
   -- of frames, the one at a place
-  module _ (fs : List Handed) (i : ℕ) (h : Handed) (within : i < length fs) (its : h ≡ get_or fs i h)
+  module _ (fs : List OutboundFrame) (i : ℕ) (h : OutboundFrame) (within : i < length fs) (its : h ≡ get_or fs i h)
       (old mid new : Line) (before : Carried Brings Writes old [] (take i fs) mid) where
     pub one_written : Writes mid (frame_octets h.frame) new → Carried Brings Writes old [] (take (suc i) fs) new
     one_written wrote =
@@ -121,8 +121,8 @@ module _ {Line : Type 0} (Brings Writes : Line → List ℕ → Line → Type 0)
   -- ---- words
 
   -- a word, and then what comes
-  pub word_out : {T : Type 0} (word : Handed) (old mid new : Line) (result : Result T NodeError)
-      → said_of (word ∷ []) ≡ [] → Writes old (frame_octets word.frame) mid
+  pub word_out : {T : Type 0} (word : OutboundFrame) (old mid new : Line) (result : Result T NodeError)
+      → meanings_of (word ∷ []) ≡ [] → Writes old (frame_octets word.frame) mid
       → HasHeard Brings Writes Fails mid new → SaysWords Brings Writes Fails old new result
   word_out word old mid new result none wrote heard = (
     heard.octets,
@@ -141,7 +141,7 @@ module _ {Line : Type 0} (Brings Writes : Line → List ℕ → Line → Type 0)
     },
   )
 
-  pub no_word_out : (T S : Type 0) (e : NodeError) (word : Handed) (old new : Line) → said_of (word ∷ []) ≡ []
+  pub no_word_out : (T S : Type 0) (e : NodeError) (word : OutboundFrame) (old new : Line) → meanings_of (word ∷ []) ≡ []
       → IsWritten {Line = Line} {T = T} Writes Fails (frame_octets word.frame) old new (Err e)
       → SaysWords {Line = Line} {T = S} Brings Writes Fails old new (Err e)
   no_word_out T S e word old new none unwritten = (

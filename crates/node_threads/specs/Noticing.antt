@@ -12,9 +12,9 @@ use Rattle.order_book.specs.declared.error.BookError.TheVariants.{Full}
 use Rattle.locked_book.specs.declared.receipt.Receipt.{Receipt}
 use Rattle.locked_book.specs.declared.error.ServeError.{ServeError}
 use Rattle.locked_book.specs.declared.error.ServeError.TheVariants.{Book}
-use Rattle.client_service.specs.declared.silence.Silence.TheVariants.{Refused}
-use Rattle.node_threads.specs.declared.heard.Heard.{Heard}
-use Rattle.node_threads.specs.declared.heard.Heard.TheVariants.{Unanswered}
+use Rattle.client_service.specs.declared.no_reply_reason.NoReplyReason.TheVariants.{Refused}
+use Rattle.node_threads.specs.declared.worker_outcome.WorkerOutcome.{WorkerOutcome}
+use Rattle.node_threads.specs.declared.worker_outcome.WorkerOutcome.TheVariants.{Unanswered}
 use Rattle.node_threads.specs.declared.notices.Notice.{Notice}
 use Rattle.node_threads.specs.declared.notices.Notice.TheVariants.{JournalFull, PartnerSilent, SettingsDiffer}
 use Rattle.node_threads.specs.declared.wire.Got.{Got}
@@ -28,7 +28,7 @@ notice_in (Book Full) = Some JournalFull
 notice_in _ = None
 
 -- of a datagram that a worker heard
-abbrev pub notice_of : Heard → Option Notice
+abbrev pub notice_of : WorkerOutcome → Option Notice
 notice_of (Unanswered (Refused refusal)) = notice_in refusal
 notice_of _ = None
 

@@ -1,7 +1,7 @@
 -- Which messages one end of the link has heard, of the octets that came.
 use Rattle.std.specs.Prelude.{◌≡◌, ◌⊎◌, ℕ, List, [], ◌++◌, take}
 use Rattle.binding_rules.specs.declared.message.PartnerMessage.{PartnerMessage}
-use Rattle.link_talk.specs.Turning.{Carries}
+use Rattle.failover_session.specs.Polling.{Carries}
 use Rattle.node_threads.specs.declared.wire.Got.{Got}
 use Rattle.node_threads.specs.declared.wire.Got.TheVariants.{Octets}
 

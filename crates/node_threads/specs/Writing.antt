@@ -4,9 +4,9 @@ use Rattle.binding_rules.specs.declared.message.PartnerMessage.{PartnerMessage}
 use Rattle.binding_rules.specs.declared.role.Role.{Role}
 use Rattle.failover_message.specs.Frames.{frame_octets}
 use Rattle.locked_book.specs.declared.receipt.Receipt.{Receipt}
-use Rattle.link_talk.specs.declared.outbox.Handed.{Handed}
-use Rattle.link_talk.specs.Handed.{Said, said_of}
-use Rattle.link_talk.specs.Talking.{Met, Hears}
+use Rattle.failover_session.specs.declared.outbox.OutboundFrame.{OutboundFrame}
+use Rattle.failover_session.specs.OutboundFrames.{FrameMeaning, meanings_of}
+use Rattle.failover_session.specs.Sessions.{Met, Handles}
 use Rattle.node_threads.specs.declared.error.NodeError.{NodeError}
 use Rattle.node_threads.specs.declared.error.NodeError.TheVariants.{Write, Memory}
 
@@ -14,12 +14,12 @@ use Rattle.node_threads.specs.declared.error.NodeError.TheVariants.{Write, Memor
 
 -- from the first wire to this one these octets came, and these frames were written, each whole, in their order
 pub data Carried {Line : Type 0} (Brings Writes : Line → List ℕ → Line → Type 0) (first : Line)
-    : List ℕ → List Handed → Line → Type 0 where
+    : List ℕ → List OutboundFrame → Line → Type 0 where
   nothing : Carried Brings Writes first [] [] first
-  came : (octets : List ℕ) (frames : List Handed) (old new : Line) (more : List ℕ)
+  came : (octets : List ℕ) (frames : List OutboundFrame) (old new : Line) (more : List ℕ)
       → Carried Brings Writes first octets frames old → Brings old more new
       → Carried Brings Writes first (octets ++ more) frames new
-  went : (octets : List ℕ) (frames : List Handed) (h : Handed) (old new : Line)
+  went : (octets : List ℕ) (frames : List OutboundFrame) (h : OutboundFrame) (old new : Line)
       → Carried Brings Writes first octets frames old → Writes old (frame_octets h.frame) new
       → Carried Brings Writes first octets (frames ++ h ∷ []) new
 
@@ -31,9 +31,9 @@ MayLose _ = ⊥
 
 -- of these frames, in their order, so many were written, all but where a write failed or memory lacked
 pub record HandsOut {Line T : Type 0} (Brings Writes : Line → List ℕ → Line → Type 0) (Fails : Line → Line → Type 0)
-    (octets : List ℕ) (frames : List Handed) (old new : Line) (result : Result T NodeError) : Type 0 where
-  pub front : List Handed
-  pub rest : List Handed
+    (octets : List ℕ) (frames : List OutboundFrame) (old new : Line) (result : Result T NodeError) : Type 0 where
+  pub front : List OutboundFrame
+  pub rest : List OutboundFrame
   pub all : frames ≡ front ++ rest
   pub last : Line
   pub carried : Carried Brings Writes old octets front last
@@ -44,26 +44,26 @@ pub record HandsOut {Line T : Type 0} (Brings Writes : Line → List ℕ → Lin
 abbrev pub SaysWords : {Line T : Type 0} (Brings Writes : Line → List ℕ → Line → Type 0) (Fails : Line → Line → Type 0)
     → Line → Line → Result T NodeError → Type 0
 SaysWords Brings Writes Fails old new result =
-    (octets : List ℕ) × (words : List Handed) × (said_of words ≡ [])
+    (octets : List ℕ) × (words : List OutboundFrame) × (meanings_of words ≡ [])
     × HandsOut Brings Writes Fails octets words old new result
 
 -- what is heard and said, behind what was said first
-abbrev pub HearsBehind : Role → List Said → List PartnerMessage → Met → Met → List Receipt → List Receipt → List Handed
+abbrev pub HearsBehind : Role → List FrameMeaning → List PartnerMessage → Met → Met → List Receipt → List Receipt → List OutboundFrame
     → Type 0
 HearsBehind role first heard before after had has frames =
-    (words : List Handed) × (said_of words ≡ first) × Hears role heard before after had has words frames
+    (words : List OutboundFrame) × (meanings_of words ≡ first) × Handles role heard before after had has words frames
 
 -- Octets came, and of the messages in them some were heard, as Reads says; the lines that were added take those of them
 -- that are newer than all before. Frames were written: of their messages each is one that a receipt says was sent.
 -- First is what a server says before it has heard of its partner; then its answer, and what was sent above the serial
 -- that the partner named, where it named one; then what the receipts that were added say, in their order; and none is
 -- left out but where a write failed or memory lacked, which leaves out the rest of them.
-pub record Tells {Line T : Type 0} (Brings Writes : Line → List ℕ → Line → Type 0) (Fails : Line → Line → Type 0)
-    (Reads : List ℕ → List PartnerMessage → Type 0) (role : Role) (first : List Said) (before after : Met)
+pub record WritesInOrder {Line T : Type 0} (Brings Writes : Line → List ℕ → Line → Type 0) (Fails : Line → Line → Type 0)
+    (Reads : List ℕ → List PartnerMessage → Type 0) (role : Role) (first : List FrameMeaning) (before after : Met)
     (had has : List Receipt) (old new : Line) (result : Result T NodeError) : Type 0 where
   pub octets : List ℕ
-  pub frames : List Handed
-  pub rest : List Handed
+  pub frames : List OutboundFrame
+  pub rest : List OutboundFrame
   pub heard : List PartnerMessage
   pub reads : Reads octets heard
   pub told : HearsBehind role first heard before after had has (frames ++ rest)
@@ -74,10 +74,10 @@ pub record Tells {Line T : Type 0} (Brings Writes : Line → List ℕ → Line �
 
 -- the same of a connection that goes on: all of it was written
 pub record HasTold {Line : Type 0} (Brings Writes : Line → List ℕ → Line → Type 0)
-    (Reads : List ℕ → List PartnerMessage → Type 0) (role : Role) (first : List Said) (before after : Met)
+    (Reads : List ℕ → List PartnerMessage → Type 0) (role : Role) (first : List FrameMeaning) (before after : Met)
     (had has : List Receipt) (old new : Line) : Type 0 where
   pub octets : List ℕ
-  pub frames : List Handed
+  pub frames : List OutboundFrame
   pub heard : List PartnerMessage
   pub reads : Reads octets heard
   pub told : HearsBehind role first heard before after had has frames

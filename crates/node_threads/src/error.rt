@@ -4,7 +4,7 @@ ghost use Rattle.std.specs.Prelude.{◌≡◌};
 ghost use Rattle.node_threads.specs.declared.error.NodeError.TheVariants.{Net, Memory};
 ghost use Rattle.node_threads.specs.Ending.{fault_of};
 
-use link_talk::TalkError;
+use failover_session::SessionError;
 use locked_book::ServeError;
 use std::alloc::{AllocError, AllocFailed};
 use thiserror::Error;
@@ -58,14 +58,14 @@ impl<T: Drop> From<AllocFailed<T>> for NodeError {
     }
 }
 
-impl From<TalkError> for NodeError {
+impl From<SessionError> for NodeError {
     ghost from_gives = { λ error e. e ≡ fault_of error };
 
-    fn from(error: TalkError) -> NodeError {
+    fn from(error: SessionError) -> NodeError {
         match error {
-            TalkError::Frame => NodeError::Read,
-            TalkError::Serve(refusal) => NodeError::Serve(refusal),
-            TalkError::Memory => NodeError::Memory,
+            SessionError::Frame => NodeError::Read,
+            SessionError::Serve(refusal) => NodeError::Serve(refusal),
+            SessionError::Memory => NodeError::Memory,
         }
     }
 }

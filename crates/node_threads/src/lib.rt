@@ -18,7 +18,7 @@
 //! let (shared, mut passes) = SharedBook::<N>::open(alloc, blank, book, 1)?;
 //! let mut mailbox = UdpMailbox::new(&socket);
 //! let received = serve_datagrams(
-//!     rt, alloc, &shared, &mut pass, own, &mut mailbox, &clock, &turns, Partner::Up, &notices,
+//!     rt, alloc, &shared, &mut pass, own, &mut mailbox, &clock, &turns, PartnerAvailability::Up, &notices,
 //! )?;
 //! let book = shared.close(passes)?;                                         // a line for each answer that was given
 //! ```
@@ -30,7 +30,6 @@
 
 mod clock;
 mod error;
-mod heard;
 mod link;
 mod mailbox;
 mod notices;
@@ -41,20 +40,21 @@ mod settings;
 mod turns;
 mod watched_book;
 mod wire;
+mod worker_outcome;
 mod workers;
 
-pub use client_service::Partner;
+pub use client_service::PartnerAvailability;
 pub use clock::{Clock, SystemClock};
 pub use error::{NetFault, NodeError};
-pub use heard::Heard;
 pub use link::serve_link;
 pub use mailbox::{Mailbox, UdpMailbox};
-pub use notices::{EachOnce, Notice, Notices, Unheard};
-pub use pauses::{PAUSES_A_SECOND, Pauses};
+pub use notices::{EachOnce, NoNotices, Notice, Notices};
+pub use pauses::{IdleTimer, PAUSES_A_SECOND};
 pub use seats::{leave_seats, seats_of, serve_seats};
-pub use serving_all::{LeaveError, Left, serve_all};
+pub use serving_all::{ServeAllError, WorkersResult, serve_all};
 pub use settings::NodeSettings;
 pub use turns::Turns;
 pub use watched_book::WatchedBook;
 pub use wire::{Got, TcpWire, Wire};
+pub use worker_outcome::WorkerOutcome;
 pub use workers::serve_datagrams;

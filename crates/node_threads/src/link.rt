@@ -2,26 +2,26 @@
 
 ghost use Rattle.std.specs.Prelude.{◌≡◌, ◌≤◌, [], ℕ, length, OnOk};
 ghost use Rattle.failover_message.specs.Frames.{frame_octets};
-ghost use Rattle.link_talk.specs.Handed.{opening};
-ghost use Rattle.link_talk.specs.Receipts.{Goes};
-ghost use Rattle.link_talk.specs.Talking.{Met, Unmet, met_at, IsGoing};
-ghost use Rattle.link_talk.specs.Turning.{octets_of};
-ghost use Rattle.link_talk.specs.declared.stage.Stage.TheVariants.{Greeting};
+ghost use Rattle.failover_session.specs.OutboundFrames.{opening};
+ghost use Rattle.failover_session.specs.Receipts.{Goes};
+ghost use Rattle.failover_session.specs.Sessions.{Met, Unmet, met_at, IsGoing};
+ghost use Rattle.failover_session.specs.Polling.{octets_of};
+ghost use Rattle.failover_session.specs.declared.stage.SessionStage.TheVariants.{Greeting};
 ghost use Rattle.node_threads.specs.Reading.{octets_in, HeardAll, HeardOn, AllBehind};
 ghost use Rattle.node_threads.specs.Reading.{HeardFront, FrontBehind, HeardTill};
 ghost use Rattle.node_threads.specs.Writing.{Carried, MayHear, HasHeard, HandsOut, SaysWords, IsWritten};
-ghost use Rattle.node_threads.specs.Writing.{Tells, HasTold};
+ghost use Rattle.node_threads.specs.Writing.{WritesInOrder, HasTold};
 
 use crate::clock::Clock;
 use crate::error::{NetFault, NodeError};
 use crate::notices::{Notices, tell_any};
-use crate::pauses::{PAUSES_A_SECOND, Pauses, Quiet};
+use crate::pauses::{IdleTimer, PAUSES_A_SECOND, SilenceTimer};
 use crate::turns::Turns;
 use crate::watched_book::WatchedBook;
 use crate::wire::{Got, Wire};
 use binding_rules::Counter;
 use failover_message::{Frame, FrameKind, encode};
-use link_talk::{Came, Handed, LockedBook, Talk};
+use failover_session::{FailoverSession, LinkInput, LockedBook, OutboundFrame};
 use locked_book::{BookName, Pass, SharedBook};
 use server_book::Settings;
 use std::alloc::Global;
@@ -56,7 +56,11 @@ fn write_frame<W: Wire>(alloc: Global, wire: &mut W, frame: &Frame) -> Result<()
 }
 
 /// Writes frames, in their order.
-fn write_all<W: Wire>(alloc: Global, wire: &mut W, frames: &[Handed]) -> Result<(), NodeError>
+fn write_all<W: Wire>(
+    alloc: Global,
+    wire: &mut W,
+    frames: &[OutboundFrame],
+) -> Result<(), NodeError>
     ensures out { HandsOut W.brings W.writes W.fails [] frames.now wire.old wire.new result }
     ensures whole { OnOk result (Carried W.brings W.writes wire.old [] frames.now wire.new) }
 {
@@ -70,30 +74,34 @@ fn write_all<W: Wire>(alloc: Global, wire: &mut W, frames: &[Handed]) -> Result<
 }
 
 /// Writes what a talk hands out: the one place where a message leaves.
-fn write_out<W: Wire>(alloc: Global, wire: &mut W, talk: &mut Talk) -> Result<(), NodeError>
+fn write_out<W: Wire>(
+    alloc: Global,
+    wire: &mut W,
+    talk: &mut FailoverSession,
+) -> Result<(), NodeError>
     ensures out { HandsOut W.brings W.writes W.fails [] talk.old.handed wire.old wire.new result }
     ensures whole { OnOk result (Carried W.brings W.writes wire.old [] talk.old.handed wire.new) }
     ensures none { talk.new ≡ record talk.old { handed = [] } }
 {
-    let frames = talk.hand_out();
+    let frames = talk.take_frames();
     write_all(alloc, wire, &frames)
 }
 
 /// Returns what a read brought. When pauses have filled a second, nothing came; before, no octets yet.
-fn came<'a>(got: Got, buffer: &'a [u8], pauses: &mut Pauses) -> Came<'a>
+fn came<'a>(got: Got, buffer: &'a [u8], pauses: &mut IdleTimer) -> LinkInput<'a>
     requires { (count : ℕ) → got ≡ Got.Octets count → count ≤ length buffer.now }
     ensures { octets_of result ≡ octets_in got buffer.now }
 {
     match got {
-        Got::Octets(count) => Came::Octets(&buffer[..count]),
+        Got::Octets(count) => LinkInput::Octets(&buffer[..count]),
         Got::Idle => {
             if pauses.fills_a_second() {
-                Came::Nothing
+                LinkInput::Idle
             } else {
-                Came::Octets(&[])
+                LinkInput::Octets(&[])
             }
         }
-        Got::End => Came::End,
+        Got::End => LinkInput::Closed,
     }
 }
 
@@ -102,12 +110,12 @@ impl<'a, N: BookName, R: Wait, C: Clock, V: Notices> LinkEnd<'a, N, R, C, V> {
     fn tell<W: Wire>(
         &self,
         pass: &mut Pass<N>,
-        talk: &mut Talk,
-        came: &Came<'_>,
+        talk: &mut FailoverSession,
+        came: &LinkInput<'_>,
         wire: &mut W,
     ) -> Result<(), NodeError>
         requires { talk.old.handed ≡ [] }
-        ensures told { Tells W.brings W.writes W.fails
+        ensures told { WritesInOrder W.brings W.writes W.fails
             (FrontBehind talk.old.held (octets_of came.now)) self.now.settings.now.role []
             (met_at talk.old.stage) (met_at talk.new.stage) pass.old.receipts pass.new.receipts wire.old wire.new
             result }
@@ -124,7 +132,7 @@ impl<'a, N: BookName, R: Wait, C: Clock, V: Notices> LinkEnd<'a, N, R, C, V> {
         let Ok(now) = self.clock.now() else {
             return Err(NodeError::Net);
         };
-        let done = talk.turn(&self.book, pass, self.settings, now, came);
+        let done = talk.poll(&self.book, pass, self.settings, now, came);
         match write_out(self.alloc, wire, talk) {
             Ok(()) => {}
             Err(error) => return Err(error),
@@ -139,14 +147,14 @@ impl<'a, N: BookName, R: Wait, C: Clock, V: Notices> LinkEnd<'a, N, R, C, V> {
     fn turn<W: Wire>(
         &self,
         pass: &mut Pass<N>,
-        talk: &mut Talk,
-        pauses: &mut Pauses,
-        quiet: &mut Quiet,
+        talk: &mut FailoverSession,
+        pauses: &mut IdleTimer,
+        quiet: &mut SilenceTimer,
         buffer: &mut [u8],
         wire: &mut W,
     ) -> Result<(), NodeError>
         requires { talk.old.handed ≡ [] }
-        ensures told { Tells W.brings W.writes W.fails (HeardFront talk.old.held) self.now.settings.now.role []
+        ensures told { WritesInOrder W.brings W.writes W.fails (HeardFront talk.old.held) self.now.settings.now.role []
             (met_at talk.old.stage) (met_at talk.new.stage) pass.old.receipts pass.new.receipts wire.old wire.new
             result }
         ensures whole { OnOk result (IsGoing talk.new.stage → HasTold W.brings W.writes
@@ -167,26 +175,31 @@ impl<'a, N: BookName, R: Wait, C: Clock, V: Notices> LinkEnd<'a, N, R, C, V> {
     fn leave<W: Wire>(
         &self,
         pass: &mut Pass<N>,
-        talk: &mut Talk,
+        talk: &mut FailoverSession,
         buffer: &mut [u8],
         wire: &mut W,
     ) -> Result<(), NodeError>
         requires { talk.old.handed ≡ [] }
-        ensures told { Tells W.brings W.writes W.fails (HeardFront talk.old.held) self.now.settings.now.role []
+        ensures told { WritesInOrder W.brings W.writes W.fails (HeardFront talk.old.held) self.now.settings.now.role []
             (met_at talk.old.stage) (met_at talk.new.stage) pass.old.receipts pass.new.receipts wire.old wire.new
             result }
         ensures goes { Goes pass.old.receipts pass.new.receipts }
     {
-        match self.tell(pass, talk, &Came::Octets(&[]), wire) {
+        match self.tell(pass, talk, &LinkInput::Octets(&[]), wire) {
             Ok(()) => disconnect(self.alloc, buffer, wire),
             Err(error) => Err(error),
         }
     }
 
     /// Says what the primary says first: which message it took last.
-    fn greet<W: Wire>(&self, pass: &Pass<N>, talk: &mut Talk, wire: &mut W) -> Result<(), NodeError>
+    fn greet<W: Wire>(
+        &self,
+        pass: &Pass<N>,
+        talk: &mut FailoverSession,
+        wire: &mut W,
+    ) -> Result<(), NodeError>
         requires { talk.old ≡ record { held = []; stage = Greeting; handed = [] } }
-        ensures told { Tells W.brings W.writes W.fails HeardTill self.now.settings.now.role
+        ensures told { WritesInOrder W.brings W.writes W.fails HeardTill self.now.settings.now.role
             (opening self.now.settings.now.role pass.now.receipts) Unmet Unmet pass.now.receipts pass.now.receipts
             wire.old wire.new result }
         ensures whole { OnOk result (HasTold W.brings W.writes (HeardAll []) self.now.settings.now.role
@@ -194,7 +207,7 @@ impl<'a, N: BookName, R: Wait, C: Clock, V: Notices> LinkEnd<'a, N, R, C, V> {
             wire.old wire.new) }
         ensures talk { OnOk result (talk.new ≡ talk.old) }
     {
-        match talk.greet(pass, self.settings) {
+        match talk.send_greeting(pass, self.settings) {
             Ok(()) => write_out(self.alloc, wire, talk),
             Err(error) => Err(NodeError::from(error)),
         }
@@ -276,7 +289,7 @@ pub fn serve_link<N: BookName, R: Wait, C: Clock, V: Notices, W: Wire>(
     notices: &V,
     wire: &mut W,
 ) -> Result<(), NodeError>
-    ensures told { (met : Met) × Tells W.brings W.writes W.fails HeardTill settings.now.role
+    ensures told { (met : Met) × WritesInOrder W.brings W.writes W.fails HeardTill settings.now.role
         (opening settings.now.role pass.old.receipts) Unmet met pass.old.receipts pass.new.receipts wire.old wire.new
         result }
     ensures goes { Goes pass.old.receipts pass.new.receipts }
@@ -294,9 +307,9 @@ pub fn serve_link<N: BookName, R: Wait, C: Clock, V: Notices, W: Wire>(
     let Ok(mut buffer) = vec![in alloc; 0u8; READ_SIZE] else {
         return Err(NodeError::Memory);
     };
-    let mut talk = Talk::new(alloc);
-    let mut pauses = Pauses::new();
-    let mut quiet = Quiet::new();
+    let mut talk = FailoverSession::new(alloc);
+    let mut pauses = IdleTimer::new();
+    let mut quiet = SilenceTimer::new();
     match end.greet(pass, &mut talk, wire) {
         Ok(()) => {}
         Err(error) => return Err(error),

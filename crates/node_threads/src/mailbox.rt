@@ -3,7 +3,7 @@
 ghost use Rattle.std.specs.Prelude.{◌≡◌, ◌≤◌, ℕ, List, length, take, IfOk, OnErr};
 
 use crate::error::NetFault;
-use client_service::Answer;
+use client_service::ClientReply;
 use std::net::{SocketAddr, UdpSocket};
 
 /// One worker's way to those who send datagrams: by it the worker receives, and sends answers. Several workers may have
@@ -31,7 +31,7 @@ pub trait Mailbox {
         ensures failed { OnErr result (fails self.old self.new) };
 
     /// Sends the octets of an answer to its peer.
-    fn send(&mut self, answer: Answer<Self::Peer>) -> Result<(), NetFault>
+    fn send(&mut self, answer: ClientReply<Self::Peer>) -> Result<(), NetFault>
         ensures sent { IfOk result (λ _. sends self.old answer.peer answer.octets self.new) }
         ensures failed { OnErr result (fails self.old self.new) };
 }
@@ -67,7 +67,7 @@ impl Mailbox for UdpMailbox<'_> {
 
     // What a datagram's sender can cause (port 0, no route, an answer too large for the path, a refused port) counts
     // as sent: a socket that is dead fails at its next receive.
-    fn send(&mut self, answer: Answer<SocketAddr>) -> Result<(), NetFault>
+    fn send(&mut self, answer: ClientReply<SocketAddr>) -> Result<(), NetFault>
         ensures sent { IfOk result (λ _. Unit) }
         ensures failed { OnErr result Unit }
     {

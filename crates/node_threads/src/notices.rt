@@ -27,9 +27,9 @@ pub(crate) fn tell_any<V: Notices>(notices: &V, notice: Option<Notice>) {
 
 /// Tells nobody.
 #[derive(Clone, Copy)]
-pub struct Unheard;
+pub struct NoNotices;
 
-impl Notices for Unheard {
+impl Notices for NoNotices {
     fn tell(&self, _notice: Notice) {}
 }
 

@@ -18,16 +18,16 @@ const LONG: u32 = 10 * PAUSES_A_SECOND;
 
 /// The count of pauses in which nothing came, until they fill a second.
 #[derive(Clone, Copy, Debug, PartialEq, Eq)]
-pub struct Pauses {
+pub struct IdleTimer {
     count: u32,
 }
 
-impl Pauses {
+impl IdleTimer {
     /// None yet.
-    pub fn new() -> Pauses
+    pub fn new() -> IdleTimer
         ensures { result.count ≡ 0 }
     {
-        Pauses { count: 0 }
+        IdleTimer { count: 0 }
     }
 
     /// Begins again, since something came.
@@ -54,16 +54,16 @@ impl Pauses {
 
 /// The count of pauses since octets came last.
 #[derive(Clone, Copy)]
-pub(crate) struct Quiet {
+pub(crate) struct SilenceTimer {
     pauses: u32,
 }
 
-impl Quiet {
+impl SilenceTimer {
     /// None yet.
-    pub(crate) fn new() -> Quiet
+    pub(crate) fn new() -> SilenceTimer
         ensures { result.pauses ≡ 0 }
     {
-        Quiet { pauses: 0 }
+        SilenceTimer { pauses: 0 }
     }
 
     /// What a read brought. Returns what a person is to know by it: once, where it makes the quiet ten seconds long.

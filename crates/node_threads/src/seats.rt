@@ -2,7 +2,7 @@
 
 ghost use Rattle.std.specs.Prelude.{◌≡◌, ◌<◌, ◌≤◌, ◌+◌, ◌++◌, length, map, slice_index_or};
 ghost use Rattle.std.specs.Prelude.{vec_len, vec_capacity, Ok, IfOk, IsOk};
-ghost use Rattle.link_talk.specs.Receipts.{Goes};
+ghost use Rattle.failover_session.specs.Receipts.{Goes};
 ghost use Rattle.node_threads.specs.Seats.{with_next, received_after};
 ghost use Rattle.node_threads.specs.Sending.{IsServed};
 
@@ -13,7 +13,7 @@ use crate::notices::Notices;
 use crate::turns::Turns;
 use crate::workers::serve_datagrams;
 use client_id::Duid;
-use client_service::Partner;
+use client_service::PartnerAvailability;
 use locked_book::{BookName, Pass, SharedBook};
 use std::alloc::{AllocError, Global};
 use std::sync::Wait;
@@ -22,7 +22,7 @@ use std::thread::Threads;
 
 /// A worker's seat: its pass and its mailbox, and what came of its work.
 #[derive(Drop)]
-pub struct Seat<N: BookName, M> {
+pub struct WorkerSeat<N: BookName, M> {
     /// The worker's pass.
     pub pass: Pass<N>,
     /// The worker's mailbox.
@@ -36,7 +36,7 @@ pub fn seats_of<N: BookName, M: Drop>(
     alloc: Global,
     passes: Vec<Pass<N>>,
     mailboxes: Vec<M>,
-) -> Result<Vec<Seat<N, M>>, AllocError>
+) -> Result<Vec<WorkerSeat<N, M>>, AllocError>
     requires { vec_len passes ≡ vec_len mailboxes }
     ensures passes { IfOk result (λ seats. map (λ seat. seat.pass) seats.items ≡ passes.items) }
     ensures mailboxes { IfOk result (λ seats. map (λ seat. seat.mailbox) seats.items ≡ mailboxes.items) }
@@ -48,7 +48,7 @@ pub fn seats_of<N: BookName, M: Drop>(
             unreachable!()
         };
         let received = Ok(0);
-        seats.push(Seat {
+        seats.push(WorkerSeat {
             pass,
             mailbox,
             received,
@@ -70,11 +70,11 @@ pub fn serve_seats<
     rt: &R,
     alloc: Global,
     shared: &SharedBook<N>,
-    seats: &mut [Seat<N, M>],
+    seats: &mut [WorkerSeat<N, M>],
     own: &Duid,
     clock: &C,
     turns: &Turns,
-    partner: Partner,
+    partner: PartnerAvailability,
     notices: &V,
 )
     ensures seats { length seats.new ≡ length seats.old }
@@ -88,7 +88,7 @@ pub fn serve_seats<
         (slice_index_or seats.new k d).pass.receipts (slice_index_or seats.new k d).received }
 {
     let workers = seats.len().max(1);
-    let work = |_place: usize, seat: &mut Seat<N, M>|
+    let work = |_place: usize, seat: &mut WorkerSeat<N, M>|
         ensures { Goes seat.entry.now.pass.receipts seat.exit.now.pass.receipts
             × (IfOk seat.exit.now.received (λ received. received ≤ 1000000)
             × IsServed M.receives M.sends M.fails partner own.exit.now seat.entry.now.mailbox seat.exit.now.mailbox
@@ -124,7 +124,7 @@ fn added(one: Result<u32, NodeError>, other: Result<u32, NodeError>) -> Result<u
 /// in all, or why the first of the workers that failed did. An error where memory was refused: never where `passes` had
 /// room for all.
 pub fn leave_seats<N: BookName, M: Drop>(
-    seats: Vec<Seat<N, M>>,
+    seats: Vec<WorkerSeat<N, M>>,
     passes: &mut Vec<Pass<N>>,
 ) -> Result<Result<u32, NodeError>, AllocError>
     ensures passes { IfOk result (λ _. passes.new.items ≡ passes.old.items ++ map (λ seat. seat.pass) seats.items) }

@@ -10,7 +10,7 @@ use crate::notices::Notices;
 use crate::seats::{leave_seats, seats_of, serve_seats};
 use crate::turns::Turns;
 use client_id::Duid;
-use client_service::Partner;
+use client_service::PartnerAvailability;
 use locked_book::{BookName, LockFault, SharedBook};
 use server_book::Book;
 use std::alloc::Global;
@@ -21,7 +21,7 @@ use thiserror::Error;
 
 /// The book and the passes that workers leave.
 #[derive(Drop)]
-pub struct Left {
+pub struct WorkersResult {
     /// The book with their lines. It isn't closed.
     pub book: Book,
     /// How many datagrams they received in all, or why the first of those that failed did.
@@ -30,7 +30,7 @@ pub struct Left {
 
 /// Why workers leave no book.
 #[derive(Clone, Copy, Debug, PartialEq, Eq, Error)]
-pub enum LeaveError {
+pub enum ServeAllError {
     /// Not 1 to 64 workers.
     #[error("a book has 1 to 64 workers")]
     Workers,
@@ -62,9 +62,9 @@ pub fn serve_all<
     own: &Duid,
     clock: &C,
     turns: &Turns,
-    partner: Partner,
+    partner: PartnerAvailability,
     notices: &V,
-) -> Result<Left, LeaveError>
+) -> Result<WorkersResult, ServeAllError>
     requires name { blank.name ≡ N.name }
     requires parts { (blank.parts ≡ N.parts) × (N.parts ≡ length mailboxes.items) }
     requires passes { N.passes ≡ length mailboxes.items }
@@ -72,32 +72,32 @@ pub fn serve_all<
     ensures opening { IfOk result (λ left. take (length book.lines) left.book.lines ≡ book.lines) }
     ensures legal { IfOk result (λ left. IsLegal left.book) }
     ensures within { IfOk result (λ _. (1 ≤ length mailboxes.items) × (length mailboxes.items ≤ 64)) }
-    ensures outside { IsErrOf result LeaveError.Workers → (length mailboxes.items ≡ 0) ⊎ (64 < length mailboxes.items) }
+    ensures outside { IsErrOf result ServeAllError.Workers → (length mailboxes.items ≡ 0) ⊎ (64 < length mailboxes.items) }
 {
     let workers = mailboxes.len();
     let (shared, passes) = match SharedBook::<N>::open(alloc, blank, book, workers) {
         Ok(opened) => opened,
         Err(refused) => {
             return match refused.why {
-                LockFault::Passes => Err(LeaveError::Workers),
-                LockFault::Memory => Err(LeaveError::Memory),
+                LockFault::Passes => Err(ServeAllError::Workers),
+                LockFault::Memory => Err(ServeAllError::Memory),
             };
         }
     };
     let Ok(mut left) = Vec::with_capacity(alloc, workers) else {
-        return Err(LeaveError::Memory);
+        return Err(ServeAllError::Memory);
     };
     let Ok(mut seats) = seats_of(alloc, passes, mailboxes) else {
-        return Err(LeaveError::Memory);
+        return Err(ServeAllError::Memory);
     };
     serve_seats(
         rt, alloc, &shared, &mut seats, own, clock, turns, partner, notices,
     );
     let Ok(received) = leave_seats(seats, &mut left) else {
-        return Err(LeaveError::Memory);
+        return Err(ServeAllError::Memory);
     };
     match shared.close(left) {
-        Ok(book) => Ok(Left { book, received }),
-        Err(_) => Err(LeaveError::Book),
+        Ok(book) => Ok(WorkersResult { book, received }),
+        Err(_) => Err(ServeAllError::Book),
     }
 }

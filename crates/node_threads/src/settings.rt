@@ -17,7 +17,7 @@ const MOST_WORKERS: usize = 63;
 
 /// Where a node's clients and its partner are heard, and by how many workers.
 #[derive(Clone, Copy, Debug)]
-pub struct Ways {
+pub struct NodeEndpoints {
     /// Where clients' datagrams come.
     pub listen: SocketAddr,
     /// Where the secondary listens for the primary, if there is a link.
@@ -27,7 +27,7 @@ pub struct Ways {
     ghost few: { workers ≤ 63 },
 }
 
-impl Ways {
+impl NodeEndpoints {
     /// Returns how many workers there are, 1 to 63.
     pub fn workers(&self) -> usize
         ensures value { result ≡ self.now.workers }
@@ -42,7 +42,7 @@ impl Ways {
 #[derive(Drop)]
 pub struct NodeSettings {
     pub server: Settings,
-    pub ways: Ways,
+    pub ways: NodeEndpoints,
 }
 
 /// The address and port that a text at a key spells.
@@ -60,14 +60,14 @@ fn workers_in(table: &Table) -> Option<usize>
     Some(workers)
 }
 
-fn ways_in(table: &Table) -> Option<Ways> {
+fn ways_in(table: &Table) -> Option<NodeEndpoints> {
     let listen = address_at(table, "listen")?;
     let workers = workers_in(table)?;
     let link = match table.get("link") {
         Some(_) => Some(address_at(table, "link")?),
         None => None,
     };
-    Some(Ways {
+    Some(NodeEndpoints {
         listen,
         link,
         workers,

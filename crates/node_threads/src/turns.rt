@@ -8,12 +8,12 @@ use std::sync::{Mutex, Wait};
 pub(crate) const MOST_TURNS: u32 = 1_000_000;
 
 #[derive(Drop)]
-struct Left {
+struct TurnsLeft {
     turns: u32,
     has_ended: bool,
 }
 
-impl Left {
+impl TurnsLeft {
     fn take(&mut self) -> bool {
         match self.turns.checked_sub(1) {
             Some(left) => {
@@ -32,14 +32,14 @@ impl Left {
 /// The turns of several workers: one for each datagram.
 #[derive(Drop)]
 pub struct Turns {
-    left: Mutex<Left>,
+    left: Mutex<TurnsLeft>,
 }
 
 impl Turns {
     /// So many turns.
     pub fn new(turns: u32) -> Turns {
         Turns {
-            left: Mutex::new(Left {
+            left: Mutex::new(TurnsLeft {
                 turns,
                 has_ended: false,
             }),

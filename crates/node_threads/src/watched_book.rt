@@ -5,9 +5,9 @@ ghost use Rattle.node_threads.specs.Noticing.{notice_by, dropped_by};
 
 use crate::notices::{Notice, Notices, tell_any};
 use binding_rules::{Body, Outcome, PartnerMessage};
+use failover_session::PairBook;
 use lead_time::Reading;
-use link_talk::PairBook;
-use locked_book::{Look, Receipt, ServeError, Work};
+use locked_book::{Look, PendingWork, Receipt, ServeError};
 use order_book::{BookError, Order, Reply};
 use prefix_range::Prefix;
 
@@ -75,7 +75,12 @@ impl<B: PairBook, V: Notices> PairBook for WatchedBook<'_, B, V> {
         done
     }
 
-    fn work_from(&self, pass: &mut B::Pass, now: Reading, from: u128) -> Result<Work, ServeError> {
+    fn work_from(
+        &self,
+        pass: &mut B::Pass,
+        now: Reading,
+        from: u128,
+    ) -> Result<PendingWork, ServeError> {
         self.book.work_from(pass, now, from)
     }
 

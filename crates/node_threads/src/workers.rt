@@ -1,22 +1,22 @@
 //! What a worker does.
 
 ghost use Rattle.std.specs.Prelude.{◌≡◌, ◌≤◌, List, length, take, IfOk};
-ghost use Rattle.link_talk.specs.Receipts.{Goes};
+ghost use Rattle.failover_session.specs.Receipts.{Goes};
 ghost use Rattle.node_threads.specs.Sending.{IsHeard, IsTurn, IsServed};
 ghost use Rattle.node_threads.specs.Answered.{unanswered, refused, IsSent, IsReplied};
 
 use crate::clock::Clock;
 use crate::error::NodeError;
-use crate::heard::Heard;
 use crate::mailbox::Mailbox;
 use crate::notices::{Notices, tell_any};
 use crate::turns::{MOST_TURNS, Turns};
+use crate::worker_outcome::WorkerOutcome;
 use client_id::Duid;
-use client_service::{Answer, Partner, Shared, Silence, answer_to};
+use client_service::{ClientReply, NoReplyReason, PartnerAvailability, SharedService, answer_to};
 use dhcp6_pd::{ClientMessage, decode};
 use lead_time::Reading;
 use locked_book::{BookName, Pass, ServeError, SharedBook};
-use server_book::Manner;
+use server_book::ReplyPolicy;
 use std::alloc::Global;
 use std::sync::Wait;
 
@@ -30,41 +30,48 @@ struct Worker<'a, N: BookName, R: Wait, C: Clock> {
     alloc: Global,
     shared: &'a SharedBook<N>,
     own: &'a Duid,
-    partner: Partner,
+    partner: PartnerAvailability,
     clock: &'a C,
 }
 
 /// What comes of a message that has no answer: where its pass is a stranger to the book, the worker ends.
-fn unanswered(why: Silence) -> Result<Heard, NodeError>
+fn unanswered(why: NoReplyReason) -> Result<WorkerOutcome, NodeError>
     ensures { result ≡ unanswered why }
 {
     match why {
-        Silence::NothingAsked => Ok(Heard::Unanswered(Silence::NothingAsked)),
-        Silence::Elsewhere => Ok(Heard::Unanswered(Silence::Elsewhere)),
-        Silence::TooLong => Ok(Heard::Unanswered(Silence::TooLong)),
-        Silence::Memory => Ok(Heard::Unanswered(Silence::Memory)),
-        Silence::Refused(refusal) => refused(refusal),
+        NoReplyReason::NothingRequested => Ok(WorkerOutcome::Unanswered(
+            NoReplyReason::NothingRequested,
+        )),
+        NoReplyReason::UnknownBinding => Ok(WorkerOutcome::Unanswered(
+            NoReplyReason::UnknownBinding,
+        )),
+        NoReplyReason::TooLong => Ok(WorkerOutcome::Unanswered(NoReplyReason::TooLong)),
+        NoReplyReason::Memory => Ok(WorkerOutcome::Unanswered(NoReplyReason::Memory)),
+        NoReplyReason::Refused(refusal) => refused(refusal),
     }
 }
 
 /// What comes of a message whose order ended in what no client is told.
-fn refused(refusal: ServeError) -> Result<Heard, NodeError>
+fn refused(refusal: ServeError) -> Result<WorkerOutcome, NodeError>
     ensures { result ≡ refused refusal }
 {
     match refusal {
         ServeError::Stranger { .. } => Err(NodeError::Serve(refusal)),
         ServeError::Book(_) | ServeError::Memory => {
-            Ok(Heard::Unanswered(Silence::Refused(refusal)))
+            Ok(WorkerOutcome::Unanswered(NoReplyReason::Refused(refusal)))
         }
     }
 }
 
 /// Sends an answer.
-fn sent<M: Mailbox>(mailbox: &mut M, answer: Answer<M::Peer>) -> Result<Heard, NodeError>
+fn sent<M: Mailbox>(
+    mailbox: &mut M,
+    answer: ClientReply<M::Peer>,
+) -> Result<WorkerOutcome, NodeError>
     ensures { IsSent M.sends M.fails answer mailbox.old mailbox.new result }
 {
     match mailbox.send(answer) {
-        Ok(()) => Ok(Heard::Answered),
+        Ok(()) => Ok(WorkerOutcome::Answered),
         Err(_) => Err(NodeError::Net),
     }
 }
@@ -78,16 +85,16 @@ impl<'a, N: BookName, R: Wait, C: Clock> Worker<'a, N, R, C> {
         peer: M::Peer,
         now: Reading,
         message: &ClientMessage,
-    ) -> Result<Heard, NodeError>
+    ) -> Result<WorkerOutcome, NodeError>
         ensures heard { IsReplied M.sends M.fails self.now.partner self.now.own.now peer now message.now
             mailbox.old mailbox.new pass.old.receipts pass.new.receipts result }
         ensures goes { Goes pass.old.receipts pass.new.receipts }
     {
-        let service = Shared {
+        let service = SharedService {
             rt: self.rt,
             book: self.shared,
         };
-        let manner = Manner::plain(self.alloc);
+        let manner = ReplyPolicy::plain(self.alloc);
         match answer_to(
             self.alloc,
             &service,
@@ -113,14 +120,14 @@ impl<'a, N: BookName, R: Wait, C: Clock> Worker<'a, N, R, C> {
         mailbox: &mut M,
         peer: M::Peer,
         datagram: &[u8],
-    ) -> Result<Heard, NodeError>
+    ) -> Result<WorkerOutcome, NodeError>
         ensures heard { IsHeard M.sends M.fails self.now.partner self.now.own.now peer datagram.now
             mailbox.old mailbox.new pass.old.receipts pass.new.receipts result }
         ensures goes { Goes pass.old.receipts pass.new.receipts }
     {
         let message = match decode(self.alloc, datagram, self.own) {
             Ok(message) => message,
-            Err(error) => return Ok(Heard::Unread(error)),
+            Err(error) => return Ok(WorkerOutcome::Unread(error)),
         };
         let Ok(now) = self.clock.now() else {
             return Err(NodeError::Net);
@@ -134,7 +141,7 @@ impl<'a, N: BookName, R: Wait, C: Clock> Worker<'a, N, R, C> {
         pass: &mut Pass<N>,
         mailbox: &mut M,
         buffer: &mut [u8],
-    ) -> Result<Heard, NodeError>
+    ) -> Result<WorkerOutcome, NodeError>
         ensures turn { IsTurn M.receives M.sends M.fails self.now.partner self.now.own.now
             mailbox.old mailbox.new pass.old.receipts pass.new.receipts result }
         ensures goes { Goes pass.old.receipts pass.new.receipts }
@@ -163,7 +170,7 @@ pub fn serve_datagrams<N: BookName, R: Wait, M: Mailbox, C: Clock, V: Notices>(
     mailbox: &mut M,
     clock: &C,
     turns: &Turns,
-    partner: Partner,
+    partner: PartnerAvailability,
     notices: &V,
 ) -> Result<u32, NodeError>
     ensures few { IfOk result (λ received. received ≤ 1000000) }

@@ -3,7 +3,7 @@ use Rattle.std.specs.Prelude.{◌≡◌, ℕ, ◌≤◌, Option, Some, None}
 use Rattle.std.proofs.Common.{subst}
 use Rattle.prefix_range.specs.Prefix.{Prefix}
 use Rattle.book_state.specs.Book.{BookState}
-use Rattle.unit_finder.specs.Queries.{IsToExpire, IsFirstExpiry}
+use Rattle.unit_index.specs.Queries.{IsToExpire, IsFirstExpiry}
 
 pub first_by_then : (b : BookState) (found : Option ℕ) (now : ℕ) (p : Prefix) → IsFirstExpiry b found
     → IsToExpire b now p

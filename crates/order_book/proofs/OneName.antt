@@ -33,11 +33,11 @@ use Rattle.book_rules.proofs.RuleNumbers.{one_number}
 use Rattle.book_state.proofs.Ranges.{within}
 use Rattle.book_rules.proofs.Settings.{Settings, IsSetting, settings_kept}
 use Rattle.book_state.proofs.TableLaws.{disjoint_push}
-use Rattle.order_book.specs.declared.order.Asked.{Asked}
+use Rattle.order_book.specs.declared.order.LeaseRequest.{LeaseRequest}
 use Rattle.order_book.specs.declared.order.Order.{Order}
 use Rattle.order_book.specs.declared.order.Order.TheVariants.{Request, Renew, Release as ReleaseOrder, SendUpdate}
 use Rattle.order_book.specs.declared.order.Order.TheVariants.{SendReply, SendContact}
-use Rattle.unit_finder.specs.Units.{IsUnitOf, IsUsable, IsBoundTo, IsLowest}
+use Rattle.unit_index.specs.Units.{IsUnitOf, IsUsable, IsBoundTo, IsLowest}
 use Rattle.order_book.specs.Bindings.{IsBound, IsOffered}
 use Rattle.order_book.specs.Named.{lease_of, message_of, IsUpdateOf, IsReplyOf, IsNamed}
 use Rattle.order_book.specs.Answer.{next_line}
@@ -224,13 +224,13 @@ one_lowest b P p q d unit x y =
     let ge = y.1 p x.0 in
     one_unit b.pools p q d up.whole uq.whole up.unit uq.unit (omega arith)
 
-one_bound : (b : BookState) (a : Asked) (p q : Prefix) → AreDisjoint b.pools → IsBound b a p → IsBound b a q → p ≡ q
+one_bound : (b : BookState) (a : LeaseRequest) (p q : Prefix) → AreDisjoint b.pools → IsBound b a p → IsBound b a q → p ≡ q
 one_bound b a p q d (inl x) (inl y) = cc (x.0, y.0)
 one_bound b a p q d (inl x) (inr y) = absurd (y.0 p x)
 one_bound b a p q d (inr x) (inl y) = absurd (x.0 q y)
 one_bound b a p q d (inr x) (inr y) = one_lowest b (IsBoundTo b a.client a.iaid) p q d (λ z h. h.0) x.1 y.1
 
-one_offered : (b : BookState) (a : Asked) (p q : Prefix) → AreDisjoint b.pools → IsOffered b a p → IsOffered b a q
+one_offered : (b : BookState) (a : LeaseRequest) (p q : Prefix) → AreDisjoint b.pools → IsOffered b a p → IsOffered b a q
     → p ≡ q
 one_offered b a p q d (inl x) (inl y) = one_bound b a p q d x y
 one_offered b a p q d (inl x) (inr y) = absurd (y.0 p x)

@@ -13,7 +13,7 @@ use Rattle.order_book.specs.declared.reply.Reply.{Reply}
 use Rattle.order_book.specs.declared.reply.Reply.TheVariants.{Granted, Released, Sent, Taken, Done}
 use Rattle.order_book.specs.declared.error.BookError.{BookError}
 use Rattle.order_book.specs.declared.error.BookError.TheVariants.{NotServing, Full, NoBinding, NoPrefix, Rule, Memory}
-use Rattle.unit_finder.specs.Units.{IsUsable}
+use Rattle.unit_index.specs.Units.{IsUsable}
 use Rattle.order_book.specs.Bindings.{IsHinted, IsBound}
 use Rattle.order_book.specs.Named.{IsNamed}
 

@@ -4,5 +4,5 @@ pub mod Named
 pub mod Answer
 pub mod Laws
 pub mod NextBook
-pub mod Owed
+pub mod CarryLines
 pub mod Keeping

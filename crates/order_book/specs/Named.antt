@@ -17,7 +17,7 @@ use Rattle.journal_lines.specs.declared.event.Event.TheVariants.{State as StateL
 use Rattle.journal_lines.specs.declared.event.Event.TheVariants.{Close as CloseLine}
 use Rattle.book_state.specs.Book.{BookState}
 use Rattle.book_rules.specs.MessageRules.{TellsUnit, TellsNumbers}
-use Rattle.order_book.specs.declared.order.Asked.{Asked}
+use Rattle.order_book.specs.declared.order.LeaseRequest.{LeaseRequest}
 use Rattle.order_book.specs.declared.order.Order.{Order}
 use Rattle.order_book.specs.declared.order.Order.TheVariants.{Request, Renew, Release, Expire, Backup, Reclaim, Seize}
 use Rattle.order_book.specs.declared.order.Order.TheVariants.{SendUpdate, SendReply, SendContact, Take, State, Restart}
@@ -25,7 +25,7 @@ use Rattle.order_book.specs.declared.order.Order.TheVariants.{Close}
 use Rattle.order_book.specs.Bindings.{IsHinted, IsBound, IsOffered}
 
 -- the lifetime is what the maximum client lead time allows
-abbrev pub lease_of : BookState → ℕ → Asked → Prefix → Lease
+abbrev pub lease_of : BookState → ℕ → LeaseRequest → Prefix → Lease
 lease_of b now a p =
     record {
       client = a.client;

@@ -18,14 +18,14 @@
 
 mod book;
 mod error;
-mod heading;
 mod laws;
 mod opening;
 mod order;
 mod reply;
+mod volume_head;
 
 pub use book::Book;
 pub use error::BookError;
 pub use laws::{answer_is_one, opening_is_legal};
-pub use order::{Asked, Order};
+pub use order::{LeaseRequest, Order};
 pub use reply::Reply;

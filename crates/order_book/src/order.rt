@@ -9,7 +9,7 @@ use prefix_range::Prefix;
 
 /// A client's question: its identity association, and the prefix that it names, if any (RFC 8415, section 21.22).
 #[derive(Clone, Copy, Debug, PartialEq, Eq)]
-pub struct Asked {
+pub struct LeaseRequest {
     pub client: Duid,
     pub iaid: Iaid,
     pub hint: Option<Prefix>,
@@ -19,11 +19,11 @@ pub struct Asked {
 #[derive(Clone, Copy, Debug, PartialEq, Eq)]
 pub enum Order {
     /// Delegate a prefix to a client, or renew what it has.
-    Request(Asked),
+    Request(LeaseRequest),
     /// Renew what a client has.
-    Renew(Asked),
+    Renew(LeaseRequest),
     /// Take back what a client gives up.
-    Release(Asked),
+    Release(LeaseRequest),
     /// End the lease of a unit.
     Expire(Prefix),
     /// Move a free unit to the secondary's pool.

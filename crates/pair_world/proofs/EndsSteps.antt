@@ -2,7 +2,7 @@
 use Rattle.std.specs.Prelude.{◌==◌, ◌≡◌, ℕ, ◌+◌, ◌<◌, ◌≤◌, ◌⊎◌, Bool, true, ◌||◌, List, ◌∷◌, Option, Some, None, max}
 use Rattle.std.proofs.Common.{arith, inl, inr, sym, ◌∙◌, ap, subst, nat_le}
 use Rattle.std.proofs.lemmas.Bool.{and_parts}
-use Rattle.pair_world.specs.Kept.{Ends, IsActiveOf, lead_of}
+use Rattle.pair_world.specs.Kept.{RunningGrantsEnd, IsActiveOf, lead_of}
 use Rattle.pair_world.specs.Phases.{Due}
 use Rattle.pair_world.specs.Said.{Says, binding_of}
 use Rattle.binding_rules.specs.declared.unit.UnitStatus.TheVariants.{Active, Expired, Free, FreeBackup, Released}
@@ -25,13 +25,13 @@ use Rattle.binding_rules.specs.Table.{accepts}
 
 -- the side itself
 module _ (s : UnitSetting) (now : ℕ) (log : List Entry) (side : Role) (u : UnitValue) (Told : Update
-    → Type 0) (down : Option ℕ) (mark : Bool) (ends : Ends s now log side u Told down mark)
+    → Type 0) (down : Option ℕ) (mark : Bool) (ends : RunningGrantsEnd s now log side u Told down mark)
     (seen_le : (v : Update) → Told v → v.seen ≤ u.mine) where
   -- what runs goes on under the unit's new binding and ends
   pub changes_own : (u' : UnitValue) → (u'.mine ≡ u.mine) ⊎ (u'.mine ≡ u.mine + 1)
       → ((k : Binding) (end : ℕ) → Runs s.transit log side k end → now < end → IsActiveOf u.status k
       → end + s.skew ≤ u.own_end → IsActiveOf u'.status k × (end + s.skew ≤ u'.own_end) × (u.acked ≤ u'.acked))
-      → Ends s now log side u' Told down mark
+      → RunningGrantsEnd s now log side u' Told down mark
   changes_own u' mine keeps = record {
     own_end = λ k end runs lt. let h = on k end runs lt in (h.0, h.1);
     released = λ v told is seen end runs. by_word mine
@@ -49,7 +49,7 @@ module _ (s : UnitSetting) (now : ℕ) (log : List Entry) (side : Role) (u : Uni
   pub grants_own : (reading valid out_end : ℕ) (holder : Binding) → now ≤ reading + s.skew → reading ≤ now + s.skew
       → ((k : Binding) → IsActiveOf u.status k → holder ≡ k)
       → IsWithinLead s u.acked reading valid → ((d : ℕ) → down ≡ Some d → ⊥) → (mark ≡ true → ⊥)
-      → Ends s now (Gives side holder now valid ∷ log) side (granted s reading valid out_end holder u) Told down mark
+      → RunningGrantsEnd s now (Gives side holder now valid ∷ log) side (granted s reading valid out_end holder u) Told down mark
   grants_own reading valid out_end holder near near' same within up none = record {
     own_end = own;
     released = λ v told is seen end runs. let h = seen_le v told in absurd (omega arith);
@@ -69,7 +69,7 @@ module _ (s : UnitSetting) (now : ℕ) (log : List Entry) (side : Role) (u : Uni
     in_lead k end (inr r) lt = ends.lead k end r lt
 
   pub gives_back_own : (u' : UnitValue) (holder : Binding) → u'.mine ≡ u.mine + 1 → u.status ≡ Active holder
-      → Ends s now (GivesBack holder now ∷ log) side u' Told down mark
+      → RunningGrantsEnd s now (GivesBack holder now ∷ log) side u' Told down mark
   gives_back_own u' holder mine is = record {
     own_end = λ k end runs lt. absurd (over k end runs lt);
     released = λ v told r seen end runs. let h = seen_le v told in absurd (omega arith);
@@ -82,9 +82,9 @@ module _ (s : UnitSetting) (now : ℕ) (log : List Entry) (side : Role) (u : Uni
 
 -- the other side
 module _ (s : UnitSetting) (now : ℕ) (log : List Entry) (side : Role) (u : UnitValue) (Told : Update
-    → Type 0) (down : Option ℕ) (mark : Bool) (ends : Ends s now log side u Told down mark) where
+    → Type 0) (down : Option ℕ) (mark : Bool) (ends : RunningGrantsEnd s now log side u Told down mark) where
   pub told_less : (Told' : Update → Type 0) → ((v : Update) → Told' v → v.status ≡ ReleasedDue → Told v)
-      → Ends s now log side u Told' down mark
+      → RunningGrantsEnd s now log side u Told' down mark
   told_less Told' less = record {
     own_end = ends.own_end;
     released = λ v told is seen end runs. ends.released v (less v told is) is seen end runs;
@@ -94,7 +94,7 @@ module _ (s : UnitSetting) (now : ℕ) (log : List Entry) (side : Role) (u : Uni
   }
 
   pub grants_other : (x : Role) (holder : Binding) (valid : ℕ) → (x ≡ side → ⊥)
-      → Ends s now (Gives x holder now valid ∷ log) side u Told down mark
+      → RunningGrantsEnd s now (Gives x holder now valid ∷ log) side u Told down mark
   grants_other x holder valid differs = record {
     own_end = λ k end runs. ends.own_end k end (other_runs k end runs);
     released = λ v told is seen end runs. ends.released v told is seen end (other_runs (binding_of v) end runs);
@@ -109,7 +109,7 @@ module _ (s : UnitSetting) (now : ℕ) (log : List Entry) (side : Role) (u : Uni
 
   pub gives_back_other : (Told' : Update → Type 0) (holder : Binding)
       → ((v : Update) → Told' v → v.status ≡ ReleasedDue → Told v ⊎ (holder ≡ binding_of v))
-      → Ends s now (GivesBack holder now ∷ log) side u Told' down mark
+      → RunningGrantsEnd s now (GivesBack holder now ∷ log) side u Told' down mark
   gives_back_other Told' holder less = record {
     own_end = λ k end runs lt. ends.own_end k end runs.1 lt;
     released = λ v told is seen end runs. by_word (less v told is) (λ old. ends.released v old is seen end runs.1)
@@ -119,7 +119,7 @@ module _ (s : UnitSetting) (now : ℕ) (log : List Entry) (side : Role) (u : Uni
     none_marked = λ is k end runs. ends.none_marked is k end runs.1;
   }
 
-  pub later : (n : ℕ) → Ends s (now + n) log side u Told down mark
+  pub later : (n : ℕ) → RunningGrantsEnd s (now + n) log side u Told down mark
   later n = record {
     own_end = λ k end runs lt. ends.own_end k end runs (omega arith);
     released = λ v told is seen end runs. let h = ends.released v told is seen end runs in omega arith;
@@ -129,7 +129,7 @@ module _ (s : UnitSetting) (now : ℕ) (log : List Entry) (side : Role) (u : Uni
   }
 
   -- the other holds this side to be down, from a reading near now
-  pub down_other : (d' : ℕ) → now ≤ d' + s.skew → Ends s now log side u Told (Some d') mark
+  pub down_other : (d' : ℕ) → now ≤ d' + s.skew → RunningGrantsEnd s now log side u Told (Some d') mark
   down_other d' near = record {
     own_end = ends.own_end;
     released = ends.released;
@@ -138,7 +138,7 @@ module _ (s : UnitSetting) (now : ℕ) (log : List Entry) (side : Role) (u : Uni
     none_marked = ends.none_marked;
   }
 
-  pub up_other : Ends s now log side u Told None mark
+  pub up_other : RunningGrantsEnd s now log side u Told None mark
   up_other = record {
     own_end = ends.own_end;
     released = ends.released;
@@ -150,7 +150,7 @@ module _ (s : UnitSetting) (now : ℕ) (log : List Entry) (side : Role) (u : Uni
 
   -- where none of this side's grants runs, any words may come, and the other's mark may go
   pub told_any : (Told' : Update → Type 0) (mark' : Bool)
-      → ((k : Binding) (end : ℕ) → Runs s.transit log side k end → end ≤ now) → Ends s now log side u Told' down mark'
+      → ((k : Binding) (end : ℕ) → Runs s.transit log side k end → end ≤ now) → RunningGrantsEnd s now log side u Told' down mark'
   told_any Told' mark' none = record {
     own_end = ends.own_end;
     released = λ v told is seen end runs. none (binding_of v) end runs;
@@ -161,7 +161,7 @@ module _ (s : UnitSetting) (now : ℕ) (log : List Entry) (side : Role) (u : Uni
 
   -- the other's mark changes
   pub mark_other : (mark' : Bool) → (mark' ≡ true → (k : Binding) (end : ℕ) → Runs s.transit log side k end
-      → end ≤ now) → Ends s now log side u Told down mark'
+      → end ≤ now) → RunningGrantsEnd s now log side u Told down mark'
   mark_other mark' none = record {
     own_end = ends.own_end;
     released = ends.released;

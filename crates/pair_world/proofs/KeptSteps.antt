@@ -3,7 +3,7 @@ use Rattle.std.specs.Prelude.{◌≡◌, ℕ, ◌+◌, ◌*◌, ◌<◌, ◌≤�
 use Rattle.std.specs.Prelude.{None, max}
 use Rattle.std.proofs.Common.{arith, inl, inr, refl, sym, ◌∙◌, ap, subst}
 use Rattle.std.proofs.lemmas.Bool.{or_cases, eqb-true, leb-true, cases_lt}
-use Rattle.pair_world.specs.Kept.{Ends, IsActiveOf, IsPast, Servers}
+use Rattle.pair_world.specs.Kept.{RunningGrantsEnd, IsActiveOf, IsPast, Servers}
 use Rattle.pair_world.specs.Said.{DueOf, InMark, Says, binding_of, code, due_code, is_mark}
 use Rattle.binding_rules.specs.declared.unit.UnitStatus.TheVariants.{Active, Expired, Free, FreeBackup, Released}
 use Rattle.binding_rules.specs.declared.update.Status.TheVariants.{Active as ActiveDue, Backup as BackupDue}
@@ -87,15 +87,15 @@ module _ (side : Role) (s : UnitSetting) (now : ℕ) (log : List Entry) (x y : S
       → (x.unit.marked ≡ false → y.unit.marked ≡ false → (k : Binding) → CalmOf side k (record x { unit = u }) y)
       → (x.unit.marked ≡ true → (k : Binding) → InMark side k (record x { unit = u }) y)
       → (y.unit.marked ≡ true → (k : Binding) → InMark other k y (record x { unit = u }))
-      → Ends s now log' side u (Says y) y.down y.unit.marked
-      → Ends s now log' other y.unit (Says (record x { unit = u })) x.down x.unit.marked → IsPast now log'
+      → RunningGrantsEnd s now log' side u (Says y) y.down y.unit.marked
+      → RunningGrantsEnd s now log' other y.unit (Says (record x { unit = u })) x.down x.unit.marked → IsPast now log'
       → KeptFrom side s now log' (record x { unit = u }) y
   put log' u e calm at_x at_y own others past = as_kept side s now log' (record x { unit = u }) y (record {
     calm = λ p q. calm (sym e ∙ p) q;
     marked_x = λ p. at_x (sym e ∙ p);
     marked_y = at_y;
     ends_x = own;
-    ends_y = subst (λ m. Ends s now log' other y.unit (Says (record x { unit = u })) x.down m) (sym e) others;
+    ends_y = subst (λ m. RunningGrantsEnd s now log' other y.unit (Says (record x { unit = u })) x.down m) (sym e) others;
     servers = off_less x y here u x.updates x.replies off;
     past = past;
   }) where
@@ -422,7 +422,7 @@ module _ (side : Role) (s : UnitSetting) (now : ℕ) (log : List Entry) (x y : S
         asked = asked;
         stopped = stopped;
       }) y
-      → Ends s now log other y.unit (Says x) down x.unit.marked
+      → RunningGrantsEnd s now log other y.unit (Says x) down x.unit.marked
       → KeptFrom side s now log (record x {
         contacts = contacts;
         down = down;

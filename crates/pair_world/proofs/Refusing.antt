@@ -17,7 +17,7 @@ use Rattle.pair_world.specs.declared.event.Event.{Event}
 use Rattle.pair_world.specs.declared.event.Event.TheVariants.{Serve, Deliver, Restart}
 use Rattle.pair_world.specs.PairWorld.{PairWorld, journal, book, is_stopped, with_stop, written, IsNear, IsNumbered}
 use Rattle.pair_world.specs.PairWorld.{IsFedBy, IsDownAllowed, Fails, IsBookRefusal, rank, IsFirstFailure, IsRefused}
-use Rattle.pair_world.specs.PairWorld.{Answers}
+use Rattle.pair_world.specs.PairWorld.{ServerAnswers}
 
 -- the book's refusal is the first where none of the others applies
 first_of_book : (w : PairWorld) (e : Event) (b : BookError) → Fails w e (OfBook b) → (Fails w e ClockOff → ⊥)
@@ -36,7 +36,7 @@ first_of_book w e b fails near runs stops fed allowed = record { fails = fails; 
 -- what the order would be answered
 answered : (w : PairWorld) (side : Role) (clock : ℕ) (order : Order) (l : Line) → IsNear w clock
     → IsServed (book side w) clock order l
-    → Answers w side clock order l (reply_to (book side w) l.reading l.event)
+    → ServerAnswers w side clock order l (reply_to (book side w) l.reading l.event)
 answered w side clock order l near served = (near, record { line = served; told = refl })
 
 both : (t : Bool) → t ≡ true → t ≡ false → ⊥

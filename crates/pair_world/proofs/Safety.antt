@@ -4,7 +4,7 @@ use Rattle.std.proofs.Common.{arith, inl, inr, refl, sym, ap}
 use Rattle.std.proofs.lemmas.Bool.{cases_lt}
 use Rattle.pair_world.specs.Acks.{OwnEnds}
 use Rattle.pair_world.specs.Phases.{Due, DueAtB, Own}
-use Rattle.pair_world.specs.Kept.{Ends, IsActiveOf, PairKept, Waits}
+use Rattle.pair_world.specs.Kept.{RunningGrantsEnd, IsActiveOf, PairKept, Waits}
 use Rattle.pair_world.specs.Said.{Answer, InCalm, Says, SaysEnd, SaysMark, Word, active_code, code}
 use Rattle.binding_rules.specs.declared.unit.Binding.{Binding}
 use Rattle.pair_world.specs.UnitSafe.{EndsInTime, HasUnit, IsAckTold, OneHolder, PartnerDownLaws, PartnerWaits, Runs}
@@ -161,7 +161,7 @@ waits_at_start = record {
   numbered = λ w. absurd (cc);
 }
 
-ends_at_start : (s : UnitSetting) (side : Role) → Ends s 0 [] side first.unit (Says first) first.down first.unit.marked
+ends_at_start : (s : UnitSetting) (side : Role) → RunningGrantsEnd s 0 [] side first.unit (Says first) first.down first.unit.marked
 ends_at_start s side = record {
   own_end = λ k end runs lt. absurd runs;
   released = λ v told is seen end runs. absurd runs;

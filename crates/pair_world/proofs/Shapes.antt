@@ -16,7 +16,7 @@ use Rattle.journal_lines.specs.declared.event.Lease.{Lease}
 use Rattle.journal_lines.specs.declared.line.Line.{Line}
 use Rattle.book_state.specs.Book.{BookState}
 use Rattle.book_rules.specs.NextHead.{is_head}
-use Rattle.order_book.specs.declared.order.Asked.{Asked}
+use Rattle.order_book.specs.declared.order.LeaseRequest.{LeaseRequest}
 use Rattle.order_book.specs.declared.order.Order.TheVariants.{Backup as BackupOrder, Close as CloseOrder}
 use Rattle.order_book.specs.declared.order.Order.TheVariants.{Expire as ExpireOrder, Reclaim as ReclaimOrder}
 use Rattle.order_book.specs.declared.order.Order.TheVariants.{Release as ReleaseOrder, Renew, Request}
@@ -52,7 +52,7 @@ plain ls stopped e h body down = record {
   aligned = λ g is. let z : is_plain e ≡ false = ap is_plain is in absurd (cc);
 }
 
-leased : (ls : List Line) (stopped : Bool) (b : BookState) (reading : ℕ) (a : Asked) (p : Prefix) → IsPrefix p
+leased : (ls : List Line) (stopped : Bool) (b : BookState) (reading : ℕ) (a : LeaseRequest) (p : Prefix) → IsPrefix p
     → Shape ls stopped (Grant (lease_of b reading a p))
 leased ls stopped b reading a p is = record {
   body = refl;
@@ -64,11 +64,11 @@ leased ls stopped b reading a p is = record {
   prefix_of (Grant g) = g.prefix
   prefix_of _ = p
 
-bound_prefix : (b : BookState) (a : Asked) (p : Prefix) → IsBound b a p → IsPrefix p
+bound_prefix : (b : BookState) (a : LeaseRequest) (p : Prefix) → IsBound b a p → IsPrefix p
 bound_prefix b a p (inl h) = h.1.0.whole
 bound_prefix b a p (inr h) = h.1.0.0.whole
 
-offered_prefix : (b : BookState) (a : Asked) (p : Prefix) → IsOffered b a p → IsPrefix p
+offered_prefix : (b : BookState) (a : LeaseRequest) (p : Prefix) → IsOffered b a p → IsPrefix p
 offered_prefix b a p (inl h) = bound_prefix b a p h
 offered_prefix b a p (inr h) = h.1.0.0.whole
 

@@ -22,7 +22,7 @@ use Rattle.binding_rules.specs.Table.{answered}
 use Rattle.binding_rules.specs.Unit.{same_binding, status_of}
 use Rattle.book_state.specs.Effects.{changed, expired, seized}
 use Rattle.book_rules.specs.MessageRules.{TellsUnit}
-use Rattle.pair_world.specs.Kept.{Ends, IsActiveOf, IsPast, PairKept, Servers}
+use Rattle.pair_world.specs.Kept.{RunningGrantsEnd, IsActiveOf, IsPast, PairKept, Servers}
 use Rattle.pair_world.specs.Said.{DueOf, InCalm, InMark, Says, SaysMark, binding_of, code, due_code}
 use Rattle.pair_world.specs.UnitWorld.{Contact, Entry, IsGrantable, IsIn, Server, UnitSetting, granted}
 use Rattle.pair_world.proofs.Effects.{accepted_as, accepts_as, replied}
@@ -44,8 +44,8 @@ pub record KeptBy (side : Role) (s : UnitSetting) (now : ℕ) (log : List Entry)
   pub calm : x.unit.marked ≡ false → y.unit.marked ≡ false → (k : Binding) → CalmOf side k x y
   pub marked_x : x.unit.marked ≡ true → (k : Binding) → InMark side k x y
   pub marked_y : y.unit.marked ≡ true → (k : Binding) → InMark (partner_of side) k y x
-  pub ends_x : Ends s now log side x.unit (Says y) y.down y.unit.marked
-  pub ends_y : Ends s now log (partner_of side) y.unit (Says x) x.down x.unit.marked
+  pub ends_x : RunningGrantsEnd s now log side x.unit (Says y) y.down y.unit.marked
+  pub ends_y : RunningGrantsEnd s now log (partner_of side) y.unit (Says x) x.down x.unit.marked
   pub servers : Servers x y
   pub past : IsPast now log
 

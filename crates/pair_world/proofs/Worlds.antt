@@ -30,7 +30,7 @@ use Rattle.order_book.specs.Replayed.{state_of, with_line}
 use Rattle.order_book.specs.Answer.{IsAnswer}
 use Rattle.binding_rules.specs.Role.{partner_of}
 use Rattle.attribution.specs.Run.{At, Step, lines_of}
-use Rattle.pair_world.specs.PairWorld.{Answers, AreAlike, IsDone, IsDownAllowed, IsFedBy, IsWorldStep, PairWorld}
+use Rattle.pair_world.specs.PairWorld.{ServerAnswers, AreAlike, IsDone, IsDownAllowed, IsFedBy, IsWorldStep, PairWorld}
 use Rattle.pair_world.specs.PairWorld.{Reaches, book, is_stopped, journal, new_world, steps_of, with_stop, written}
 use Rattle.pair_world.specs.PairSafe.{Comes, MayOpen}
 use Rattle.pair_world.specs.declared.event.Event.TheVariants.{Deliver, Pass, Restart as RestartEvent, Serve, Stop}
@@ -224,7 +224,7 @@ module _ (s : ServerSettings) (moment : ℕ) (run : List Step) (stopped : Role �
   }
 
 line_good : (side : Role) (s : ServerSettings) (w : PairWorld) → Good s w
-    → (clock : ℕ) (order : Order) (l : Line) (reply : Reply) → Answers w side clock order l reply
+    → (clock : ℕ) (order : Order) (l : Line) (reply : Reply) → ServerAnswers w side clock order l reply
     → ((e : Event) → l.event ≡ e → MayWrite (is_stopped side w) e × (stopped_after (is_stopped side w) e ≡ false))
     → IsFedBy (journal (partner_of side) w).lines order → IsDownAllowed (is_stopped (partner_of side) w) order
     → Good s (with_stop side false (written side w l))
@@ -262,7 +262,7 @@ as_stopped Secondary w l = refl
 
 module _ (side : Role) (s : ServerSettings) (w : PairWorld) (good : Good s w) where
   serve_good : (clock : ℕ) (order : Order) (l : Line) (reply : Reply) → is_stopped side w ≡ false
-      → Answers w side clock order l reply
+      → ServerAnswers w side clock order l reply
       → IsFedBy (journal (partner_of side) w).lines order → IsDownAllowed (is_stopped (partner_of side) w) order
       → Good s (written side w l)
   serve_good clock order l reply runs answers fed down = subst (Good s) (as_stopped side w l)
@@ -270,7 +270,7 @@ module _ (side : Role) (s : ServerSettings) (w : PairWorld) (good : Good s w) wh
       (line_good side s w good clock order l reply answers (λ e same.
       runs_on (is_stopped side w) runs e l.event same) fed down))
 
-  restart_good : (clock : ℕ) (l : Line) (reply : Reply) → Answers w side clock RestartOrder l reply
+  restart_good : (clock : ℕ) (l : Line) (reply : Reply) → ServerAnswers w side clock RestartOrder l reply
       → Good s (with_stop side false (written side w l))
   restart_good clock l reply answers = line_good side s w good clock RestartOrder l reply answers
       (λ e same. restarted (is_stopped side w) ((book side w).restart + 1) e l.event answers.1.line.named same) tt tt

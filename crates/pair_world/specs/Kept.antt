@@ -45,7 +45,7 @@ lead_of s = 1000 * s.mclt + s.transit
 
 -- Of a side's running grants: its unit, what the other says, since when the other takes it for down, and whether the
 -- other has the unit marked.
-pub record Ends (s : UnitSetting) (now : ℕ) (log : List Entry) (side : Role) (u : UnitValue) (Told : Update → Type 0)
+pub record RunningGrantsEnd (s : UnitSetting) (now : ℕ) (log : List Entry) (side : Role) (u : UnitValue) (Told : Update → Type 0)
     (down : Option ℕ) (mark : Bool) : Type 0 where
   -- a running grant is the unit's binding's, and is over by the unit's own end, whatever the clock shows
   pub own_end : (k : Binding) (end : ℕ) → Runs s.transit log side k end → now < end
@@ -67,7 +67,7 @@ pub record PairKept (s : UnitSetting) (now : ℕ) (log : List Entry) (a b : Serv
   pub calm : a.unit.marked ≡ false → b.unit.marked ≡ false → (k : Binding) → InCalm k a b
   pub marked_a : a.unit.marked ≡ true → (k : Binding) → InMark Primary k a b
   pub marked_b : b.unit.marked ≡ true → (k : Binding) → InMark Secondary k b a
-  pub ends_a : Ends s now log Primary a.unit (Says b) b.down b.unit.marked
-  pub ends_b : Ends s now log Secondary b.unit (Says a) a.down a.unit.marked
+  pub ends_a : RunningGrantsEnd s now log Primary a.unit (Says b) b.down b.unit.marked
+  pub ends_b : RunningGrantsEnd s now log Secondary b.unit (Says a) a.down a.unit.marked
   pub servers : Servers a b
   pub past : IsPast now log

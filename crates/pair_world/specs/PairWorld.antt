@@ -169,23 +169,23 @@ with_stop Primary t w = record w { stopped_a = t }
 with_stop Secondary t w = record w { stopped_b = t }
 
 -- the server answers the order by a line and a reply
-abbrev pub Answers : PairWorld → Role → ℕ → Order → Line → Reply → Type 0
-Answers w side clock order l reply = IsNear w clock × IsAnswer (book side w) clock order l reply
+abbrev pub ServerAnswers : PairWorld → Role → ℕ → Order → Line → Reply → Type 0
+ServerAnswers w side clock order l reply = IsNear w clock × IsAnswer (book side w) clock order l reply
 
 -- what an event does where nothing refuses it
 abbrev pub IsDone : PairWorld → Event → Reply → PairWorld → Type 0
 IsDone w (Serve side clock order) reply v =
     (is_stopped side w ≡ false) × IsFedBy (journal (partner_of side) w).lines order
     × IsDownAllowed (is_stopped (partner_of side) w) order
-    × ((l : Line) × Answers w side clock order l reply × (v ≡ written side w l))
+    × ((l : Line) × ServerAnswers w side clock order l reply × (v ≡ written side w l))
 IsDone w (Deliver side sent clock) reply v =
     (is_stopped side w ≡ false)
     × ((m : PartnerMessage) × (l : Line) × IsNumbered (journal (partner_of side) w).lines sent m
-    × Answers w side clock (Take m) l reply × (v ≡ written side w l))
+    × ServerAnswers w side clock (Take m) l reply × (v ≡ written side w l))
 IsDone w (Stop side) reply v = (is_stopped side w ≡ false) × (reply ≡ Done) × (v ≡ with_stop side true w)
 IsDone w (Restart side clock) reply v =
     (is_stopped side w ≡ true)
-    × ((l : Line) × Answers w side clock RestartOrder l reply × (v ≡ with_stop side false (written side w l)))
+    × ((l : Line) × ServerAnswers w side clock RestartOrder l reply × (v ≡ with_stop side false (written side w l)))
 IsDone w (Pass ms) reply v =
     (w.moment + ms ≤ 2 ^ 48) × (reply ≡ Done) × (v ≡ record w { moment = w.moment + ms })
 

@@ -12,11 +12,11 @@ use native.Mathlib.Decide.{ℕ_discrete}
 use Rattle.attribution.specs.declared.verdict.Verdict.{Verdict}
 use Rattle.attribution.specs.declared.verdict.Verdict.TheVariants.{Accepted}
 use Rattle.parallel_check.specs.Counting.{times, once_below}
-use Rattle.parallel_check.specs.declared.drawing.Found.{Found}
+use Rattle.parallel_check.specs.declared.drawing.IndexedVerdict.{IndexedVerdict}
 use Rattle.parallel_check.specs.Findings.{IsRight, IsDrawn, Settled, placed}
 use Rattle.parallel_check.proofs.Dealing.{times_push, times_append}
 
-abbrev index_of : Found → ℕ
+abbrev index_of : IndexedVerdict → ℕ
 index_of f = f.index
 
 times_cons : (x n : ℕ) (numbers : List ℕ) → times x (n ∷ numbers) ≡ (if nat_eq n x then 1 else 0) + times x numbers
@@ -50,7 +50,7 @@ pub put_here : (Q : ℕ → Verdict → Type 0) (verdicts : List Verdict) (at : 
 put_here Q verdicts at v is within d = subst (Q at) (sym (get_or-set_same verdicts at v d within)) is
 
 -- one more is put
-pub placed_step : (found : List Found) (k : ℕ) (f : Found) (verdicts : List Verdict) → k < length found
+pub placed_step : (found : List IndexedVerdict) (k : ℕ) (f : IndexedVerdict) (verdicts : List Verdict) → k < length found
     → placed (drop k found) verdicts ≡ placed (drop (k + 1) found)
     (set verdicts (get_or found k f).index (get_or found k f).verdict)
 placed_step [] k f verdicts here = absurd (omega arith)
@@ -62,18 +62,18 @@ placed_step (first ∷ found) (suc k) f verdicts here =
     ∙ ap (λ (n : ℕ). placed (drop n (first ∷ found)) (set verdicts g.index g.verdict)) next
 
 -- all are put
-pub placed_end : (found : List Found) (k : ℕ) (verdicts : List Verdict) → length found ≤ k
+pub placed_end : (found : List IndexedVerdict) (k : ℕ) (verdicts : List Verdict) → length found ≤ k
     → placed (drop k found) verdicts ≡ verdicts
 placed_end [] zero verdicts past = refl
 placed_end [] (suc k) verdicts past = refl
 placed_end (first ∷ found) zero verdicts past = absurd (omega arith)
 placed_end (first ∷ found) (suc k) verdicts past = placed_end found k verdicts (omega arith)
 
-abbrev AreRight : (Q : ℕ → Verdict → Type 0) → ℕ → List Found → Type 0
-AreRight Q count found = (k : ℕ) (f : Found) → k < length found → IsRight Q count (get_or found k f)
+abbrev AreRight : (Q : ℕ → Verdict → Type 0) → ℕ → List IndexedVerdict → Type 0
+AreRight Q count found = (k : ℕ) (f : IndexedVerdict) → k < length found → IsRight Q count (get_or found k f)
 
 -- an index that had its verdict has it when others are put
-pub placed_keeps : (Q : ℕ → Verdict → Type 0) (count : ℕ) (found : List Found) (verdicts : List Verdict)
+pub placed_keeps : (Q : ℕ → Verdict → Type 0) (count : ℕ) (found : List IndexedVerdict) (verdicts : List Verdict)
     → AreRight Q count found → length verdicts ≡ count
     → (x : ℕ) (d : Verdict) → Q x (get_or verdicts x d) → Q x (get_or (placed found verdicts) x d)
 placed_keeps Q count [] verdicts right room x d was = was
@@ -85,9 +85,9 @@ placed_keeps Q count (f ∷ found) verdicts right room x d was =
     (put_keeps Q verdicts f.index f.verdict first.verdict (omega arith) x d was)
 
 -- what was found at an index is its verdict there
-pub placed_there : (Q : ℕ → Verdict → Type 0) (count : ℕ) (found : List Found) (verdicts : List Verdict)
+pub placed_there : (Q : ℕ → Verdict → Type 0) (count : ℕ) (found : List IndexedVerdict) (verdicts : List Verdict)
     → AreRight Q count found → length verdicts ≡ count
-    → (k : ℕ) (g : Found) (d : Verdict) → k < length found
+    → (k : ℕ) (g : IndexedVerdict) (d : Verdict) → k < length found
     → Q (get_or found k g).index (get_or (placed found verdicts) (get_or found k g).index d)
 placed_there Q count [] verdicts right room k g d here = absurd (omega arith)
 placed_there Q count (f ∷ found) verdicts right room zero g d here =
@@ -101,7 +101,7 @@ placed_there Q count (f ∷ found) verdicts right room (suc k) g d here =
     (length-set verdicts f.index f.verdict ∙ room) k g d (omega arith)
 
 -- a number among those of what was found has a place there
-found_at : (x : ℕ) (found : List Found) (f : Found) → 0 < times x (map index_of found)
+found_at : (x : ℕ) (found : List IndexedVerdict) (f : IndexedVerdict) → 0 < times x (map index_of found)
     → (k : ℕ) × (k < length found) × ((get_or found k f).index ≡ x)
 found_at x [] f among = absurd (omega arith)
 found_at x (first ∷ found) f among =
@@ -118,7 +118,7 @@ some_or_none zero = inr refl
 some_or_none (suc n) = inl (omega arith)
 
 pub settle_step : (Q : ℕ → Verdict → Type 0) (count : ℕ) (verdicts : List Verdict) (numbers more : List ℕ)
-    (found : List Found) → Settled Q count numbers verdicts → IsDrawn Q count more found
+    (found : List IndexedVerdict) → Settled Q count numbers verdicts → IsDrawn Q count more found
     → length verdicts ≡ count → Settled Q count (numbers ++ more) (placed found verdicts)
 settle_step Q count verdicts numbers more found settled drawn room = record { each = at_index }
   where
@@ -137,21 +137,21 @@ settle_step Q count verdicts numbers more found settled drawn room = record { ea
         (λ (before : 0 < times x numbers). placed_keeps Q count found verdicts right room x d
         (settled.each x d here before))
         (λ (not : times x numbers ≡ 0).
-        let f : Found = record { index = 0; verdict = Accepted } in
+        let f : IndexedVerdict = record { index = 0; verdict = Accepted } in
         let at = found_at x found f (omega arith) in
         subst (λ (y : ℕ). Q y (get_or (placed found verdicts) y d)) at.2
         (placed_there Q count found verdicts right room at.0 f d at.1))
         (some_or_none (times x numbers))
 
 -- what was found has room
-pub has_room : (Q : ℕ → Verdict → Type 0) (count : ℕ) (found : List Found) (verdicts : List Verdict)
-    → All (IsRight Q count) found → length verdicts ≡ count → All (λ (f : Found). f.index < length verdicts) found
+pub has_room : (Q : ℕ → Verdict → Type 0) (count : ℕ) (found : List IndexedVerdict) (verdicts : List Verdict)
+    → All (IsRight Q count) found → length verdicts ≡ count → All (λ (f : IndexedVerdict). f.index < length verdicts) found
 has_room Q count found verdicts right room =
-    All-from_get_or (λ (f : Found). f.index < length verdicts) found (record { index = 0; verdict = Accepted })
+    All-from_get_or (λ (f : IndexedVerdict). f.index < length verdicts) found (record { index = 0; verdict = Accepted })
     (λ k h. let within =
     (All-get_or (IsRight Q count) found k (record { index = 0; verdict = Accepted }) h right).within in omega arith)
 
-pub past_step : (Q : ℕ → Verdict → Type 0) (count : ℕ) (numbers more : List ℕ) (found : List Found)
+pub past_step : (Q : ℕ → Verdict → Type 0) (count : ℕ) (numbers more : List ℕ) (found : List IndexedVerdict)
     → IsDrawn Q count more found → (n : ℕ) × (count ≤ n) × (0 < times n (numbers ++ more))
 past_step Q count numbers more found drawn =
     let last = drawn.last in

@@ -8,7 +8,7 @@ ghost use Rattle.parallel_check.specs.Findings.{IsDone};
 ghost use Rattle.parallel_check.specs.Sharing.{AreKnown};
 
 use crate::batch::Batch;
-use crate::drawing::{Done, draw_all, seats_for};
+use crate::drawing::{WorkerResult, draw_all, seats_for};
 use crate::error::CheckError;
 use crate::gate::Gate;
 use crate::settling::settled;
@@ -63,7 +63,7 @@ pub fn audit_all<S: LineSource + Sync, G: Gate, R: Threads + Wait + Sync>(
     let done = thread::map_vec(
         rt,
         seats,
-        &|seat: Ticket| -> Done
+        &|seat: Ticket| -> WorkerResult
             requires { (0 < word.now.table_id.words) × (word.now.key ≡ length batch.now.certificates.now)
                 × (seat.table_id ≡ word.now.table_id) × IsFresh (length batch.now.certificates.now) seat.me
                 × AreKnown (S.journals batch.now.source.now) batch.now.known.now }

@@ -5,7 +5,7 @@ ghost use Rattle.parallel_check.specs.Verdicts.{IsVerdictAt};
 ghost use Rattle.parallel_check.specs.Sharing.{AreKnown};
 
 use crate::gate::Gate;
-use crate::sharing::{Known, others_for};
+use crate::sharing::{SharedForeign, others_for};
 use attribution::Verdict;
 use auditor::{LineSource, audit, audit_knowing};
 use causal_order::Certificate;
@@ -18,7 +18,7 @@ pub struct Batch<'a, S> {
     pub certificates: &'a [Certificate],
     pub skew: Skew,
     pub transit: Transit,
-    pub known: &'a [Known],
+    pub known: &'a [SharedForeign],
     pub places: &'a [usize],
 }
 

@@ -16,16 +16,16 @@ use std::sync::Wait;
 
 /// The verdict on the certificate at an index.
 #[derive(Clone, Copy, Debug, PartialEq, Eq)]
-pub struct Found {
+pub struct IndexedVerdict {
     pub index: usize,
     pub verdict: Verdict,
 }
 
 /// The return of a worker: its seat, and what it found unless a growth was refused.
 #[derive(Drop)]
-pub struct Done {
+pub struct WorkerResult {
     pub seat: Ticket,
-    pub found: Result<Vec<Found>, AllocError>,
+    pub found: Result<Vec<IndexedVerdict>, AllocError>,
 }
 
 /// Draws indexes and audits their certificates, until a number is no index.
@@ -36,7 +36,7 @@ pub fn draw_all<S: LineSource, G: Gate, R: Wait>(
     gate: &G,
     word: &Word,
     seat: Ticket,
-) -> Done
+) -> WorkerResult
     requires word { (0 < word.now.table_id.words) × (word.now.key ≡ length batch.now.certificates.now) }
     requires seat { (seat.table_id ≡ word.now.table_id) × IsFresh (length batch.now.certificates.now) seat.me }
     requires known { AreKnown (S.journals batch.now.source.now) batch.now.known.now }
@@ -48,15 +48,15 @@ pub fn draw_all<S: LineSource, G: Gate, R: Wait>(
     'draws: for _ in rt.forever() {
         let number = draw(word, &mut seat);
         if number >= batch.certificates.len() as u64 {
-            return Done {
+            return WorkerResult {
                 seat,
                 found: Ok(found),
             };
         }
         let index = number as usize;
         let verdict = verdict_at(batch, gate, index);
-        if found.push(Found { index, verdict }).is_err() {
-            return Done {
+        if found.push(IndexedVerdict { index, verdict }).is_err() {
+            return WorkerResult {
                 seat,
                 found: Err(AllocError),
             };

@@ -12,9 +12,9 @@ pub trait Gate: Sync {
 }
 
 /// A gate that holds nobody.
-pub struct Open;
+pub struct OpenGate;
 
-impl Gate for Open {
+impl Gate for OpenGate {
     fn before(&self, _index: usize) {}
 
     fn after(&self, _index: usize, _verdict: &Verdict) {}

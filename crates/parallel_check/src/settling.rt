@@ -7,7 +7,7 @@ ghost use Rattle.parallel_check.specs.Verdicts.{IsVerdictAt};
 ghost use Rattle.parallel_check.specs.Findings.{IsDone, Settled, placed};
 
 use crate::batch::Batch;
-use crate::drawing::{Done, Found};
+use crate::drawing::{IndexedVerdict, WorkerResult};
 use crate::word::{Ticket, Word, take_in};
 use attribution::Verdict;
 use auditor::LineSource;
@@ -22,7 +22,7 @@ fn blank_verdicts(alloc: Global, count: usize) -> Result<Vec<Verdict>, AllocErro
 
 /// Writes each verdict that was found at its index.
 #[tactic(auto, using(crate::proofs::Placing::placed_step, crate::proofs::Placing::placed_end))]
-fn place(found: &[Found], verdicts: &mut [Verdict])
+fn place(found: &[IndexedVerdict], verdicts: &mut [Verdict])
     requires { All (λ f. f.index < length verdicts.old) found.now }
     ensures { verdicts.new ≡ placed found.now verdicts.old }
 {
@@ -37,7 +37,7 @@ pub fn settled<S: LineSource>(
     batch: &Batch<S>,
     word: &Word,
     mine: &mut Ticket,
-    mut done: Vec<Done>,
+    mut done: Vec<WorkerResult>,
 ) -> Result<Vec<Verdict>, AllocError>
     requires word { (mine.old.table_id ≡ word.now.table_id) × (0 < word.now.table_id.words)
         × (word.now.key ≡ length batch.now.certificates.now) }
@@ -55,7 +55,7 @@ pub fn settled<S: LineSource>(
 {
     let mut given = blank_verdicts(alloc, batch.certificates.len())?;
     let verdicts = given.as_mut_slice();
-    'seats: while let Some(Done { seat, found }) = done.pop() {
+    'seats: while let Some(WorkerResult { seat, found }) = done.pop() {
         let Ok(found) = found else {
             return Err(AllocError);
         };

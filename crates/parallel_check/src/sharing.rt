@@ -23,7 +23,7 @@ const MOST_OTHERS: usize = 1024;
 /// A holder and a prefix, how many certificates ask of them, and what other clients had of the prefix where that is
 /// kept.
 #[derive(Debug, Drop)]
-pub struct Known {
+pub struct SharedForeign {
     pub holder: Duid,
     pub prefix: Prefix,
     pub askers: usize,
@@ -33,16 +33,16 @@ pub struct Known {
 /// What is known for certificates, and for each of them which of it.
 #[derive(Debug, Drop)]
 pub struct Sharing {
-    pub known: Vec<Known>,
+    pub known: Vec<SharedForeign>,
     pub places: Vec<usize>,
 }
 
-impl Known {
+impl SharedForeign {
     /// What the certificate asks of, where nothing is kept yet.
-    fn new(certificate: &Certificate) -> Known
+    fn new(certificate: &Certificate) -> SharedForeign
         ensures { result ≡ unknown certificate.now }
     {
-        Known {
+        SharedForeign {
             holder: certificate.holder,
             prefix: certificate.prefix,
             askers: 0,
@@ -79,7 +79,7 @@ fn asked_by(alloc: Global, certificate: &Certificate) -> Result<Vec<u8>, AllocEr
 fn place_of(
     alloc: Global,
     places: &mut BTreeMap<Vec<u8>, usize>,
-    known: &mut Vec<Known>,
+    known: &mut Vec<SharedForeign>,
     certificate: &Certificate,
 ) -> Result<usize, AllocError> {
     let asked = asked_by(alloc, certificate)?;
@@ -87,7 +87,7 @@ fn place_of(
         return Ok(*place);
     }
     let place = known.len();
-    known.push(Known::new(certificate))?;
+    known.push(SharedForeign::new(certificate))?;
     places.insert(asked, place)?;
     Ok(place)
 }
@@ -95,7 +95,7 @@ fn place_of(
 /// Returns who asks of what.
 fn askers_of(alloc: Global, certificates: &[Certificate]) -> Result<Sharing, AllocError> {
     let mut place_by_asked = BTreeMap::new(alloc);
-    let mut known: Vec<Known> = Vec::new(alloc);
+    let mut known: Vec<SharedForeign> = Vec::new(alloc);
     let mut places = Vec::new(alloc);
     for certificate in certificates {
         let place = place_of(alloc, &mut place_by_asked, &mut known, certificate)?;
@@ -112,13 +112,13 @@ fn find_all<S: LineSource + Sync, T: Threads + Sync>(
     rt: &T,
     alloc: Global,
     source: &S,
-    known: &mut [Known],
+    known: &mut [SharedForeign],
     workers: usize,
 )
     requires { 0 < workers }
     ensures { AreKnown (S.journals source.now) known.new }
 {
-    let find = |_place: usize, known: &mut Known|
+    let find = |_place: usize, known: &mut SharedForeign|
         ensures { IsKnown (S.journals source.entry.now) known.exit.now }
     { known.find(alloc, source) };
     thread::for_each_mut(rt, known, workers, &find);
@@ -140,7 +140,7 @@ pub fn sharing_of<S: LineSource + Sync, T: Threads + Sync>(
     Ok(sharing)
 }
 
-impl Known {
+impl SharedForeign {
     /// What other clients had of the certificate's prefix, where this is of its holder and prefix and has that.
     fn others_for(&self, certificate: &Certificate) -> Option<&[Ref]>
         ensures { IfSome result (λ others. (js : Journals) → IsKnown js self.now
@@ -158,7 +158,7 @@ impl Known {
 
 /// What is known of other clients for the certificate at this index.
 pub fn others_for<'a>(
-    known: &'a [Known],
+    known: &'a [SharedForeign],
     places: &[usize],
     index: usize,
     certificate: &Certificate,

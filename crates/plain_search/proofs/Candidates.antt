@@ -15,7 +15,7 @@ use Rattle.attribution.proofs.Deciding.{lease_grants, grants_lease}
 use Rattle.auditor.proofs.Leases.{one_granted}
 use Rattle.plain_search.specs.declared.query.Query.{Query}
 use Rattle.plain_search.specs.declared.reach.Candidate.{Candidate}
-use Rattle.plain_search.specs.declared.reach.Reach.{Reach}
+use Rattle.plain_search.specs.declared.reach.CarriedSpan.{CarriedSpan}
 use Rattle.plain_search.specs.Search.{IsReadAt, IsHolders, IsPastPartners, IsCandidate, NoCandidateAt, AreKeptTo}
 use Rattle.plain_search.specs.Search.{CarriesTo, begin_of, lease_limit, CarriesAt, IsReach}
 use Rattle.plain_search.proofs.Orders.{one_reading, not_both}
@@ -141,6 +141,6 @@ module _ (js : Journals) (q : Query) where
   is_reach c r begin end is of b e = record { candidate = c; is = is; of = of; begins = sym b; ends = e }
 
   -- a reach of the line carries what the line carries
-  pub reached : (x : Reach) (m : ℕ) → IsReach js q x → CarriesAt js q m x.grant → (x.begin ≤ m) × (m < x.end)
+  pub reached : (x : CarriedSpan) (m : ℕ) → IsReach js q x → CarriesAt js q m x.grant → (x.begin ≤ m) × (m < x.end)
   reached x m h at = let k = carried_by h.candidate x.grant m h.is h.of at in let to = (h.ends (m + 1)).0 k.1 in
       let b = h.begins in let begun = k.0 in (omega arith, omega arith)

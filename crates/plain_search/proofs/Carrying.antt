@@ -9,7 +9,7 @@ use Rattle.journal_lines.specs.declared.event.Event.{Event}
 use Rattle.causal_order.specs.Journals.{Journals}
 use Rattle.attribution.specs.Listing.{Concerns, IsListing}
 use Rattle.plain_search.specs.declared.query.Query.{Query}
-use Rattle.plain_search.specs.declared.reach.Reach.{Reach}
+use Rattle.plain_search.specs.declared.reach.CarriedSpan.{CarriedSpan}
 use Rattle.plain_search.specs.Search.{CarriesAt, IsReach, HasReach, AreAllReaches}
 use Rattle.plain_search.proofs.Walked.{Passed, passed_none, passed_on, passed_all}
 
@@ -33,7 +33,7 @@ has_last xs x = Contains-append_right xs (x ∷ []) x (0, omega arith, refl)
 abbrev pub Carries : Journals → Query → Ref → Type 0
 Carries js q r = (m : ℕ) × (q.from ≤ m) × CarriesAt js q m r
 
-pub record AreReached (js : Journals) (q : Query) (left : List Ref) (xs : List Reach) : Type 0 where
+pub record AreReached (js : Journals) (q : Query) (left : List Ref) (xs : List CarriedSpan) : Type 0 where
   pub each : All (IsReach js q) xs
   pub passed : Passed (Carries js q) (HasReach xs) left
 
@@ -52,14 +52,14 @@ module _ (js : Journals) (q : Query) where
       (subst (λ (e : Event). Concerns q.prefix e) (sym of.grants.2) over) in
       subst (λ (s : Ref). Has left s) h.2.1 has
 
-  pub none_reached : (left : List Ref) (xs : List Reach) → IsListing js q.prefix left → IsPrefix q.prefix → xs ≡ []
+  pub none_reached : (left : List Ref) (xs : List CarriedSpan) → IsListing js q.prefix left → IsPrefix q.prefix → xs ≡ []
       → AreReached js q left xs
   none_reached left xs listed prefix none = subst (AreReached js q left) (sym none) (record {
     each = λ k d lt. absurd (omega arith);
     passed = passed_none (Carries js q) (HasReach []) left (carried_listed left listed prefix);
   })
 
-  pub not_reached : (left more : List Ref) (r : Ref) (xs : List Reach) → left ≡ r ∷ more
+  pub not_reached : (left more : List Ref) (r : Ref) (xs : List CarriedSpan) → left ≡ r ∷ more
       → ((m : ℕ) → q.from ≤ m → CarriesAt js q m r → ⊥) → AreReached js q left xs → AreReached js q more xs
   not_reached left more r xs e none h = record {
     each = h.each;
@@ -67,7 +67,7 @@ module _ (js : Journals) (q : Query) where
         (λ w. absurd (none w.0 w.1 w.2)) h.passed;
   }
 
-  pub one_reached : (left more : List Ref) (r : Ref) (xs ys : List Reach) (x : Reach) → left ≡ r ∷ more → x.grant ≡ r
+  pub one_reached : (left more : List Ref) (r : Ref) (xs ys : List CarriedSpan) (x : CarriedSpan) → left ≡ r ∷ more → x.grant ≡ r
       → IsReach js q x → ys ≡ xs ++ x ∷ [] → AreReached js q left xs → AreReached js q more ys
   one_reached left more r xs ys x e is of on h = subst (AreReached js q more) (sym on) (record {
     each = all_more (IsReach js q) xs x h.each of;
@@ -75,5 +75,5 @@ module _ (js : Journals) (q : Query) where
         (λ j d. (d.0, has_more xs x d.0 d.1, d.2)) (λ w. (x, has_last xs x, is)) h.passed;
   })
 
-  pub all_reached : (left : List Ref) (xs : List Reach) → left ≡ [] → AreReached js q left xs → AreAllReaches js q xs
+  pub all_reached : (left : List Ref) (xs : List CarriedSpan) → left ≡ [] → AreReached js q left xs → AreAllReaches js q xs
   all_reached left xs none h m r ge at = passed_all (Carries js q) (HasReach xs) left none h.passed r (m, ge, at)

@@ -11,9 +11,9 @@ use Rattle.causal_order.specs.Bounds.{reading_of}
 use Rattle.attribution.specs.declared.delegation.Delegation.{Delegation}
 use Rattle.attribution.specs.Acceptance.{GivesBack}
 use Rattle.auditor.specs.Walks.{AreReleases as AreWalked}
-use Rattle.plain_search.specs.declared.collected.Dated.{Dated}
+use Rattle.plain_search.specs.declared.collected.DatedRelease.{DatedRelease}
 use Rattle.plain_search.specs.declared.collected.Releases.{Releases}
-use Rattle.plain_search.specs.declared.recent.Recent.{Recent}
+use Rattle.plain_search.specs.declared.recent.ReleaseCache.{ReleaseCache}
 use Rattle.plain_search.specs.Collected.{IsRelease, HasRelease, AreReleasesOn, IsFollowedBy, AreRising, AreReleases}
 use Rattle.plain_search.specs.Collected.{AreGivenBackAlike, IsRecent, IsPlaceOf}
 use Rattle.plain_search.proofs.Orders.{line_read}
@@ -23,17 +23,17 @@ use Rattle.plain_search.proofs.Carrying.{all_more, has_more, has_last}
 
 -- ---- a server's
 
-abbrev IsFoundOn : Role → List Dated → Ref → Type 0
+abbrev IsFoundOn : Role → List DatedRelease → Ref → Type 0
 IsFoundOn side xs j = j.side ≡ side → HasRelease xs j
 
 -- of the releases that were passed each of this side is found
-pub record AreFound (js : Journals) (d : Delegation) (side : Role) (left : List Ref) (xs : List Dated) : Type 0 where
+pub record AreFound (js : Journals) (d : Delegation) (side : Role) (left : List Ref) (xs : List DatedRelease) : Type 0 where
   pub each : All (IsRelease js d) xs
   pub passed : Passed (λ r. GivesBack js r d) (λ r. r.side ≡ side → HasRelease xs r) left
   pub only : AreOnly (λ r. GivesBack js r d) left
 
 module _ (js : Journals) (d : Delegation) (side : Role) where
-  pub none_found : (left : List Ref) (xs : List Dated) → AreWalked js d left → xs ≡ [] → AreFound js d side left xs
+  pub none_found : (left : List Ref) (xs : List DatedRelease) → AreWalked js d left → xs ≡ [] → AreFound js d side left xs
   none_found left xs rs none = subst (AreFound js d side left) (sym none) (record {
     each = λ k r lt. absurd (omega arith);
     passed = passed_none (λ r. GivesBack js r d) (IsFoundOn side []) left rs.all;
@@ -41,7 +41,7 @@ module _ (js : Journals) (d : Delegation) (side : Role) where
   })
 
   -- a release of the other side, or one that isn't there
-  pub not_found : (left more : List Ref) (r : Ref) (xs : List Dated) → left ≡ r ∷ more
+  pub not_found : (left more : List Ref) (r : Ref) (xs : List DatedRelease) → left ≡ r ∷ more
       → (GivesBack js r d → r.side ≡ side → ⊥) → AreFound js d side left xs → AreFound js d side more xs
   not_found left more r xs e other h = record {
     each = h.each;
@@ -50,7 +50,7 @@ module _ (js : Journals) (d : Delegation) (side : Role) where
     only = only_on (λ r. GivesBack js r d) left more r e h.only;
   }
 
-  pub one_found : (left more : List Ref) (xs ys : List Dated) (x : Dated) → left ≡ x.at ∷ more
+  pub one_found : (left more : List Ref) (xs ys : List DatedRelease) (x : DatedRelease) → left ≡ x.at ∷ more
       → Some x.reading ≡ reading_of js x.at → ys ≡ xs ++ x ∷ [] → AreFound js d side left xs
       → AreFound js d side more ys
   one_found left more xs ys x e read same h = subst (AreFound js d side more) (sym same) (record {
@@ -65,7 +65,7 @@ module _ (js : Journals) (d : Delegation) (side : Role) where
     only = only_on (λ r. GivesBack js r d) left more x.at e h.only;
   })
 
-  pub all_found : (left : List Ref) (xs : List Dated) → left ≡ [] → AreFound js d side left xs
+  pub all_found : (left : List Ref) (xs : List DatedRelease) → left ≡ [] → AreFound js d side left xs
       → AreReleasesOn js d side xs
   all_found left xs none h = record {
     each = h.each;
@@ -79,23 +79,23 @@ module _ (js : Journals) (d : Delegation) (side : Role) where
 -- ---- lines that rise
 
 -- the first so many rise
-pub record RiseTo (xs : List Dated) (n : ℕ) : Type 0 where
-  pub rise : (i k : ℕ) (d : Dated) → i ≤ k → k < n → IsFollowedBy (get_or xs i d) (get_or xs k d)
+pub record RiseTo (xs : List DatedRelease) (n : ℕ) : Type 0 where
+  pub rise : (i k : ℕ) (d : DatedRelease) → i ≤ k → k < n → IsFollowedBy (get_or xs i d) (get_or xs k d)
 
-at_itself : (x : Dated) → IsFollowedBy x x
+at_itself : (x : DatedRelease) → IsFollowedBy x x
 at_itself x = (refl, omega arith, omega arith)
 
-far : (x y z : Dated) → IsFollowedBy x y → IsFollowedBy y z → IsFollowedBy x z
+far : (x y z : DatedRelease) → IsFollowedBy x y → IsFollowedBy y z → IsFollowedBy x z
 far x y z h g = (h.0 ∙ g.0, (let a = h.1 in let b = g.1 in omega arith), (let a = h.2 in let b = g.2 in omega arith))
 
-module _ (xs : List Dated) where
-  same_place : (i k : ℕ) (d : Dated) → i ≡ k → IsFollowedBy (get_or xs i d) (get_or xs k d)
+module _ (xs : List DatedRelease) where
+  same_place : (i k : ℕ) (d : DatedRelease) → i ≡ k → IsFollowedBy (get_or xs i d) (get_or xs k d)
   same_place i k d e = subst (λ (n : ℕ). IsFollowedBy (get_or xs i d) (get_or xs n d)) e (at_itself (get_or xs i d))
 
   pub one_rises : RiseTo xs 1
   one_rises = record { rise = λ i k d le lt. same_place i k d (omega arith) }
 
-  next_by : (n i : ℕ) (d : Dated) → 0 < n → n < length xs → RiseTo xs n
+  next_by : (n i : ℕ) (d : DatedRelease) → 0 < n → n < length xs → RiseTo xs n
       → IsFollowedBy (get_or xs (n - 1) d) (get_or xs n d) → i ≤ n → IsFollowedBy (get_or xs i d) (get_or xs n d)
   next_by n i d some lt h next le = elim (cases_lt i n) [
     | inl less ↦ far (get_or xs i d) (get_or xs (n - 1) d) (get_or xs n d)
@@ -103,7 +103,7 @@ module _ (xs : List Dated) where
     | inr ge ↦ same_place i n d (omega arith)
   ]
 
-  pub more_rise : (n : ℕ) (x y : Dated) → 0 < n → n < length xs → x ≡ get_or xs (n - 1) x → y ≡ get_or xs n y
+  pub more_rise : (n : ℕ) (x y : DatedRelease) → 0 < n → n < length xs → x ≡ get_or xs (n - 1) x → y ≡ get_or xs n y
       → IsFollowedBy x y → RiseTo xs n → RiseTo xs (n + 1)
   more_rise n x y some lt at on next h = record {
     rise = λ i k d le less. elim (cases_lt k n) [
@@ -113,7 +113,7 @@ module _ (xs : List Dated) where
           (slice_get_read xs (length xs) (n - 1) x refl (omega arith) at) in
           let b : get_or xs n d ≡ y = get_or_from_slice_get xs n y d (slice_get_read xs (length xs) n y refl lt on) in
           let step : IsFollowedBy (get_or xs (n - 1) d) (get_or xs n d) =
-          subst (λ (u : Dated). IsFollowedBy u (get_or xs n d)) (sym a) (subst (IsFollowedBy x) (sym b) next) in
+          subst (λ (u : DatedRelease). IsFollowedBy u (get_or xs n d)) (sym a) (subst (IsFollowedBy x) (sym b) next) in
           let here : k ≡ n = omega arith in
           subst (λ (m : ℕ). IsFollowedBy (get_or xs i d) (get_or xs m d)) (sym here)
           (next_by n i d some lt h step (omega arith)))
@@ -126,7 +126,7 @@ module _ (xs : List Dated) where
 -- ---- what was collected
 
 module _ (js : Journals) where
-  pub none_recent : (r : Recent) → r.collected.items ≡ [] → IsRecent js r
+  pub none_recent : (r : ReleaseCache) → r.collected.items ≡ [] → IsRecent js r
   none_recent r e = subst (All (AreReleases js)) (sym e) (λ k c lt. absurd (omega arith))
 
   pub more_recent : (xs ys : List Releases) (c : Releases) → ys ≡ xs ++ c ∷ [] → All (AreReleases js) xs
@@ -142,7 +142,7 @@ last_got : {X : Type 0} (xs : List X) (x : X) → slice_get (xs ++ x ∷ []) (le
 last_got [] x = refl
 last_got (y ∷ xs) x = last_got xs x
 
-pub last_place : (r : Recent) (d : Delegation) (xs : List Releases) (c : Releases) (i : ℕ)
+pub last_place : (r : ReleaseCache) (d : Delegation) (xs : List Releases) (c : Releases) (i : ℕ)
     → r.collected.items ≡ xs ++ c ∷ [] → i ≡ length xs → c.delegation ≡ d → IsPlaceOf r d i
 last_place r d xs c i same at e = (
   c,
@@ -155,11 +155,11 @@ last_place r d xs c i same at e = (
   },
 )
 
-pub place_at : (r : Recent) (d : Delegation) (i : ℕ) (c : Releases) → i < length r.collected.items
+pub place_at : (r : ReleaseCache) (d : Delegation) (i : ℕ) (c : Releases) → i < length r.collected.items
     → c ≡ get_or r.collected.items i c → AreGivenBackAlike c.delegation d → IsPlaceOf r d i
 place_at r d i c lt is alike = (c, slice_get_read r.collected.items (length r.collected.items) i c refl lt is, alike)
 
-pub placed : (js : Journals) (r : Recent) (d : Delegation) (i : ℕ) (c : Releases) → IsRecent js r → IsPlaceOf r d i
+pub placed : (js : Journals) (r : ReleaseCache) (d : Delegation) (i : ℕ) (c : Releases) → IsRecent js r → IsPlaceOf r d i
     → c ≡ get_or r.collected.items i c → AreReleases js c × AreGivenBackAlike c.delegation d
 placed js r d i c h at is =
     let same : at.0 ≡ c = sym (get_or_from_slice_get r.collected.items i at.0 c at.1) ∙ sym is in

@@ -7,7 +7,7 @@ use Rattle.causal_order.specs.declared.certificate.Piece.{Piece}
 use Rattle.causal_order.specs.Journals.{Journals}
 use Rattle.attribution.specs.Acceptance.{Tile}
 use Rattle.plain_search.specs.declared.query.Query.{Query}
-use Rattle.plain_search.specs.declared.reach.Reach.{Reach}
+use Rattle.plain_search.specs.declared.reach.CarriedSpan.{CarriedSpan}
 use Rattle.plain_search.specs.Search.{CarriesAt, IsReach, AreAllReaches, NoneReaches, IsFarthest, IsPieceOf, IsFound}
 use Rattle.plain_search.specs.Search.{ReachTo, HasGap, ArePiecesOver}
 use Rattle.plain_search.specs.Limits.{lines_of_piece, lines_of_all}
@@ -37,14 +37,14 @@ module _ (js : Journals) (q : Query) where
     within = le;
   }
 
-  within_query : (x : Reach) → IsReach js q x → x.end ≤ q.to
+  within_query : (x : CarriedSpan) → IsReach js q x → x.end ≤ q.to
   within_query x h = ((h.ends x.end).1 (omega arith)).within
 
-  module _ (xs : List Reach) (each : All (IsReach js q) xs) where
-    is_reach_of : (m : ℕ) (z : Reach) → IsFarthest xs m z → IsReach js q z
+  module _ (xs : List CarriedSpan) (each : All (IsReach js q) xs) where
+    is_reach_of : (m : ℕ) (z : CarriedSpan) → IsFarthest xs m z → IsReach js q z
     is_reach_of m z far = all_has (IsReach js q) xs z each far.has
 
-    pub one_so_far : (ps on : List Piece) (m : ℕ) (z : Reach) (p : Piece) → IsFarthest xs m z
+    pub one_so_far : (ps on : List Piece) (m : ℕ) (z : CarriedSpan) (p : Piece) → IsFarthest xs m z
         → IsPieceOf js q.skew z m p → on ≡ ps ++ p ∷ [] → AreSoFar js q ps m → AreSoFar js q on z.end
     one_so_far ps on m z p far of same h =
         let reach = is_reach_of m z far in
@@ -88,9 +88,9 @@ pub lines_with : (ps on : List Piece) (p : Piece) → on ≡ ps ++ p ∷ []
     → lines_of_all on ≡ lines_of_all ps + (1 + length p.clear)
 lines_with ps on p same = ap lines_of_all same ∙ sum_by_push lines_of_piece ps p
 
-module _ (js : Journals) (q : Query) (xs : List Reach) (each : All (IsReach js q) xs) where
+module _ (js : Journals) (q : Query) (xs : List CarriedSpan) (each : All (IsReach js q) xs) where
   -- with one more they have more than there is room for
-  pub over_with : (ps : List Piece) (m : ℕ) (z : Reach) (p : Piece) (left room : ℕ) → IsFarthest xs m z
+  pub over_with : (ps : List Piece) (m : ℕ) (z : CarriedSpan) (p : Piece) (left room : ℕ) → IsFarthest xs m z
       → IsPieceOf js q.skew z m p → AreSoFar js q ps m → lines_of_all ps + left ≡ room → left ≤ length p.clear
       → ArePiecesOver js q room
   over_with ps m z p left room far of h fits over =

@@ -7,8 +7,8 @@ use Rattle.causal_order.specs.declared.order.Precedes.TheVariants.{Chain, Clock}
 use Rattle.causal_order.specs.declared.certificate.Certificate.{Certificate}
 use Rattle.causal_order.specs.declared.certificate.Piece.{Piece}
 use Rattle.causal_order.specs.declared.certificate.Clear.{Clear}
-use Rattle.causal_order.specs.declared.certificate.Why.{Why}
-use Rattle.causal_order.specs.declared.certificate.Why.TheVariants.{Before, After}
+use Rattle.causal_order.specs.declared.certificate.ClearReason.{ClearReason}
+use Rattle.causal_order.specs.declared.certificate.ClearReason.TheVariants.{Before, After}
 use Rattle.causal_order.specs.declared.certificate.Foreign.{Foreign}
 use Rattle.causal_order.specs.declared.certificate.Reason.{Reason}
 use Rattle.causal_order.specs.declared.certificate.Reason.TheVariants.{Early, Late, Released}
@@ -24,7 +24,7 @@ abbrev pub IsPlainOrder : Precedes → Type 0
 IsPlainOrder (Chain chain) = IsOneLine chain ⊎ IsTwoLines chain
 IsPlainOrder (Clock first second) = IsOneLine first × IsOneLine second
 
-abbrev pub IsPlainWhy : Why → Type 0
+abbrev pub IsPlainWhy : ClearReason → Type 0
 IsPlainWhy (Before order) = IsPlainOrder order
 IsPlainWhy (After chain) = IsOneLine chain
 

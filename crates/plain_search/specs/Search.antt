@@ -10,8 +10,8 @@ use Rattle.causal_order.specs.declared.order.Precedes.{Precedes}
 use Rattle.causal_order.specs.declared.order.Precedes.TheVariants.{Chain, Clock}
 use Rattle.causal_order.specs.declared.certificate.Piece.{Piece}
 use Rattle.causal_order.specs.declared.certificate.Clear.{Clear}
-use Rattle.causal_order.specs.declared.certificate.Why.{Why}
-use Rattle.causal_order.specs.declared.certificate.Why.TheVariants.{Before, After}
+use Rattle.causal_order.specs.declared.certificate.ClearReason.{ClearReason}
+use Rattle.causal_order.specs.declared.certificate.ClearReason.TheVariants.{Before, After}
 use Rattle.causal_order.specs.declared.certificate.Foreign.{Foreign}
 use Rattle.causal_order.specs.declared.certificate.Reason.{Reason}
 use Rattle.causal_order.specs.Journals.{Journals, open_of}
@@ -24,8 +24,8 @@ use Rattle.attribution.specs.Run.{infinity}
 use Rattle.attribution.specs.Acceptance.{Grants, Tells, GivesBack, HasEarlier, IsOutside, Tile}
 use Rattle.plain_search.specs.declared.query.Query.{Query}
 use Rattle.plain_search.specs.declared.reach.Candidate.{Candidate}
-use Rattle.plain_search.specs.declared.reach.Reach.{Reach}
-use Rattle.plain_search.specs.declared.sweep.Passed.{Passed}
+use Rattle.plain_search.specs.declared.reach.CarriedSpan.{CarriedSpan}
+use Rattle.plain_search.specs.declared.sweep.SweepState.{SweepState}
 use Rattle.plain_search.specs.Plain.{IsPlainReason}
 use Rattle.plain_search.specs.Limits.{lines_of_all}
 
@@ -98,7 +98,7 @@ CarriesAt js q m r =
     (c : Candidate) × (c.grant ≡ r) × IsCandidate js q c × (begin_of q c ≤ m) × CarriesTo js q c (m + 1)
 
 -- a grant with the moments that it carries
-pub record IsReach (js : Journals) (q : Query) (x : Reach) : Type 0 where
+pub record IsReach (js : Journals) (q : Query) (x : CarriedSpan) : Type 0 where
   pub candidate : Candidate
   pub is : candidate.grant ≡ x.grant
   pub of : IsCandidate js q candidate
@@ -106,44 +106,44 @@ pub record IsReach (js : Journals) (q : Query) (x : Reach) : Type 0 where
   pub ends : (to : ℕ) → CarriesTo js q candidate to ↔ to ≤ x.end
 
 -- each line that carries a moment of the query is among the reaches
-abbrev pub HasReach : List Reach → Ref → Type 0
-HasReach xs r = (x : Reach) × Has xs x × (x.grant ≡ r)
+abbrev pub HasReach : List CarriedSpan → Ref → Type 0
+HasReach xs r = (x : CarriedSpan) × Has xs x × (x.grant ≡ r)
 
-abbrev pub AreAllReaches : Journals → Query → List Reach → Type 0
+abbrev pub AreAllReaches : Journals → Query → List CarriedSpan → Type 0
 AreAllReaches js q xs = (m : ℕ) (r : Ref) → q.from ≤ m → CarriesAt js q m r → HasReach xs r
 
 -- the reaches that carry a moment end with it, or none does
-abbrev pub NoneReaches : List Reach → ℕ → Type 0
-NoneReaches xs m = (x : Reach) → Has xs x → x.begin ≤ m → x.end ≤ m
+abbrev pub NoneReaches : List CarriedSpan → ℕ → Type 0
+NoneReaches xs m = (x : CarriedSpan) → Has xs x → x.begin ≤ m → x.end ≤ m
 
 -- the one that carries the moment and reaches farthest
-pub record IsFarthest (xs : List Reach) (m : ℕ) (z : Reach) : Type 0 where
+pub record IsFarthest (xs : List CarriedSpan) (m : ℕ) (z : CarriedSpan) : Type 0 where
   pub has : Has xs z
   pub begins : z.begin ≤ m
   pub ends : m < z.end
-  pub most : (x : Reach) → Has xs x → x.begin ≤ m → x.end ≤ z.end
+  pub most : (x : CarriedSpan) → Has xs x → x.begin ≤ m → x.end ≤ z.end
 
 -- the grants stand in the order in which they begin
-abbrev pub AreInOrder : List Reach → Type 0
-AreInOrder xs = IsNonDecreasingBy (λ (x : Reach). x.begin) xs
+abbrev pub AreInOrder : List CarriedSpan → Type 0
+AreInOrder xs = IsNonDecreasingBy (λ (x : CarriedSpan). x.begin) xs
 
 -- the first so many begin by the moment, and none of them carries farther than the best
-pub record IsPassed (xs : List Reach) (m : ℕ) (p : Passed) : Type 0 where
+pub record IsPassed (xs : List CarriedSpan) (m : ℕ) (p : SweepState) : Type 0 where
   pub within : p.count ≤ length xs
-  pub begun : (k : ℕ) (x : Reach) → k < p.count → slice_get xs k ≡ Some x → x.begin ≤ m
+  pub begun : (k : ℕ) (x : CarriedSpan) → k < p.count → slice_get xs k ≡ Some x → x.begin ≤ m
   pub place : p.best ≤ p.count
   pub some : 0 < p.count → p.best < p.count
-  pub most : (k : ℕ) (x z : Reach) → k < p.count → slice_get xs k ≡ Some x → slice_get xs p.best ≡ Some z
+  pub most : (k : ℕ) (x z : CarriedSpan) → k < p.count → slice_get xs k ≡ Some x → slice_get xs p.best ≡ Some z
       → x.end ≤ z.end
 
 -- the place of the one of two that carries farther
-abbrev pub IsFarther : List Reach → (best place found : ℕ) → Type 0
-IsFarther xs best place found = (x z : Reach) → slice_get xs best ≡ Some x → slice_get xs place ≡ Some z
+abbrev pub IsFarther : List CarriedSpan → (best place found : ℕ) → Type 0
+IsFarther xs best place found = (x z : CarriedSpan) → slice_get xs best ≡ Some x → slice_get xs place ≡ Some z
     → ((found ≡ place) × (x.end ≤ z.end)) ⊎ ((found ≡ best) × (z.end ≤ x.end))
 
 -- those from this place on begin later
-abbrev pub AreLater : List Reach → ℕ → ℕ → Type 0
-AreLater xs m count = (k : ℕ) (x : Reach) → count ≤ k → slice_get xs k ≡ Some x → m < x.begin
+abbrev pub AreLater : List CarriedSpan → ℕ → ℕ → Type 0
+AreLater xs m count = (k : ℕ) (x : CarriedSpan) → count ≤ k → slice_get xs k ≡ Some x → m < x.begin
 
 -- no grant carries some moment of the query
 pub record HasGap (js : Journals) (q : Query) : Type 0 where
@@ -155,7 +155,7 @@ pub record HasGap (js : Journals) (q : Query) : Type 0 where
 -- ---- pieces
 
 -- why a release doesn't cut a piece of the grant short
-abbrev pub IsPlainEntry : Journals → ℕ → (release grant : Ref) → Why → Type 0
+abbrev pub IsPlainEntry : Journals → ℕ → (release grant : Ref) → ClearReason → Type 0
 IsPlainEntry js skew j r why =
     (IsPlainlyBefore js skew j r × (why ≡ Before (plain_order j r)))
     ⊎ ((IsPlainlyBefore js skew j r → ⊥) × (why ≡ After (j ∷ [])))
@@ -180,13 +180,13 @@ piece_with r from to clear = record {
 }
 
 -- what a reach carries from this moment on
-pub record IsPieceOf (js : Journals) (skew : ℕ) (x : Reach) (from : ℕ) (p : Piece) : Type 0 where
+pub record IsPieceOf (js : Journals) (skew : ℕ) (x : CarriedSpan) (from : ℕ) (p : Piece) : Type 0 where
   pub clear : List Clear
   pub is : p ≡ piece_with x.grant from x.end clear
   pub entries : AreEntries js skew x.grant clear
 
 pub record IsFound (js : Journals) (q : Query) (p : Piece) : Type 0 where
-  pub reach : Reach
+  pub reach : CarriedSpan
   pub from : ℕ
   pub of : IsReach js q reach
   pub begun : reach.begin ≤ from

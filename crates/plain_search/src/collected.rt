@@ -13,7 +13,7 @@ use std::alloc::{AllocError, Global};
 
 /// A line, and what the clock showed at it.
 #[derive(Clone, Copy, Debug)]
-pub struct Dated {
+pub struct DatedRelease {
     pub at: Ref,
     pub reading: Reading,
 }
@@ -22,8 +22,8 @@ pub struct Dated {
 #[derive(Drop)]
 pub struct Releases {
     pub delegation: Delegation,
-    pub primary: Vec<Dated>,
-    pub secondary: Vec<Dated>,
+    pub primary: Vec<DatedRelease>,
+    pub secondary: Vec<DatedRelease>,
     /// Whether both numbers and readings rise from each to the next, as they do where a journal keeps the rules.
     pub are_rising: bool,
 }
@@ -40,7 +40,7 @@ fn releases_on<S: LineSource>(
     source: &S,
     delegation: &Delegation,
     side: Role,
-) -> Result<Vec<Dated>, AllocError>
+) -> Result<Vec<DatedRelease>, AllocError>
     ensures { IfOk result (λ xs. AreReleasesOn (S.journals source.now) delegation.now side xs.items) }
 {
     let mut releases = Vec::new(alloc);
@@ -50,13 +50,13 @@ fn releases_on<S: LineSource>(
             continue;
         }
         if let Some(reading) = reading_at(source, at) {
-            releases.push(Dated { at, reading })?;
+            releases.push(DatedRelease { at, reading })?;
         }
     }
     Ok(releases)
 }
 
-fn is_followed_by(line: &Dated, next: &Dated) -> bool
+fn is_followed_by(line: &DatedRelease, next: &DatedRelease) -> bool
     ensures { IsTrue result ↔ IsFollowedBy line.now next.now }
 {
     line.at.side == next.at.side
@@ -65,7 +65,7 @@ fn is_followed_by(line: &Dated, next: &Dated) -> bool
 }
 
 /// Returns whether the lines stand in the order of their journal, and their readings rise with them.
-fn are_rising(lines: &[Dated]) -> bool
+fn are_rising(lines: &[DatedRelease]) -> bool
     ensures { IsTrue result → AreRising lines.now }
 {
     for index in 1..lines.len() {

@@ -10,7 +10,7 @@ use crate::asking::{delegation_at, reading_at};
 use crate::error::FindError;
 use crate::ordering::{plain_order, single};
 use crate::query::Query;
-use crate::recent::Recent;
+use crate::recent::ReleaseCache;
 use crate::releases::returning;
 use attribution::{Delegation, Lasting};
 use auditor::LineSource;
@@ -51,7 +51,7 @@ pub fn begins_late(query: &Query, lasting: Lasting, granted: Reading) -> bool
 fn reason_of<S: LineSource>(
     alloc: Global,
     source: &S,
-    recent: &mut Recent,
+    recent: &mut ReleaseCache,
     query: &Query,
     at: Ref,
     delegation: &Delegation,
@@ -116,7 +116,7 @@ pub fn foreign_entries<S: LineSource>(
     ensures short { IsErrOf result FindError.TooLong → ⊥ }
 {
     let mut entries = ForeignList::new(alloc);
-    let mut recent = Recent::new(alloc);
+    let mut recent = ReleaseCache::new(alloc);
     let mut walk = source.overlaps(&query.prefix);
     while let Some(grant) = source.next_overlap(&query.prefix, &mut walk) {
         if let Some(delegation) = others_at(source, query, grant) {

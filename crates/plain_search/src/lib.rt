@@ -6,7 +6,7 @@
 //! are ordered by their journal, or by clocks that are further apart than both skews. Where they find nothing, no
 //! certificate that is made of such lines is accepted (specs/Plain), which `evidence_search` proves.
 //!
-//! [`Recent`] keeps the releases that were asked for last, so that each delegation's are collected once. What a search
+//! [`ReleaseCache`] keeps the releases that were asked for last, so that each delegation's are collected once. What a search
 //! through messages needs of single lines is exported too. specs/Search and specs/Collected are for bodies only.
 //!
 //! ```text
@@ -29,15 +29,15 @@ mod sweep;
 mod walking;
 
 pub use asking::{lease_at, reading_at};
-pub use collected::Dated;
+pub use collected::DatedRelease;
 pub use error::FindError;
 pub use foreign::{begins_late, foreign_entries, has_ended, others_at};
 pub use ordering::{are_apart, is_plainly_before, plain_order};
 pub use plain_pieces::pieces;
 pub use query::{HolderQuery, Query};
 pub use reach::{
-    Candidate, Reach, begin_of, is_holders, lease_limit, less_skew, reach_at, reaches,
+    Candidate, CarriedSpan, begin_of, is_holders, lease_limit, less_skew, reach_at, reaches,
 };
-pub use recent::Recent;
+pub use recent::ReleaseCache;
 pub use releases::{first_read, first_returning};
-pub use sweep::{Passed, farthest, pass, sort};
+pub use sweep::{SweepState, farthest, pass, sort};

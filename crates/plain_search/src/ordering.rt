@@ -6,7 +6,7 @@ ghost use Rattle.plain_search.specs.Collected.{shows_before};
 ghost use Rattle.plain_search.specs.Search.{IsPlainlyBefore, plain_order};
 
 use crate::asking::reading_at;
-use crate::collected::Dated;
+use crate::collected::DatedRelease;
 use causal_order::{Chain, Lines, Precedes, Ref};
 use lead_time::{Reading, Skew};
 use std::alloc::{AllocError, Global};
@@ -26,7 +26,7 @@ pub fn are_apart(earlier: Reading, later: Reading, skew: Skew) -> bool
 }
 
 /// Returns whether two lines and their readings show that the first was written before the second.
-pub fn shows_before(first: &Dated, second: &Dated, skew: Skew) -> bool
+pub fn shows_before(first: &DatedRelease, second: &DatedRelease, skew: Skew) -> bool
     ensures { result ≡ shows_before skew first.now second.now }
 {
     is_later(first.at, second.at)

@@ -11,11 +11,11 @@ use crate::asking::lease_at;
 use crate::error::FindError;
 use crate::ordering::{is_plainly_before, plain_order, single};
 use crate::query::Query;
-use crate::reach::{Reach, reaches};
-use crate::sweep::{Passed, farthest, pass};
+use crate::reach::{CarriedSpan, reaches};
+use crate::sweep::{SweepState, farthest, pass};
 use attribution::Delegation;
 use auditor::LineSource;
-use causal_order::{Clear, ClearList, Lines, Piece, PieceList, Ref, Why};
+use causal_order::{Clear, ClearList, ClearReason, Lines, Piece, PieceList, Ref};
 use lead_time::{Reading, Skew};
 use std::alloc::{AllocError, Global};
 
@@ -26,13 +26,13 @@ fn why_cleared<L: Lines>(
     release: Ref,
     grant: Ref,
     skew: Skew,
-) -> Result<Why, AllocError>
+) -> Result<ClearReason, AllocError>
     ensures { IfOk result (IsPlainEntry (L.journals lines.now) skew release grant) }
 {
     if is_plainly_before(lines, release, grant, skew) {
-        return Ok(Why::Before(plain_order(alloc, release, grant)?));
+        return Ok(ClearReason::Before(plain_order(alloc, release, grant)?));
     }
-    Ok(Why::After(single(alloc, release)?))
+    Ok(ClearReason::After(single(alloc, release)?))
 }
 
 /// An entry for each release that gives the delegation of this grant back.
@@ -74,7 +74,7 @@ fn clears_of<S: LineSource>(
 fn piece_of<S: LineSource>(
     alloc: Global,
     source: &S,
-    reach: &Reach,
+    reach: &CarriedSpan,
     from: Reading,
     skew: Skew,
 ) -> Result<Piece, AllocError>
@@ -96,7 +96,7 @@ fn pieces_of<S: LineSource>(
     alloc: Global,
     source: &S,
     query: &Query,
-    reaches: &[Reach],
+    reaches: &[CarriedSpan],
     room: usize,
 ) -> Result<PieceList, FindError>
     requires interval { query.now.from ≤ query.now.to }
@@ -111,7 +111,7 @@ fn pieces_of<S: LineSource>(
     let mut pieces = Vec::new(alloc);
     let mut left = room;
     let mut from = query.from;
-    let mut passed = Passed::NONE;
+    let mut passed = SweepState::NONE;
     while from < query.to {
         passed = pass(reaches, &passed, from);
         let Some(reach) = farthest(reaches, &passed, from) else {

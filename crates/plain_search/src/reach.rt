@@ -9,7 +9,7 @@ ghost use Rattle.plain_search.specs.Search.{begin_of, lease_limit, CarriesAt, Is
 use crate::asking::{lease_at, reading_at};
 use crate::ordering::are_apart;
 use crate::query::Query;
-use crate::recent::Recent;
+use crate::recent::ReleaseCache;
 use crate::releases::kept_limit;
 use crate::sweep::sort;
 use auditor::LineSource;
@@ -28,7 +28,7 @@ pub struct Candidate {
 
 /// A grant, and the moments that it carries: from `begin` up to `end`.
 #[derive(Clone, Copy, Debug)]
-pub struct Reach {
+pub struct CarriedSpan {
     pub grant: Ref,
     pub begin: Reading,
     pub end: Reading,
@@ -117,7 +117,7 @@ pub fn less_skew(reading: u64, skew: Skew) -> Option<Reading>
 fn end_of<S: LineSource>(
     alloc: Global,
     source: &S,
-    recent: &mut Recent,
+    recent: &mut ReleaseCache,
     query: &Query,
     candidate: &Candidate,
 ) -> Result<Option<Reading>, AllocError>
@@ -139,10 +139,10 @@ fn end_of<S: LineSource>(
 pub fn reach_at<S: LineSource>(
     alloc: Global,
     source: &S,
-    recent: &mut Recent,
+    recent: &mut ReleaseCache,
     query: &Query,
     at: Ref,
-) -> Result<Option<Reach>, AllocError>
+) -> Result<Option<CarriedSpan>, AllocError>
     requires { IsRecent (S.journals source.now) recent.old }
     ensures recent { OnOk result (IsRecent (S.journals source.now) recent.new) }
     ensures reach { IfOk result (λ found. MatchOption found
@@ -157,7 +157,7 @@ pub fn reach_at<S: LineSource>(
     };
     let end = end_of(alloc, source, recent, query, &candidate)?;
     match end {
-        Some(end) => Ok(Some(Reach {
+        Some(end) => Ok(Some(CarriedSpan {
             grant: at,
             begin,
             end,
@@ -171,13 +171,13 @@ fn found_reaches<S: LineSource>(
     alloc: Global,
     source: &S,
     query: &Query,
-) -> Result<Vec<Reach>, AllocError>
+) -> Result<Vec<CarriedSpan>, AllocError>
     ensures each { IfOk result (λ xs. All (IsReach (S.journals source.now) query.now) xs.items) }
     ensures all { IfOk result (λ xs. AreAllReaches (S.journals source.now) query.now xs.items) }
 {
     let _bits = query.prefix.len();
     let mut reaches = Vec::new(alloc);
-    let mut recent = Recent::new(alloc);
+    let mut recent = ReleaseCache::new(alloc);
     let mut walk = source.overlaps(&query.prefix);
     while let Some(at) = source.next_overlap(&query.prefix, &mut walk) {
         let found = reach_at(alloc, source, &mut recent, query, at)?;
@@ -193,7 +193,7 @@ pub fn reaches<S: LineSource>(
     alloc: Global,
     source: &S,
     query: &Query,
-) -> Result<Vec<Reach>, AllocError>
+) -> Result<Vec<CarriedSpan>, AllocError>
     ensures each { IfOk result (λ xs. All (IsReach (S.journals source.now) query.now) xs.items) }
     ensures all { IfOk result (λ xs. AreAllReaches (S.journals source.now) query.now xs.items) }
     ensures sorted { IfOk result (λ xs. AreInOrder xs.items) }

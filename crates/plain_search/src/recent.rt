@@ -10,7 +10,7 @@ use std::alloc::{AllocError, Global};
 
 /// The releases of the delegations that were asked about last.
 #[derive(Drop)]
-pub struct Recent {
+pub struct ReleaseCache {
     pub collected: Vec<Releases>,
 }
 
@@ -24,12 +24,12 @@ fn are_given_back_alike(one: &Delegation, other: &Delegation) -> bool
     one.client == other.client && one.iaid == other.iaid && one.prefix == other.prefix
 }
 
-impl Recent {
+impl ReleaseCache {
     /// Nothing yet.
-    pub fn new(alloc: Global) -> Recent
+    pub fn new(alloc: Global) -> ReleaseCache
         ensures { result.collected.items ≡ [] }
     {
-        Recent {
+        ReleaseCache {
             collected: Vec::new(alloc),
         }
     }

@@ -4,17 +4,17 @@ ghost use Rattle.std.specs.Prelude.{◌≡◌, ◌↔◌, ℕ, ◌⊎◌, ◌≤
 ghost use Rattle.std.specs.Prelude.{Contains as Has};
 ghost use Rattle.causal_order.specs.declared.reference.Ref.{Ref as RefValue};
 ghost use Rattle.attribution.specs.Acceptance.{GivesBack};
-ghost use Rattle.plain_search.specs.declared.collected.Dated.{Dated as DatedValue};
+ghost use Rattle.plain_search.specs.declared.collected.DatedRelease.{DatedRelease as DatedValue};
 ghost use Rattle.plain_search.specs.Collected.{shows_before, AreRising, IsFirstFailing, NoneFails, IsKeptBy};
 ghost use Rattle.plain_search.specs.Collected.{IsReturn, IsRecent};
 ghost use Rattle.plain_search.specs.Search.{AreKeptTo, IsReturnedBy};
 
 use crate::asking::reading_at;
-use crate::collected::Dated;
+use crate::collected::DatedRelease;
 use crate::ordering::shows_before;
 use crate::query::Query;
 use crate::reach::Candidate;
-use crate::recent::Recent;
+use crate::recent::ReleaseCache;
 use crate::walking;
 use attribution::Delegation;
 use auditor::LineSource;
@@ -23,7 +23,11 @@ use lead_time::Skew;
 use std::alloc::{AllocError, Global};
 
 /// The first of these releases that isn't plainly before the grant.
-fn first_cutting(releases: &[Dated], grant: &Dated, skew: Skew) -> Option<Dated>
+fn first_cutting(
+    releases: &[DatedRelease],
+    grant: &DatedRelease,
+    skew: Skew,
+) -> Option<DatedRelease>
     requires { AreRising releases.now }
     ensures { MatchOption result (NoneFails (λ x. shows_before skew x grant.now) releases.now)
         (IsFirstFailing (λ x. shows_before skew x grant.now) releases.now) }
@@ -40,7 +44,7 @@ fn first_cutting(releases: &[Dated], grant: &Dated, skew: Skew) -> Option<Dated>
 }
 
 /// The greatest reading up to this one that none of these releases cuts off.
-fn kept_by(releases: &[Dated], grant: &Dated, skew: Skew, limit: u64) -> u64
+fn kept_by(releases: &[DatedRelease], grant: &DatedRelease, skew: Skew, limit: u64) -> u64
     requires { AreRising releases.now }
     ensures { (least : ℕ) → least ≤ result ↔ ((least ≤ limit) × IsKeptBy skew grant.now releases.now least) }
 {
@@ -54,7 +58,7 @@ fn kept_by(releases: &[Dated], grant: &Dated, skew: Skew, limit: u64) -> u64
 pub fn kept_limit<S: LineSource>(
     alloc: Global,
     source: &S,
-    recent: &mut Recent,
+    recent: &mut ReleaseCache,
     candidate: &Candidate,
     skew: Skew,
     limit: u64,
@@ -71,7 +75,7 @@ pub fn kept_limit<S: LineSource>(
     match reading {
         Some(reading) if releases.are_rising => {
             let at = candidate.grant;
-            let grant = Dated { at, reading };
+            let grant = DatedRelease { at, reading };
             let kept = kept_by(&releases.primary, &grant, skew, limit);
             Ok(kept_by(&releases.secondary, &grant, skew, kept))
         }
@@ -80,7 +84,7 @@ pub fn kept_limit<S: LineSource>(
 }
 
 /// The first of these releases that is plainly after the line.
-fn first_after(releases: &[Dated], line: &Dated, skew: Skew) -> Option<Dated>
+fn first_after(releases: &[DatedRelease], line: &DatedRelease, skew: Skew) -> Option<DatedRelease>
     requires { AreRising releases.now }
     ensures { MatchOption result (NoneFails (λ x. not (shows_before skew line.now x)) releases.now)
         (IsFirstFailing (λ x. not (shows_before skew line.now x)) releases.now) }
@@ -97,7 +101,11 @@ fn first_after(releases: &[Dated], line: &Dated, skew: Skew) -> Option<Dated>
 }
 
 /// The first of these releases that is plainly after the line, where it is by the query's beginning.
-fn first_return(releases: &[Dated], query: &Query, line: &Dated) -> Option<Dated>
+fn first_return(
+    releases: &[DatedRelease],
+    query: &Query,
+    line: &DatedRelease,
+) -> Option<DatedRelease>
     requires { AreRising releases.now }
     ensures { MatchOption result
         ((x : DatedValue) → Has releases.now x → IsReturn query.now line.now x → ⊥)
@@ -113,7 +121,7 @@ fn first_return(releases: &[Dated], query: &Query, line: &Dated) -> Option<Dated
 }
 
 /// The one of two lines that was read first, where there is one: the former where both were at once.
-pub fn first_read(one: Option<Dated>, other: Option<Dated>) -> Option<Dated>
+pub fn first_read(one: Option<DatedRelease>, other: Option<DatedRelease>) -> Option<DatedRelease>
     ensures found { MatchOption result ((one ≡ None) × (other ≡ None)) (λ x. (one ≡ Some x) ⊎ (other ≡ Some x)) }
     ensures first { IfSome one (λ x. IfSome other (λ y. ((y.reading < x.reading) × (result ≡ Some y))
         ⊎ ((x.reading ≤ y.reading) × (result ≡ Some x)))) }
@@ -135,7 +143,7 @@ pub fn first_read(one: Option<Dated>, other: Option<Dated>) -> Option<Dated>
 pub fn returning<S: LineSource>(
     alloc: Global,
     source: &S,
-    recent: &mut Recent,
+    recent: &mut ReleaseCache,
     query: &Query,
     at: Ref,
     delegation: &Delegation,
@@ -157,7 +165,7 @@ pub fn returning<S: LineSource>(
     let reading = reading_at(source, at);
     match reading {
         Some(reading) if releases.are_rising => {
-            let line = Dated { at, reading };
+            let line = DatedRelease { at, reading };
             let primary = first_return(&releases.primary, query, &line);
             let secondary = first_return(&releases.secondary, query, &line);
             match first_read(primary, secondary) {
@@ -173,11 +181,11 @@ pub fn returning<S: LineSource>(
 pub fn first_returning<S: LineSource>(
     alloc: Global,
     source: &S,
-    recent: &mut Recent,
+    recent: &mut ReleaseCache,
     skew: Skew,
     at: Ref,
     delegation: &Delegation,
-) -> Result<Option<Dated>, AllocError>
+) -> Result<Option<DatedRelease>, AllocError>
     requires { IsRecent (S.journals source.now) recent.old }
     ensures { OnOk result (IsRecent (S.journals source.now) recent.new) }
 {
@@ -186,7 +194,7 @@ pub fn first_returning<S: LineSource>(
     let reading = reading_at(source, at);
     match reading {
         Some(reading) if releases.are_rising => {
-            let line = Dated { at, reading };
+            let line = DatedRelease { at, reading };
             let primary = first_after(&releases.primary, &line, skew);
             let secondary = first_after(&releases.secondary, &line, skew);
             Ok(first_read(primary, secondary))

@@ -5,24 +5,24 @@ ghost use Rattle.std.specs.List.Sorted.{IsPermutation};
 ghost use Rattle.plain_search.specs.Search.{AreInOrder, IsPassed, AreLater, IsFarther, IsFarthest};
 ghost use Rattle.plain_search.specs.Search.{NoneReaches};
 
-use crate::reach::Reach;
+use crate::reach::CarriedSpan;
 use lead_time::Reading;
 use std::alloc::AllocError;
 
 /// How many grants were passed, which begin by a moment, and the place of the one of these that carries farthest.
 #[derive(Clone, Copy, Debug)]
-pub struct Passed {
+pub struct SweepState {
     pub count: usize,
     pub best: usize,
 }
 
-impl Passed {
+impl SweepState {
     /// None of them.
-    pub const NONE: Passed = Passed { count: 0, best: 0 };
+    pub const NONE: SweepState = SweepState { count: 0, best: 0 };
 }
 
 /// Puts first what begins first.
-pub fn sort(reaches: &mut Vec<Reach>) -> Result<(), AllocError>
+pub fn sort(reaches: &mut Vec<CarriedSpan>) -> Result<(), AllocError>
     ensures sorted { OnOk result (AreInOrder reaches.new.items) }
     ensures same { OnOk result (IsPermutation reaches.old.items reaches.new.items) }
 {
@@ -34,7 +34,7 @@ pub fn sort(reaches: &mut Vec<Reach>) -> Result<(), AllocError>
 }
 
 /// The place of the one of two grants that carries farther.
-fn farther(reaches: &[Reach], best: usize, place: usize) -> usize
+fn farther(reaches: &[CarriedSpan], best: usize, place: usize) -> usize
     requires best { best < length reaches.now }
     requires place { place < length reaches.now }
     ensures { IsFarther reaches.now best place result }
@@ -48,7 +48,7 @@ fn farther(reaches: &[Reach], best: usize, place: usize) -> usize
 }
 
 /// Passes the grants that begin by this moment too.
-pub fn pass(reaches: &[Reach], passed: &Passed, moment: Reading) -> Passed
+pub fn pass(reaches: &[CarriedSpan], passed: &SweepState, moment: Reading) -> SweepState
     requires sorted { AreInOrder reaches.now }
     requires before { IsPassed reaches.now moment passed.now }
     ensures passed { IsPassed reaches.now moment result }
@@ -59,16 +59,20 @@ pub fn pass(reaches: &[Reach], passed: &Passed, moment: Reading) -> Passed
     while count < reaches.len() {
         let reach = reaches[count];
         if reach.begin.milliseconds() > moment.milliseconds() {
-            return Passed { count, best };
+            return SweepState { count, best };
         }
         best = farther(reaches, best, count);
         count += 1;
     }
-    Passed { count, best }
+    SweepState { count, best }
 }
 
 /// The grant that carries the moment and reaches farthest from it.
-pub fn farthest(reaches: &[Reach], passed: &Passed, moment: Reading) -> Option<Reach>
+pub fn farthest(
+    reaches: &[CarriedSpan],
+    passed: &SweepState,
+    moment: Reading,
+) -> Option<CarriedSpan>
     requires passed { IsPassed reaches.now moment passed.now }
     requires later { AreLater reaches.now moment passed.now.count }
     ensures { MatchOption result (NoneReaches reaches.now moment) (IsFarthest reaches.now moment) }

@@ -6,11 +6,11 @@ use crate::object::Object;
 use crate::pieces::pieces_of;
 use crate::values::{client_of, line_of, prefix_of, text_of, time_of};
 use causal_order::Certificate;
-use evidence_report::{Cited, Report, SideReport};
+use evidence_report::{CitedLine, Report, SideReport};
 use journal_text::push_entry;
 use lead_time::Reading;
-use pair_ruling::ruling_line;
-use report_words::Explanation;
+use pair_judgement::judgement_line;
+use report_document::Explanation;
 use serde_json::Value;
 use std::alloc::{AllocError, Global};
 
@@ -40,7 +40,7 @@ fn side_of(alloc: Global, side: &SideReport) -> Result<Value, AllocError> {
 }
 
 /// What a line says behind its number, without the space before it.
-fn entry_of(alloc: Global, cited: &Cited) -> Result<Value, AllocError> {
+fn entry_of(alloc: Global, cited: &CitedLine) -> Result<Value, AllocError> {
     let mut text = Vec::new(alloc);
     push_entry(&mut text, &cited.line)?;
     match text.as_slice().split_first() {
@@ -49,7 +49,7 @@ fn entry_of(alloc: Global, cited: &Cited) -> Result<Value, AllocError> {
     }
 }
 
-fn cited_of(alloc: Global, cited: &Cited) -> Result<Value, AllocError> {
+fn cited_of(alloc: Global, cited: &CitedLine) -> Result<Value, AllocError> {
     Object::new(alloc)
         .with_made("line", line_of(alloc, cited.at))
         .with_made("reading", time_of(alloc, cited.line.reading.milliseconds()))
@@ -57,7 +57,7 @@ fn cited_of(alloc: Global, cited: &Cited) -> Result<Value, AllocError> {
         .into_value()
 }
 
-fn lines_of(alloc: Global, cited: &[Cited]) -> Result<Value, AllocError> {
+fn lines_of(alloc: Global, cited: &[CitedLine]) -> Result<Value, AllocError> {
     let mut values = Vec::new(alloc);
     for line in cited {
         values.push(cited_of(alloc, line)?)?;
@@ -88,7 +88,7 @@ fn shown_of(alloc: Global, report: &Option<Report<'_>>) -> Result<Value, AllocEr
 
 /// A ruling's line, without its line feed.
 fn verdict_of(alloc: Global, explanation: &Explanation<'_>) -> Result<Value, AllocError> {
-    let line = ruling_line(alloc, &explanation.ruling)?;
+    let line = judgement_line(alloc, &explanation.ruling)?;
     match line.as_slice().split_last() {
         Some((_, verdict)) => text_of(alloc, verdict),
         None => Ok(Value::Null),

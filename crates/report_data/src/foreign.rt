@@ -6,7 +6,9 @@ use crate::values::{
 };
 use attribution::{Delegation, Lasting};
 use causal_order::{Chain, Ref};
-use evidence_report::{ForeignReport, Mark, OrderReport, Outside, Told};
+use evidence_report::{
+    ForeignEvidence, ForeignReport, LineReading, OrderReport, ReportedDelegation,
+};
 use serde_json::Value;
 use std::alloc::{AllocError, Global};
 
@@ -37,21 +39,25 @@ pub(crate) fn delegation_of(alloc: Global, delegation: &Delegation) -> Result<Va
         .into_value()
 }
 
-fn delegated_of(alloc: Global, told: &Told) -> Result<Value, AllocError> {
+fn delegated_of(alloc: Global, told: &ReportedDelegation) -> Result<Value, AllocError> {
     Object::new(alloc)
         .with_made("reading", time_of(alloc, told.reading.milliseconds()))
         .with_made("delegation", delegation_of(alloc, &told.delegation))
         .into_value()
 }
 
-fn told_of(alloc: Global, told: &Option<Told>) -> Result<Value, AllocError> {
+fn told_of(alloc: Global, told: &Option<ReportedDelegation>) -> Result<Value, AllocError> {
     match told {
         Some(told) => delegated_of(alloc, told),
         None => Ok(Value::Null),
     }
 }
 
-fn early_of(alloc: Global, chain: &Chain, latest: &Option<Mark>) -> Result<Value, AllocError> {
+fn early_of(
+    alloc: Global,
+    chain: &Chain,
+    latest: &Option<LineReading>,
+) -> Result<Value, AllocError> {
     Object::new(alloc)
         .with("why", "early")
         .with_made("chain", chain_of(alloc, chain))
@@ -59,7 +65,11 @@ fn early_of(alloc: Global, chain: &Chain, latest: &Option<Mark>) -> Result<Value
         .into_value()
 }
 
-fn late_of(alloc: Global, chain: &Chain, earliest: &Option<Mark>) -> Result<Value, AllocError> {
+fn late_of(
+    alloc: Global,
+    chain: &Chain,
+    earliest: &Option<LineReading>,
+) -> Result<Value, AllocError> {
     Object::new(alloc)
         .with("why", "late")
         .with_made("chain", chain_of(alloc, chain))
@@ -73,7 +83,7 @@ fn released_of(
     gives_back: bool,
     order: &OrderReport<'_>,
     chain: &Chain,
-    latest: &Option<Mark>,
+    latest: &Option<LineReading>,
 ) -> Result<Value, AllocError> {
     Object::new(alloc)
         .with("why", "released")
@@ -85,11 +95,11 @@ fn released_of(
         .into_value()
 }
 
-fn outside_of(alloc: Global, outside: &Outside<'_>) -> Result<Value, AllocError> {
+fn outside_of(alloc: Global, outside: &ForeignEvidence<'_>) -> Result<Value, AllocError> {
     match outside {
-        Outside::Early(chain, latest) => early_of(alloc, chain, latest),
-        Outside::Late(chain, earliest) => late_of(alloc, chain, earliest),
-        Outside::Released {
+        ForeignEvidence::Early(chain, latest) => early_of(alloc, chain, latest),
+        ForeignEvidence::Late(chain, earliest) => late_of(alloc, chain, earliest),
+        ForeignEvidence::Released {
             release,
             gives_back,
             order,

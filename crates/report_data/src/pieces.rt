@@ -5,11 +5,13 @@ use crate::values::{
     association_of, chain_of, client_of, line_of, mark_of, order_of, prefix_of, time_of,
 };
 use causal_order::{Chain, Clear};
-use evidence_report::{Cleared, Granted, Mark, OrderReport, PieceReport, ReleaseReport};
+use evidence_report::{
+    ClearReport, LineReading, OrderReport, PieceReport, ReleaseReport, ReportedGrant,
+};
 use serde_json::Value;
 use std::alloc::{AllocError, Global};
 
-fn lease_of(alloc: Global, granted: &Granted) -> Result<Value, AllocError> {
+fn lease_of(alloc: Global, granted: &ReportedGrant) -> Result<Value, AllocError> {
     Object::new(alloc)
         .with_made("reading", time_of(alloc, granted.reading.milliseconds()))
         .with_made("client", client_of(alloc, &granted.lease.client))
@@ -20,7 +22,7 @@ fn lease_of(alloc: Global, granted: &Granted) -> Result<Value, AllocError> {
 }
 
 /// What a grant grants, or null.
-fn granted_of(alloc: Global, granted: &Option<Granted>) -> Result<Value, AllocError> {
+fn granted_of(alloc: Global, granted: &Option<ReportedGrant>) -> Result<Value, AllocError> {
     match granted {
         Some(granted) => lease_of(alloc, granted),
         None => Ok(Value::Null),
@@ -37,7 +39,7 @@ fn cleared_before(alloc: Global, order: &OrderReport<'_>) -> Result<Value, Alloc
 fn cleared_after(
     alloc: Global,
     chain: &Chain,
-    earliest: &Option<Mark>,
+    earliest: &Option<LineReading>,
 ) -> Result<Value, AllocError> {
     Object::new(alloc)
         .with("why", "after_piece")
@@ -47,10 +49,13 @@ fn cleared_after(
 }
 
 /// Why a release doesn't end the piece, or null.
-fn cleared_of(alloc: Global, entry: &Option<(&Clear, Cleared<'_>)>) -> Result<Value, AllocError> {
+fn cleared_of(
+    alloc: Global,
+    entry: &Option<(&Clear, ClearReport<'_>)>,
+) -> Result<Value, AllocError> {
     match entry {
-        Some((_, Cleared::Before(order))) => cleared_before(alloc, order),
-        Some((_, Cleared::After(chain, earliest))) => cleared_after(alloc, chain, earliest),
+        Some((_, ClearReport::Before(order))) => cleared_before(alloc, order),
+        Some((_, ClearReport::After(chain, earliest))) => cleared_after(alloc, chain, earliest),
         None => Ok(Value::Null),
     }
 }

@@ -13,7 +13,7 @@ use attribution::push_place;
 use binding_rules::Role;
 use causal_order::{Chain, Ref};
 use client_id::{Duid, Iaid};
-use evidence_report::{Mark, OrderReport};
+use evidence_report::{LineReading, OrderReport};
 use lead_time::Reading;
 use prefix_range::{Prefix, push_prefix};
 use serde_json::Value;
@@ -104,7 +104,7 @@ pub(crate) fn chain_of(alloc: Global, chain: &Chain) -> Result<Value, AllocError
     Ok(Value::Array(lines))
 }
 
-fn marked_of(alloc: Global, mark: &Mark) -> Result<Value, AllocError> {
+fn marked_of(alloc: Global, mark: &LineReading) -> Result<Value, AllocError> {
     Object::new(alloc)
         .with_made("line", line_of(alloc, mark.at))
         .with_made("reading", time_of(alloc, mark.reading.milliseconds()))
@@ -112,7 +112,7 @@ fn marked_of(alloc: Global, mark: &Mark) -> Result<Value, AllocError> {
 }
 
 /// A line with its reading, or null.
-pub(crate) fn mark_of(alloc: Global, mark: &Option<Mark>) -> Result<Value, AllocError> {
+pub(crate) fn mark_of(alloc: Global, mark: &Option<LineReading>) -> Result<Value, AllocError> {
     match mark {
         Some(mark) => marked_of(alloc, mark),
         None => Ok(Value::Null),
@@ -130,9 +130,9 @@ fn chain_order(alloc: Global, chain: &Chain, leads: bool) -> Result<Value, Alloc
 fn clock_order(
     alloc: Global,
     before: &Chain,
-    latest: &Option<Mark>,
+    latest: &Option<LineReading>,
     after: &Chain,
-    earliest: &Option<Mark>,
+    earliest: &Option<LineReading>,
 ) -> Result<Value, AllocError> {
     Object::new(alloc)
         .with("by", "clocks")

@@ -5,10 +5,10 @@ use Rattle.std.specs.Fmt.{decimal}
 use Rattle.zone_times.specs.declared.zone.ZoneFile.{ZoneFile}
 use Rattle.zone_times.specs.Local.{AddsLocal}
 use Rattle.time_text.specs.Time.{IsTimeText}
-use Rattle.report_words.specs.declared.word.Word.{Word}
+use Rattle.report_document.specs.declared.word.ReportWord.{ReportWord}
 use Rattle.report_render.specs.Spelling.{IsWordText, AreWordTexts, AddsTimed, AddsLocalPart, AddsZoned, AddsMoment, AddsWord, AddsWords}
 
-texts_more : (clock : Option (Bor ZoneFile)) (words : List Word) (text : List ℕ) (w : Word) (more : List ℕ)
+texts_more : (clock : Option (Bor ZoneFile)) (words : List ReportWord) (text : List ℕ) (w : ReportWord) (more : List ℕ)
     → AreWordTexts clock words text → IsWordText clock w more → AreWordTexts clock (words ++ w ∷ []) (text ++ more)
 texts_more clock [] text w more e h = (more, [], ap (λ t. t ++ more) e ∙ sym (append-nil more), h, refl)
 texts_more clock (v ∷ words) text w more (front, rest, e, h, others) k = (
@@ -19,7 +19,7 @@ texts_more clock (v ∷ words) text w more (front, rest, e, h, others) k = (
   texts_more clock words rest w more others k,
 )
 
-words_more : (clock : Option (Bor ZoneFile)) (words : List Word) (w : Word) (a b c : List ℕ) → AddsWords clock words a b → AddsWord clock w b c
+words_more : (clock : Option (Bor ZoneFile)) (words : List ReportWord) (w : ReportWord) (a b c : List ℕ) → AddsWords clock words a b → AddsWord clock w b c
     → AddsWords clock (words ++ w ∷ []) a c
 words_more clock words w a b c h k = record {
   text = h.text ++ k.text;
@@ -27,7 +27,7 @@ words_more clock words w a b c h k = record {
   added = k.added ∙ (ap (λ t. t ++ k.text) h.added ∙ append_assoc a h.text k.text);
 }
 
-pub words_step : (clock : Option (Bor ZoneFile)) (words : List Word) (i : ℕ) (d : Word) (a b c : List ℕ) → i < length words
+pub words_step : (clock : Option (Bor ZoneFile)) (words : List ReportWord) (i : ℕ) (d : ReportWord) (a b c : List ℕ) → i < length words
     → AddsWords clock (take i words) a b → AddsWord clock (get_or words i d) b c → AddsWords clock (take (i + 1) words) a c
 words_step clock words i d a b c h k l =
     rw (take_more words i d h) (words_more clock (take i words) (get_or words i d) a b c k l)

@@ -10,17 +10,17 @@ use Rattle.binding_rules.specs.declared.role.Role.TheVariants.{Primary, Secondar
 use Rattle.causal_order.specs.declared.reference.Ref.{Ref}
 use Rattle.attribution.specs.VerdictText.{place_text}
 use Rattle.report_render.specs.declared.axis.TheConstants.{LEFT, WIDTH}
-use Rattle.report_render.specs.declared.styles.Style.{Style}
-use Rattle.report_render.specs.declared.styles.Style.TheVariants as style
+use Rattle.report_render.specs.declared.styles.DrawingPart.{DrawingPart}
+use Rattle.report_render.specs.declared.styles.DrawingPart.TheVariants as style
 use Rattle.report_render.specs.declared.styles.TheConstants as text
-use Rattle.report_render.specs.declared.picture.Bar.{Bar}
-use Rattle.report_render.specs.declared.picture.Dot.{Dot}
-use Rattle.report_render.specs.declared.picture.Arrow.{Arrow}
+use Rattle.report_render.specs.declared.picture.LeaseBar.{LeaseBar}
+use Rattle.report_render.specs.declared.picture.LineDot.{LineDot}
+use Rattle.report_render.specs.declared.picture.MessageArrow.{MessageArrow}
 use Rattle.report_render.specs.declared.picture.Picture.{Picture}
 use Rattle.report_render.specs.Axis.{place}
 
 -- what of a drawing is always the same
-unfoldable pub style_text : Style → List ℕ
+unfoldable pub style_text : DrawingPart → List ℕ
 style_text style.Head = text.HEAD.now
 style_text style.BehindHeight = text.BEHIND_HEIGHT.now
 style_text style.Height = text.HEIGHT.now
@@ -44,7 +44,7 @@ label_svg x y r =
     codes "<text" ++ attribute (codes " x=\"") x ++ attribute (codes " y=\"") y ++ style_text style.Label
     ++ place_text r.side r.number ++ codes "</text>\n"
 
-unfoldable pub rect_svg : (from to y : ℕ) → Style → List ℕ
+unfoldable pub rect_svg : (from to y : ℕ) → DrawingPart → List ℕ
 rect_svg from to y s =
     codes "<rect" ++ attribute (codes " x=\"") from ++ attribute (codes " y=\"") y
     ++ attribute (codes " width=\"") (to - from + 1) ++ style_text s
@@ -55,18 +55,18 @@ sure_svg axis y None = []
 sure_svg axis y (Some sure) =
     if nat_lt sure.0 sure.1 then rect_svg (place axis sure.0) (place axis sure.1) y style.Sure else []
 
-unfoldable pub bar_svg : List ℕ → (y : ℕ) → Bar → List ℕ
+unfoldable pub bar_svg : List ℕ → (y : ℕ) → LeaseBar → List ℕ
 bar_svg axis y b =
     rect_svg (place axis b.earliest) (place axis b.latest) y style.Maybe ++ sure_svg axis y b.sure
     ++ label_svg 8 (y + 11) b.at
 
 -- one under the other
-abbrev pub bars_svg : List ℕ → (row : ℕ) → List Bar → List ℕ
+abbrev pub bars_svg : List ℕ → (row : ℕ) → List LeaseBar → List ℕ
 bars_svg axis row [] = []
 bars_svg axis row (b ∷ bars) = bar_svg axis (50 + 22 * row) b ++ bars_svg axis (row + 1) bars
 
 -- the lines of both sides, under the bars
-abbrev pub first_lane : List Bar → ℕ
+abbrev pub first_lane : List LeaseBar → ℕ
 first_lane bars = 90 + 22 * length bars
 
 abbrev pub lane_of : (first : ℕ) → Role → ℕ
@@ -83,16 +83,16 @@ circle_svg x y =
     style_text style.Circle ++ decimal x ++ style_text style.CircleDown ++ decimal y ++ style_text style.Dot
 
 -- a line at its reading, its name in one of four rows under it
-unfoldable pub dot_svg : List ℕ → (first index : ℕ) → Dot → List ℕ
+unfoldable pub dot_svg : List ℕ → (first index : ℕ) → LineDot → List ℕ
 dot_svg axis first index d =
     circle_svg (place axis d.reading) (lane_of first d.at.side)
     ++ label_svg (place axis d.reading) (lane_of first d.at.side + 18 + 12 * (index % 4)) d.at
 
-abbrev pub dots_svg : List ℕ → (first index : ℕ) → List Dot → List ℕ
+abbrev pub dots_svg : List ℕ → (first index : ℕ) → List LineDot → List ℕ
 dots_svg axis first index [] = []
 dots_svg axis first index (d ∷ dots) = dot_svg axis first index d ++ dots_svg axis first (index + 1) dots
 
-unfoldable pub arrow_svg : List ℕ → (first : ℕ) → Arrow → List ℕ
+unfoldable pub arrow_svg : List ℕ → (first : ℕ) → MessageArrow → List ℕ
 arrow_svg axis first a =
     codes "<line" ++ attribute (codes " x1=\"") (place axis a.sent.reading)
     ++ attribute (codes " y1=\"") (lane_of first a.sent.at.side)
@@ -127,7 +127,7 @@ abbrev pub moments_between : ℕ → Option (ℕ × ℕ) → ℕ → List ℕ
 moments_between earliest None latest = earliest ∷ latest ∷ []
 moments_between earliest (Some sure) latest = earliest ∷ sure.0 ∷ sure.1 ∷ latest ∷ []
 
-abbrev pub bar_moments : Bar → List ℕ
+abbrev pub bar_moments : LeaseBar → List ℕ
 bar_moments b = moments_between b.earliest b.sure b.latest
 
 abbrev pub moments_of : Picture → List ℕ

@@ -4,33 +4,33 @@ use Rattle.std.specs.List.{flat_map}
 use Rattle.std.specs.Fmt.{decimal}
 use Rattle.text_fields.specs.Octets.{hex}
 use Rattle.sha2.specs.Sha256.{sha256}
-use Rattle.report_words.specs.declared.block.Kind.{Kind}
-use Rattle.report_words.specs.declared.block.Kind.TheVariants.{Heading, Paragraph, Item, Cited}
-use Rattle.report_render.specs.declared.passage.Passage.{Passage}
-use Rattle.report_render.specs.declared.page.Origin.{Origin}
+use Rattle.report_document.specs.declared.block.BlockKind.{BlockKind}
+use Rattle.report_document.specs.declared.block.BlockKind.TheVariants.{Heading, Paragraph, Item, Cited}
+use Rattle.report_render.specs.declared.text_block.TextBlock.{TextBlock}
+use Rattle.report_render.specs.declared.page.Provenance.{Provenance}
 use Rattle.report_render.specs.declared.page.Page.{Page}
-use Rattle.report_render.specs.declared.template.Part.{Part}
-use Rattle.report_render.specs.declared.template.Part.TheVariants as part
+use Rattle.report_render.specs.declared.template.PagePart.{PagePart}
+use Rattle.report_render.specs.declared.template.PagePart.TheVariants as part
 use Rattle.report_render.specs.declared.template.TheConstants as template
 use Rattle.report_render.specs.Escaping.{escaped}
 
-abbrev pub opening_of : Kind → List ℕ
+abbrev pub opening_of : BlockKind → List ℕ
 opening_of Heading = codes "<h2>"
 opening_of Paragraph = codes "<p>"
 opening_of Item = codes "<p class=\"item\">"
 opening_of Cited = codes "<pre>"
 
-abbrev pub closing_of : Kind → List ℕ
+abbrev pub closing_of : BlockKind → List ℕ
 closing_of Heading = codes "</h2>\n"
 closing_of Paragraph = codes "</p>\n"
 closing_of Item = codes "</p>\n"
 closing_of Cited = codes "</pre>\n"
 
-abbrev pub passage_html : Passage → List ℕ
+abbrev pub passage_html : TextBlock → List ℕ
 passage_html p = opening_of p.kind ++ (escaped p.text.items ++ closing_of p.kind)
 
 -- what of a page is always the same
-unfoldable pub part_text : Part → List ℕ
+unfoldable pub part_text : PagePart → List ℕ
 part_text part.Head = template.HEAD.now
 part_text part.BeforePicture = template.BEFORE_PICTURE.now
 part_text part.BehindPicture = template.BEHIND_PICTURE.now
@@ -50,7 +50,7 @@ options_html skew transit =
     part_text part.SkewOption ++ decimal skew ++ part_text part.TransitOption ++ decimal transit
 
 -- the sums of what it was made of
-abbrev pub sums_html : Origin → List ℕ
+abbrev pub sums_html : Provenance → List ℕ
 sums_html o =
     (part_text part.BeforePrimary ++ hex (sha256 o.primary.now))
     ++ (part_text part.BeforeSecondary ++ hex (sha256 o.secondary.now))
@@ -61,7 +61,7 @@ checks_html skew transit =
     part_text part.BeforeSkew ++ options_html skew transit ++ part_text part.BeforeSecond ++ options_html skew transit
 
 -- by which program and of what it was made, and how to check it
-unfoldable pub origin_html : Origin → List ℕ
+unfoldable pub origin_html : Provenance → List ℕ
 origin_html o =
     part_text part.BeforeProgram ++ escaped o.program.now ++ sums_html o ++ checks_html o.skew o.transit
 

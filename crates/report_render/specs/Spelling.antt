@@ -10,13 +10,13 @@ use Rattle.zone_times.specs.declared.zone.ZoneFile.{ZoneFile}
 use Rattle.zone_times.specs.Local.{IsLocalText}
 use Rattle.journal_text.specs.Spelling.{entry_text}
 use Rattle.attribution.specs.VerdictText.{side_text, place_text}
-use Rattle.pair_ruling.specs.Ruling.{ruling_line}
-use Rattle.report_words.specs.declared.word.Word.{Word}
-use Rattle.report_words.specs.declared.word.Word.TheVariants as word
-use Rattle.report_words.specs.declared.block.Block.{Block}
-use Rattle.report_words.specs.declared.block.Document.{Document}
-use Rattle.report_render.specs.declared.passage.Passage.{Passage}
-use Rattle.report_render.specs.declared.passage.Spelling.{Spelling}
+use Rattle.pair_judgement.specs.Judgements.{judgement_line}
+use Rattle.report_document.specs.declared.word.ReportWord.{ReportWord}
+use Rattle.report_document.specs.declared.word.ReportWord.TheVariants as word
+use Rattle.report_document.specs.declared.block.Block.{Block}
+use Rattle.report_document.specs.declared.block.Document.{Document}
+use Rattle.report_render.specs.declared.text_block.TextBlock.{TextBlock}
+use Rattle.report_render.specs.declared.text_block.RenderedText.{RenderedText}
 
 -- in UTC as RFC 3339 writes it, and its milliseconds since 1970 in brackets
 pub record IsTimed (m : ℕ) (text : List ℕ) : Type 0 where
@@ -36,7 +36,7 @@ IsZoned None m text = text ≡ []
 IsZoned (Some clock) m text = IsLocalPart clock.now m text
 
 -- both
-pub record IsWhole (clock : Option (Bor ZoneFile)) (m : ℕ) (text : List ℕ) : Type 0 where
+pub record IsTimedAndZoned (clock : Option (Bor ZoneFile)) (m : ℕ) (text : List ℕ) : Type 0 where
   pub front : List ℕ
   pub front_is : IsTimed m front
   pub rest : List ℕ
@@ -45,10 +45,10 @@ pub record IsWhole (clock : Option (Bor ZoneFile)) (m : ℕ) (text : List ℕ) :
 
 -- that, or from 2^48 on the milliseconds alone
 abbrev pub IsMomentText : Option (Bor ZoneFile) → ℕ → List ℕ → Type 0
-IsMomentText clock m text = ((m ≤ 2 ^ 48) × IsWhole clock m text) ⊎ ((2 ^ 48 < m) × (text ≡ decimal m))
+IsMomentText clock m text = ((m ≤ 2 ^ 48) × IsTimedAndZoned clock m text) ⊎ ((2 ^ 48 < m) × (text ≡ decimal m))
 
 -- the zone is that of a reader who wants local times
-abbrev pub IsWordText : Option (Bor ZoneFile) → Word → List ℕ → Type 0
+abbrev pub IsWordText : Option (Bor ZoneFile) → ReportWord → List ℕ → Type 0
 IsWordText _ (word.Prose prose) text = text ≡ prose.now
 IsWordText _ (word.Side side) text = text ≡ side_text side
 IsWordText _ (word.Line r) text = text ≡ place_text r.side r.number
@@ -64,20 +64,20 @@ IsWordText _ (word.Prefix prefix) text = text ≡ prefix_text prefix
 IsWordText _ (word.Entry line) text = text ≡ entry_text line
 
 -- one behind the other
-abbrev pub AreWordTexts : Option (Bor ZoneFile) → List Word → List ℕ → Type 0
+abbrev pub AreWordTexts : Option (Bor ZoneFile) → List ReportWord → List ℕ → Type 0
 AreWordTexts clock [] text = text ≡ []
 AreWordTexts clock (w ∷ words) text =
     (front : List ℕ) × (rest : List ℕ) × (text ≡ front ++ rest) × IsWordText clock w front
     × AreWordTexts clock words rest
 
 -- what a word appends
-pub record AddsWord (clock : Option (Bor ZoneFile)) (w : Word) (old new : List ℕ) : Type 0 where
+pub record AddsWord (clock : Option (Bor ZoneFile)) (w : ReportWord) (old new : List ℕ) : Type 0 where
   pub text : List ℕ
   pub text_is : IsWordText clock w text
   pub added : new ≡ old ++ text
 
 -- what words append
-pub record AddsWords (clock : Option (Bor ZoneFile)) (words : List Word) (old new : List ℕ) : Type 0 where
+pub record AddsWords (clock : Option (Bor ZoneFile)) (words : List ReportWord) (old new : List ℕ) : Type 0 where
   pub text : List ℕ
   pub texts : AreWordTexts clock words text
   pub added : new ≡ old ++ text
@@ -104,17 +104,17 @@ pub record AddsMoment (clock : Option (Bor ZoneFile)) (m : ℕ) (old new : List 
   pub added : new ≡ old ++ text
 
 -- the block's words, one behind the other
-pub record IsPassage (clock : Option (Bor ZoneFile)) (b : Block) (p : Passage) : Type 0 where
+pub record IsPassage (clock : Option (Bor ZoneFile)) (b : Block) (p : TextBlock) : Type 0 where
   pub kind : p.kind ≡ b.kind
   pub text : AreWordTexts clock b.words.items p.text.items
 
 -- a passage for each block, in their order
-abbrev pub ArePassages : Option (Bor ZoneFile) → List Block → List Passage → Type 0
+abbrev pub ArePassages : Option (Bor ZoneFile) → List Block → List TextBlock → Type 0
 ArePassages clock [] passages = passages ≡ []
 ArePassages clock (b ∷ blocks) passages =
-    (p : Passage) × (rest : List Passage) × (passages ≡ p ∷ rest) × IsPassage clock b p × ArePassages clock blocks rest
+    (p : TextBlock) × (rest : List TextBlock) × (passages ≡ p ∷ rest) × IsPassage clock b p × ArePassages clock blocks rest
 
 -- the ruling's line, and the passages
-pub record IsSpelling (clock : Option (Bor ZoneFile)) (d : Document) (s : Spelling) : Type 0 where
-  pub line : s.line.items ≡ ruling_line d.ruling
+pub record IsSpelling (clock : Option (Bor ZoneFile)) (d : Document) (s : RenderedText) : Type 0 where
+  pub line : s.line.items ≡ judgement_line d.ruling
   pub passages : ArePassages clock d.blocks.items s.passages.items

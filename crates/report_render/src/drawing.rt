@@ -11,8 +11,8 @@ ghost use Rattle.report_render.specs.Drawing.{lines_svg, circle_svg, bar_moments
 ghost use Rattle.report_render.specs.Axis.{place};
 
 use crate::axis::{LEFT, WIDTH, place};
-use crate::picture::{Arrow, Bar, Dot, Picture};
-use crate::styles::{Style, push_style};
+use crate::picture::{LeaseBar, LineDot, MessageArrow, Picture};
+use crate::styles::{DrawingPart, push_style};
 use attribution::push_place;
 use binding_rules::Role;
 use causal_order::Ref;
@@ -36,14 +36,20 @@ fn push_label(out: &mut Vec<u8>, x: u64, y: u64, at: Ref) -> Result<(), AllocErr
     out.extend_from_slice(b"<text")?;
     push_attribute(out, b" x=\"", x)?;
     push_attribute(out, b" y=\"", y)?;
-    push_style(out, Style::Label)?;
+    push_style(out, DrawingPart::Label)?;
     push_place(out, at.side, at.number)?;
     out.extend_from_slice(b"</text>\n")
 }
 
 /// Appends a bar between two places.
 #[tactic(auto, unfolding(crate::specs::Drawing::rect_svg))]
-fn push_rect(out: &mut Vec<u8>, from: u64, to: u64, y: u64, style: Style) -> Result<(), AllocError>
+fn push_rect(
+    out: &mut Vec<u8>,
+    from: u64,
+    to: u64,
+    y: u64,
+    style: DrawingPart,
+) -> Result<(), AllocError>
     requires { to < 2 ^ 63 }
     ensures { OnOk result (out.new.items ≡ out.old.items ++ rect_svg from to y style) }
 {
@@ -67,7 +73,13 @@ fn push_sure(
     match sure {
         Some((from, to)) => {
             if from < to {
-                push_rect(out, place(axis, from), place(axis, to), y, Style::Sure)
+                push_rect(
+                    out,
+                    place(axis, from),
+                    place(axis, to),
+                    y,
+                    DrawingPart::Sure,
+                )
             } else {
                 Ok(())
             }
@@ -77,7 +89,7 @@ fn push_sure(
 }
 
 #[tactic(auto, unfolding(crate::specs::Drawing::bar_svg))]
-fn push_bar(out: &mut Vec<u8>, axis: &[u64], y: u64, bar: &Bar) -> Result<(), AllocError>
+fn push_bar(out: &mut Vec<u8>, axis: &[u64], y: u64, bar: &LeaseBar) -> Result<(), AllocError>
     requires sorted { IsNonDecreasing axis.now }
     requires low { y < 2 ^ 63 }
     ensures { OnOk result (out.new.items ≡ out.old.items ++ bar_svg axis.now y bar.now) }
@@ -87,13 +99,13 @@ fn push_bar(out: &mut Vec<u8>, axis: &[u64], y: u64, bar: &Bar) -> Result<(), Al
         place(axis, bar.earliest),
         place(axis, bar.latest),
         y,
-        Style::Maybe,
+        DrawingPart::Maybe,
     )?;
     push_sure(out, axis, y, bar.sure)?;
     push_label(out, 8, y + 11, bar.at)
 }
 
-fn push_bars(out: &mut Vec<u8>, axis: &[u64], bars: &[Bar]) -> Result<(), AllocError>
+fn push_bars(out: &mut Vec<u8>, axis: &[u64], bars: &[LeaseBar]) -> Result<(), AllocError>
     requires { IsNonDecreasing axis.now }
     ensures { OnOk result (out.new.items ≡ out.old.items ++ bars_svg axis.now 0 bars.now) }
 {
@@ -104,7 +116,7 @@ fn push_bars(out: &mut Vec<u8>, axis: &[u64], bars: &[Bar]) -> Result<(), AllocE
 }
 
 /// How far down the primary's lines stand, under so many bars.
-fn first_lane(bars: &[Bar]) -> u64
+fn first_lane(bars: &[LeaseBar]) -> u64
     ensures value { result ≡ first_lane bars.now }
     ensures within { result < 2 ^ 62 }
 {
@@ -133,18 +145,18 @@ fn push_lane(out: &mut Vec<u8>, y: u64) -> Result<(), AllocError>
     push_attribute(out, b" y1=\"", y)?;
     push_attribute(out, b" x2=\"", LEFT + WIDTH)?;
     push_attribute(out, b" y2=\"", y)?;
-    push_style(out, Style::Lane)
+    push_style(out, DrawingPart::Lane)
 }
 
 #[tactic(auto, unfolding(crate::specs::Drawing::circle_svg))]
 fn push_circle(out: &mut Vec<u8>, x: u64, y: u64) -> Result<(), AllocError>
     ensures { OnOk result (out.new.items ≡ out.old.items ++ circle_svg x y) }
 {
-    push_style(out, Style::Circle)?;
+    push_style(out, DrawingPart::Circle)?;
     push_number(out, x)?;
-    push_style(out, Style::CircleDown)?;
+    push_style(out, DrawingPart::CircleDown)?;
     push_number(out, y)?;
-    push_style(out, Style::Dot)
+    push_style(out, DrawingPart::Dot)
 }
 
 /// Appends a line at its reading, with its name below. Names take turns in four rows, so that those of lines with one
@@ -155,7 +167,7 @@ fn push_dot(
     axis: &[u64],
     first: u64,
     index: usize,
-    dot: &Dot,
+    dot: &LineDot,
 ) -> Result<(), AllocError>
     requires sorted { IsNonDecreasing axis.now }
     requires low { first < 2 ^ 62 }
@@ -169,7 +181,12 @@ fn push_dot(
 
 /// Appends a message.
 #[tactic(auto, unfolding(crate::specs::Drawing::arrow_svg))]
-fn push_arrow(out: &mut Vec<u8>, axis: &[u64], first: u64, arrow: &Arrow) -> Result<(), AllocError>
+fn push_arrow(
+    out: &mut Vec<u8>,
+    axis: &[u64],
+    first: u64,
+    arrow: &MessageArrow,
+) -> Result<(), AllocError>
     requires sorted { IsNonDecreasing axis.now }
     requires low { first < 2 ^ 62 }
     ensures { OnOk result (out.new.items ≡ out.old.items ++ arrow_svg axis.now first arrow.now) }
@@ -179,7 +196,7 @@ fn push_arrow(out: &mut Vec<u8>, axis: &[u64], first: u64, arrow: &Arrow) -> Res
     push_attribute(out, b" y1=\"", lane_of(first, arrow.sent.at.side))?;
     push_attribute(out, b" x2=\"", place(axis, arrow.taken.reading))?;
     push_attribute(out, b" y2=\"", lane_of(first, arrow.taken.at.side))?;
-    push_style(out, Style::Arrow)
+    push_style(out, DrawingPart::Arrow)
 }
 
 /// Appends the interval asked about, behind all bars.
@@ -193,14 +210,19 @@ fn push_asked(out: &mut Vec<u8>, axis: &[u64], picture: &Picture) -> Result<(), 
         place(axis, picture.from),
         place(axis, picture.to),
         10,
-        Style::Height,
+        DrawingPart::Height,
     )?;
     push_number(out, first_lane(&picture.bars))?;
-    push_style(out, Style::Asked)?;
-    push_style(out, Style::Beside)
+    push_style(out, DrawingPart::Asked)?;
+    push_style(out, DrawingPart::Beside)
 }
 
-fn push_dots(out: &mut Vec<u8>, axis: &[u64], first: u64, dots: &[Dot]) -> Result<(), AllocError>
+fn push_dots(
+    out: &mut Vec<u8>,
+    axis: &[u64],
+    first: u64,
+    dots: &[LineDot],
+) -> Result<(), AllocError>
     requires sorted { IsNonDecreasing axis.now }
     requires low { first < 2 ^ 62 }
     ensures { OnOk result (out.new.items ≡ out.old.items ++ dots_svg axis.now first 0 dots.now) }
@@ -215,7 +237,7 @@ fn push_arrows(
     out: &mut Vec<u8>,
     axis: &[u64],
     first: u64,
-    arrows: &[Arrow],
+    arrows: &[MessageArrow],
 ) -> Result<(), AllocError>
     requires sorted { IsNonDecreasing axis.now }
     requires low { first < 2 ^ 62 }
@@ -233,9 +255,9 @@ fn push_back(out: &mut Vec<u8>, axis: &[u64], picture: &Picture) -> Result<(), A
     requires { IsNonDecreasing axis.now }
     ensures { OnOk result (out.new.items ≡ out.old.items ++ back_svg axis.now picture.now) }
 {
-    push_style(out, Style::Head)?;
+    push_style(out, DrawingPart::Head)?;
     push_number(out, first_lane(&picture.bars) + 160)?;
-    push_style(out, Style::BehindHeight)?;
+    push_style(out, DrawingPart::BehindHeight)?;
     push_asked(out, axis, picture)
 }
 
@@ -265,11 +287,11 @@ fn push_picture(out: &mut Vec<u8>, axis: &[u64], picture: &Picture) -> Result<()
     push_back(out, axis, picture)?;
     push_bars(out, axis, &picture.bars)?;
     push_lines(out, axis, first_lane(&picture.bars), picture)?;
-    push_style(out, Style::Tail)
+    push_style(out, DrawingPart::Tail)
 }
 
 /// Appends the moments of a bar.
-fn push_moments(moments: &mut Vec<u64>, bar: &Bar) -> Result<(), AllocError>
+fn push_moments(moments: &mut Vec<u64>, bar: &LeaseBar) -> Result<(), AllocError>
     ensures { OnOk result (moments.new.items ≡ moments.old.items ++ bar_moments bar.now) }
 {
     match bar.sure {

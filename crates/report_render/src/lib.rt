@@ -2,7 +2,7 @@
 //!
 //! A report on a ruling, as a text.
 //!
-//! [`spelled`] spells a document: its first line is the ruling's, and each block becomes a [`Passage`] of octets, each
+//! [`spelled`] spells a document: its first line is the ruling's, and each block becomes a [`TextBlock`] of octets, each
 //! value of it spelled by its type. Moments are told in a zone's local time too, where one is given. [`text_of`] is the
 //! text of that, a line for each passage; a page is made of the same passages. specs/Spelling says how values are
 //! spelled, specs/Text the text.
@@ -41,21 +41,21 @@ mod escaping;
 mod laws;
 mod messages;
 mod page;
-mod passage;
 mod picture;
 mod picture_laws;
 mod styles;
 mod taking;
 mod template;
 mod text;
+mod text_block;
 mod words;
 
 pub use drawing::svg_of;
 pub use escaping::push_escaped;
 pub use laws::escaped_is_harmless;
-pub use page::{Origin, Page, page_of};
-pub use passage::{Passage, Spelling, passages_of, spelled};
-pub use picture::{Arrow, Bar, Dot, Picture};
+pub use page::{Page, Provenance, page_of};
+pub use picture::{LeaseBar, LineDot, MessageArrow, Picture};
 pub use picture_laws::places_keep_order;
 pub use taking::picture_of;
 pub use text::text_of;
+pub use text_block::{RenderedText, TextBlock, passages_of, spelled};

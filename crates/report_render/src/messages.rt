@@ -3,11 +3,11 @@
 ghost use Rattle.std.specs.Prelude.{◌≡◌, IfOk, IfSome, OnOk, Contains as Has};
 ghost use Rattle.report_render.specs.Picture.{AreMessages};
 
-use crate::picture::{Arrow, Dot};
+use crate::picture::{LineDot, MessageArrow};
 use binding_rules::Role;
 use causal_order::{Chain, Ref};
 use evidence_report::{
-    Cleared, ForeignReport, OrderReport, Outside, PieceReport, ReleaseReport, Report,
+    ClearReport, ForeignEvidence, ForeignReport, OrderReport, PieceReport, ReleaseReport, Report,
 };
 use std::alloc::{AllocError, Global};
 
@@ -21,7 +21,7 @@ fn rank_of(at: Ref) -> u64 {
 }
 
 /// The dot of a line, if there is one. The dots stand in the order of their lines.
-fn dot_at(dots: &[Dot], at: Ref) -> Option<Dot>
+fn dot_at(dots: &[LineDot], at: Ref) -> Option<LineDot>
     ensures { IfSome result (λ dot. Has dots.now dot × (dot.at ≡ at)) }
 {
     let index = dots.partition_point(|dot| rank_of(dot.at) < rank_of(at));
@@ -32,8 +32,8 @@ fn dot_at(dots: &[Dot], at: Ref) -> Option<Dot>
 /// Appends the message between two lines that follow each other in a chain, if it goes by one.
 #[tactic(auto, using(crate::proofs::MoreArrows::arrow_more))]
 fn push_message(
-    arrows: &mut Vec<Arrow>,
-    dots: &[Dot],
+    arrows: &mut Vec<MessageArrow>,
+    dots: &[LineDot],
     before: Ref,
     at: Ref,
 ) -> Result<(), AllocError>
@@ -44,12 +44,16 @@ fn push_message(
         return Ok(());
     }
     match (dot_at(dots, before), dot_at(dots, at)) {
-        (Some(sent), Some(taken)) => arrows.extend_from_slice(&[Arrow { sent, taken }]),
+        (Some(sent), Some(taken)) => arrows.extend_from_slice(&[MessageArrow { sent, taken }]),
         _ => Ok(()),
     }
 }
 
-fn push_chain(arrows: &mut Vec<Arrow>, dots: &[Dot], chain: &Chain) -> Result<(), AllocError>
+fn push_chain(
+    arrows: &mut Vec<MessageArrow>,
+    dots: &[LineDot],
+    chain: &Chain,
+) -> Result<(), AllocError>
     requires { AreMessages dots.now arrows.old.items }
     ensures { OnOk result (AreMessages dots.now arrows.new.items) }
 {
@@ -61,8 +65,8 @@ fn push_chain(arrows: &mut Vec<Arrow>, dots: &[Dot], chain: &Chain) -> Result<()
 }
 
 fn push_order(
-    arrows: &mut Vec<Arrow>,
-    dots: &[Dot],
+    arrows: &mut Vec<MessageArrow>,
+    dots: &[LineDot],
     order: &OrderReport<'_>,
 ) -> Result<(), AllocError>
     requires { AreMessages dots.now arrows.old.items }
@@ -78,22 +82,22 @@ fn push_order(
 }
 
 fn push_cleared(
-    arrows: &mut Vec<Arrow>,
-    dots: &[Dot],
-    cleared: &Cleared<'_>,
+    arrows: &mut Vec<MessageArrow>,
+    dots: &[LineDot],
+    cleared: &ClearReport<'_>,
 ) -> Result<(), AllocError>
     requires { AreMessages dots.now arrows.old.items }
     ensures { OnOk result (AreMessages dots.now arrows.new.items) }
 {
     match cleared {
-        Cleared::Before(order) => push_order(arrows, dots, order),
-        Cleared::After(chain, _) => push_chain(arrows, dots, chain),
+        ClearReport::Before(order) => push_order(arrows, dots, order),
+        ClearReport::After(chain, _) => push_chain(arrows, dots, chain),
     }
 }
 
 fn push_release(
-    arrows: &mut Vec<Arrow>,
-    dots: &[Dot],
+    arrows: &mut Vec<MessageArrow>,
+    dots: &[LineDot],
     release: &ReleaseReport<'_>,
 ) -> Result<(), AllocError>
     requires { AreMessages dots.now arrows.old.items }
@@ -106,8 +110,8 @@ fn push_release(
 }
 
 fn push_piece(
-    arrows: &mut Vec<Arrow>,
-    dots: &[Dot],
+    arrows: &mut Vec<MessageArrow>,
+    dots: &[LineDot],
     piece: &PieceReport<'_>,
 ) -> Result<(), AllocError>
     requires { AreMessages dots.now arrows.old.items }
@@ -122,16 +126,18 @@ fn push_piece(
 }
 
 fn push_foreign(
-    arrows: &mut Vec<Arrow>,
-    dots: &[Dot],
+    arrows: &mut Vec<MessageArrow>,
+    dots: &[LineDot],
     foreign: &ForeignReport<'_>,
 ) -> Result<(), AllocError>
     requires { AreMessages dots.now arrows.old.items }
     ensures { OnOk result (AreMessages dots.now arrows.new.items) }
 {
     match &foreign.outside {
-        Outside::Early(chain, _) | Outside::Late(chain, _) => push_chain(arrows, dots, chain),
-        Outside::Released { order, chain, .. } => {
+        ForeignEvidence::Early(chain, _) | ForeignEvidence::Late(chain, _) => push_chain(
+            arrows, dots, chain,
+        ),
+        ForeignEvidence::Released { order, chain, .. } => {
             push_order(arrows, dots, order)?;
             push_chain(arrows, dots, chain)
         }
@@ -142,9 +148,9 @@ fn push_foreign(
 #[tactic(auto, using(crate::proofs::MoreArrows::no_arrows))]
 pub(crate) fn messages_of(
     alloc: Global,
-    dots: &[Dot],
+    dots: &[LineDot],
     report: &Report<'_>,
-) -> Result<Vec<Arrow>, AllocError>
+) -> Result<Vec<MessageArrow>, AllocError>
     ensures { IfOk result (λ arrows. AreMessages dots.now arrows.items) }
 {
     let mut arrows = Vec::new(alloc);

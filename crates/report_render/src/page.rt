@@ -9,17 +9,17 @@ ghost use Rattle.report_render.specs.Page.{opening_of, closing_of, passage_html,
 ghost use Rattle.report_render.specs.Page.{checks_html, origin_html, opening_html, page_html};
 
 use crate::escaping::push_escaped;
-use crate::passage::{Passage, Spelling};
-use crate::template::{Part, push_part};
+use crate::template::{PagePart, push_part};
+use crate::text_block::{RenderedText, TextBlock};
 use lead_time::{Skew, Transit};
-use report_words::Kind;
+use report_document::BlockKind;
 use sha2::{Digest, Sha256};
 use std::alloc::{AllocError, Global};
 use text_fields::{push_number, push_octets};
 
 /// What a page was made by, of what, and how to check it.
 #[derive(Clone, Copy, Debug)]
-pub struct Origin<'a> {
+pub struct Provenance<'a> {
     /// The program's name and its version.
     pub program: &'a str,
     /// The text of journal A.
@@ -38,36 +38,36 @@ pub struct Origin<'a> {
 #[derive(Clone, Copy, Debug)]
 pub struct Page<'a> {
     /// The report's passages.
-    pub spelling: &'a Spelling,
+    pub spelling: &'a RenderedText,
     /// An SVG element, which goes in as it is.
     pub picture: &'a [u8],
-    pub origin: Origin<'a>,
+    pub origin: Provenance<'a>,
 }
 
 /// What a passage of this kind begins with.
-fn opening_of(kind: Kind) -> &'static [u8]
+fn opening_of(kind: BlockKind) -> &'static [u8]
     ensures { result.now ≡ opening_of kind }
 {
     match kind {
-        Kind::Heading => b"<h2>",
-        Kind::Paragraph => b"<p>",
-        Kind::Item => b"<p class=\"item\">",
-        Kind::Cited => b"<pre>",
+        BlockKind::Heading => b"<h2>",
+        BlockKind::Paragraph => b"<p>",
+        BlockKind::Item => b"<p class=\"item\">",
+        BlockKind::Cited => b"<pre>",
     }
 }
 
 /// What it ends with.
-fn closing_of(kind: Kind) -> &'static [u8]
+fn closing_of(kind: BlockKind) -> &'static [u8]
     ensures { result.now ≡ closing_of kind }
 {
     match kind {
-        Kind::Heading => b"</h2>\n",
-        Kind::Paragraph | Kind::Item => b"</p>\n",
-        Kind::Cited => b"</pre>\n",
+        BlockKind::Heading => b"</h2>\n",
+        BlockKind::Paragraph | BlockKind::Item => b"</p>\n",
+        BlockKind::Cited => b"</pre>\n",
     }
 }
 
-fn push_passage(out: &mut Vec<u8>, passage: &Passage) -> Result<(), AllocError>
+fn push_passage(out: &mut Vec<u8>, passage: &TextBlock) -> Result<(), AllocError>
     ensures { OnOk result (out.new.items ≡ out.old.items ++ passage_html passage.now) }
 {
     out.extend_from_slice(opening_of(passage.kind))?;
@@ -76,7 +76,7 @@ fn push_passage(out: &mut Vec<u8>, passage: &Passage) -> Result<(), AllocError>
 }
 
 /// Appends a part, and the SHA-256 sum of a text (FIPS 180-4), in hexadecimal.
-fn push_sum(out: &mut Vec<u8>, before: Part, text: &[u8]) -> Result<(), AllocError>
+fn push_sum(out: &mut Vec<u8>, before: PagePart, text: &[u8]) -> Result<(), AllocError>
     ensures { OnOk result (out.new.items ≡ out.old.items ++ (part_text before ++ hex (sha256 text.now))) }
 {
     push_part(out, before)?;
@@ -87,19 +87,19 @@ fn push_sum(out: &mut Vec<u8>, before: Part, text: &[u8]) -> Result<(), AllocErr
 fn push_options(out: &mut Vec<u8>, skew: Skew, transit: Transit) -> Result<(), AllocError>
     ensures { OnOk result (out.new.items ≡ out.old.items ++ options_html skew transit) }
 {
-    push_part(out, Part::SkewOption)?;
+    push_part(out, PagePart::SkewOption)?;
     push_number(out, skew.milliseconds())?;
-    push_part(out, Part::TransitOption)?;
+    push_part(out, PagePart::TransitOption)?;
     push_number(out, transit.milliseconds())
 }
 
 /// Appends what the page was made of.
-fn push_sums(out: &mut Vec<u8>, origin: &Origin<'_>) -> Result<(), AllocError>
+fn push_sums(out: &mut Vec<u8>, origin: &Provenance<'_>) -> Result<(), AllocError>
     ensures { OnOk result (out.new.items ≡ out.old.items ++ sums_html origin.now) }
 {
-    push_sum(out, Part::BeforePrimary, origin.primary)?;
-    push_sum(out, Part::BeforeSecondary, origin.secondary)?;
-    push_sum(out, Part::BeforeCertificate, origin.certificate)
+    push_sum(out, PagePart::BeforePrimary, origin.primary)?;
+    push_sum(out, PagePart::BeforeSecondary, origin.secondary)?;
+    push_sum(out, PagePart::BeforeCertificate, origin.certificate)
 }
 
 /// Appends how it is checked.
@@ -107,25 +107,25 @@ fn push_sums(out: &mut Vec<u8>, origin: &Origin<'_>) -> Result<(), AllocError>
 fn push_checks(out: &mut Vec<u8>, skew: Skew, transit: Transit) -> Result<(), AllocError>
     ensures { OnOk result (out.new.items ≡ out.old.items ++ checks_html skew transit) }
 {
-    push_part(out, Part::BeforeSkew)?;
+    push_part(out, PagePart::BeforeSkew)?;
     push_options(out, skew, transit)?;
-    push_part(out, Part::BeforeSecond)?;
+    push_part(out, PagePart::BeforeSecond)?;
     push_options(out, skew, transit)
 }
 
 /// Appends where the page comes from.
 #[tactic(auto, unfolding(crate::specs::Page::origin_html))]
-fn push_origin(out: &mut Vec<u8>, origin: &Origin<'_>) -> Result<(), AllocError>
+fn push_origin(out: &mut Vec<u8>, origin: &Provenance<'_>) -> Result<(), AllocError>
     ensures { OnOk result (out.new.items ≡ out.old.items ++ origin_html origin.now) }
 {
-    push_part(out, Part::BeforeProgram)?;
+    push_part(out, PagePart::BeforeProgram)?;
     push_escaped(out, origin.program.as_bytes())?;
     push_sums(out, origin)?;
     push_checks(out, origin.skew, origin.transit)
 }
 
 /// Appends the passages, one behind the other.
-fn push_passages(out: &mut Vec<u8>, passages: &[Passage]) -> Result<(), AllocError>
+fn push_passages(out: &mut Vec<u8>, passages: &[TextBlock]) -> Result<(), AllocError>
     ensures { OnOk result (out.new.items ≡ out.old.items ++ flat_map passage_html passages.now) }
 {
     for passage in passages {
@@ -139,11 +139,11 @@ fn push_passages(out: &mut Vec<u8>, passages: &[Passage]) -> Result<(), AllocErr
 fn push_opening(out: &mut Vec<u8>, page: &Page<'_>) -> Result<(), AllocError>
     ensures { OnOk result (out.new.items ≡ out.old.items ++ opening_html page.now) }
 {
-    push_part(out, Part::Head)?;
+    push_part(out, PagePart::Head)?;
     push_escaped(out, &page.spelling.line)?;
-    push_part(out, Part::BeforePicture)?;
+    push_part(out, PagePart::BeforePicture)?;
     out.extend_from_slice(page.picture)?;
-    push_part(out, Part::BehindPicture)
+    push_part(out, PagePart::BehindPicture)
 }
 
 /// The page. `AllocError` where a growth was refused.
@@ -154,6 +154,6 @@ pub fn page_of(alloc: Global, page: &Page<'_>) -> Result<Vec<u8>, AllocError>
     push_opening(&mut out, page)?;
     push_passages(&mut out, &page.spelling.passages)?;
     push_origin(&mut out, &page.origin)?;
-    push_part(&mut out, Part::Tail)?;
+    push_part(&mut out, PagePart::Tail)?;
     Ok(out)
 }

@@ -4,7 +4,7 @@ use causal_order::Ref;
 
 /// A lease, of which it isn't sure when it began and when it ended.
 #[derive(Clone, Copy, Debug, PartialEq, Eq)]
-pub struct Bar {
+pub struct LeaseBar {
     /// The line that tells of it.
     pub at: Ref,
     /// It began no earlier.
@@ -17,16 +17,16 @@ pub struct Bar {
 
 /// A line, at what its server's clock showed.
 #[derive(Clone, Copy, Debug, PartialEq, Eq)]
-pub struct Dot {
+pub struct LineDot {
     pub at: Ref,
     pub reading: u64,
 }
 
 /// A message, from the line that sent it to the one that took it.
 #[derive(Clone, Copy, Debug, PartialEq, Eq)]
-pub struct Arrow {
-    pub sent: Dot,
-    pub taken: Dot,
+pub struct MessageArrow {
+    pub sent: LineDot,
+    pub taken: LineDot,
 }
 
 /// A time line.
@@ -36,7 +36,7 @@ pub struct Picture {
     pub from: u64,
     pub to: u64,
     /// The pieces' leases, and behind them other clients' delegations.
-    pub bars: Vec<Bar>,
-    pub dots: Vec<Dot>,
-    pub arrows: Vec<Arrow>,
+    pub bars: Vec<LeaseBar>,
+    pub dots: Vec<LineDot>,
+    pub arrows: Vec<MessageArrow>,
 }

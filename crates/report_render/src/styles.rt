@@ -7,7 +7,7 @@ use std::alloc::AllocError;
 
 /// A part of a drawing that is always the same.
 #[derive(Clone, Copy, Debug, PartialEq, Eq)]
-pub enum Style {
+pub enum DrawingPart {
     /// Up to the height.
     Head,
     /// Behind it.
@@ -40,29 +40,29 @@ pub enum Style {
 
 /// The text of a part.
 #[tactic(auto, unfolding(crate::specs::Drawing::style_text))]
-fn style_text(style: Style) -> &'static str
+fn style_text(style: DrawingPart) -> &'static str
     ensures { result.now ≡ style_text style }
 {
     match style {
-        Style::Head => HEAD,
-        Style::BehindHeight => BEHIND_HEIGHT,
-        Style::Height => HEIGHT,
-        Style::Asked => ASKED,
-        Style::Maybe => MAYBE,
-        Style::Sure => SURE,
-        Style::Label => LABEL,
-        Style::Lane => LANE,
-        Style::Beside => BESIDE,
-        Style::Circle => CIRCLE,
-        Style::CircleDown => CIRCLE_DOWN,
-        Style::Dot => DOT,
-        Style::Arrow => ARROW,
-        Style::Tail => TAIL,
+        DrawingPart::Head => HEAD,
+        DrawingPart::BehindHeight => BEHIND_HEIGHT,
+        DrawingPart::Height => HEIGHT,
+        DrawingPart::Asked => ASKED,
+        DrawingPart::Maybe => MAYBE,
+        DrawingPart::Sure => SURE,
+        DrawingPart::Label => LABEL,
+        DrawingPart::Lane => LANE,
+        DrawingPart::Beside => BESIDE,
+        DrawingPart::Circle => CIRCLE,
+        DrawingPart::CircleDown => CIRCLE_DOWN,
+        DrawingPart::Dot => DOT,
+        DrawingPart::Arrow => ARROW,
+        DrawingPart::Tail => TAIL,
     }
 }
 
 /// Appends a part.
-pub(crate) fn push_style(out: &mut Vec<u8>, style: Style) -> Result<(), AllocError>
+pub(crate) fn push_style(out: &mut Vec<u8>, style: DrawingPart) -> Result<(), AllocError>
     ensures { OnOk result (out.new.items ≡ out.old.items ++ style_text style) }
 {
     out.extend_from_slice(style_text(style).as_bytes())

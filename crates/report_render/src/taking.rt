@@ -6,10 +6,12 @@ ghost use Rattle.report_render.specs.Picture.{lease_bar, piece_bar, carried_unti
 ghost use Rattle.report_render.specs.Picture.{bars_of, report_bars, IsPicture};
 
 use crate::messages::messages_of;
-use crate::picture::{Bar, Dot, Picture};
+use crate::picture::{LeaseBar, LineDot, Picture};
 use attribution::Lasting;
 use causal_order::Ref;
-use evidence_report::{Cited, ForeignReport, Mark, Outside, PieceReport, Report, Told};
+use evidence_report::{
+    CitedLine, ForeignEvidence, ForeignReport, LineReading, PieceReport, Report, ReportedDelegation,
+};
 use lead_time::{Skew, Transit};
 use std::alloc::{AllocError, Global};
 
@@ -19,15 +21,15 @@ fn lease_bar(
     transit: Transit,
     at: Ref,
     valid: u32,
-    earliest: &Mark,
-    latest: &Mark,
-) -> Bar
+    earliest: &LineReading,
+    latest: &LineReading,
+) -> LeaseBar
     ensures { result ≡ lease_bar skew transit at valid earliest.now latest.now }
 {
     let lifetime = 1000 * u64::from(valid);
     let begun = latest.reading.milliseconds() + skew.milliseconds() + transit.milliseconds();
     let earliest = earliest.reading.milliseconds();
-    Bar {
+    LeaseBar {
         at,
         earliest: earliest.saturating_sub(skew.milliseconds()),
         sure: Some((
@@ -39,7 +41,7 @@ fn lease_bar(
 }
 
 /// The lease of a piece, where the report shows what its grant grants and when.
-fn piece_bar(skew: Skew, transit: Transit, report: &PieceReport<'_>) -> Option<Bar>
+fn piece_bar(skew: Skew, transit: Transit, report: &PieceReport<'_>) -> Option<LeaseBar>
     ensures { result ≡ piece_bar skew transit report.now }
 {
     match (&report.granted, &report.earliest, &report.latest) {
@@ -58,7 +60,7 @@ fn piece_bar(skew: Skew, transit: Transit, report: &PieceReport<'_>) -> Option<B
 }
 
 /// By when what a line tells of had ended by itself.
-fn carried_until(skew: Skew, transit: Transit, told: &Told) -> u64
+fn carried_until(skew: Skew, transit: Transit, told: &ReportedDelegation) -> u64
     ensures { result ≡ carried_until skew transit told.now }
 {
     let (skew, transit) = (skew.milliseconds(), transit.milliseconds());
@@ -71,11 +73,16 @@ fn carried_until(skew: Skew, transit: Transit, told: &Told) -> u64
 }
 
 /// By when it had ended at all events: it may have been given back.
-fn foreign_end(skew: Skew, transit: Transit, told: &Told, outside: &Outside<'_>) -> u64
+fn foreign_end(
+    skew: Skew,
+    transit: Transit,
+    told: &ReportedDelegation,
+    outside: &ForeignEvidence<'_>,
+) -> u64
     ensures { result ≡ foreign_end skew transit told.now outside.now }
 {
     match outside {
-        Outside::Released {
+        ForeignEvidence::Released {
             latest: Some(latest),
             ..
         } => latest.reading.milliseconds() + skew.milliseconds(),
@@ -84,11 +91,11 @@ fn foreign_end(skew: Skew, transit: Transit, told: &Told, outside: &Outside<'_>)
 }
 
 /// Another client's delegation, where the entry's line tells of one.
-fn foreign_bar(skew: Skew, transit: Transit, report: &ForeignReport<'_>) -> Option<Bar>
+fn foreign_bar(skew: Skew, transit: Transit, report: &ForeignReport<'_>) -> Option<LeaseBar>
     ensures { result ≡ foreign_bar skew transit report.now }
 {
     match &report.told {
-        Some(told) => Some(Bar {
+        Some(told) => Some(LeaseBar {
             at: report.entry.grant,
             earliest: told
                 .reading
@@ -101,7 +108,7 @@ fn foreign_bar(skew: Skew, transit: Transit, report: &ForeignReport<'_>) -> Opti
     }
 }
 
-fn push_bar(bars: &mut Vec<Bar>, bar: &Option<Bar>) -> Result<(), AllocError>
+fn push_bar(bars: &mut Vec<LeaseBar>, bar: &Option<LeaseBar>) -> Result<(), AllocError>
     ensures { OnOk result (bars.new.items ≡ bars.old.items ++ bars_of bar.now) }
 {
     match bar {
@@ -111,7 +118,7 @@ fn push_bar(bars: &mut Vec<Bar>, bar: &Option<Bar>) -> Result<(), AllocError>
 }
 
 fn push_pieces(
-    bars: &mut Vec<Bar>,
+    bars: &mut Vec<LeaseBar>,
     skew: Skew,
     transit: Transit,
     pieces: &[PieceReport<'_>],
@@ -126,7 +133,7 @@ fn push_pieces(
 }
 
 fn push_foreign(
-    bars: &mut Vec<Bar>,
+    bars: &mut Vec<LeaseBar>,
     skew: Skew,
     transit: Transit,
     foreign: &[ForeignReport<'_>],
@@ -140,12 +147,12 @@ fn push_foreign(
     Ok(())
 }
 
-fn dots_of(alloc: Global, cited: &[Cited]) -> Result<Vec<Dot>, AllocError>
+fn dots_of(alloc: Global, cited: &[CitedLine]) -> Result<Vec<LineDot>, AllocError>
     ensures { IfOk result (λ dots. dots.items ≡ map dot_of cited.now) }
 {
     let mut dots = Vec::new(alloc);
     for line in cited {
-        dots.push(Dot {
+        dots.push(LineDot {
             at: line.at,
             reading: line.line.reading.milliseconds(),
         })?;
@@ -155,7 +162,7 @@ fn dots_of(alloc: Global, cited: &[Cited]) -> Result<Vec<Dot>, AllocError>
 
 /// The bars of a report: the pieces' before other clients'.
 #[tactic(auto, unfolding(crate::specs::Picture::report_bars))]
-fn report_bars(alloc: Global, report: &Report<'_>) -> Result<Vec<Bar>, AllocError>
+fn report_bars(alloc: Global, report: &Report<'_>) -> Result<Vec<LeaseBar>, AllocError>
     ensures { IfOk result (λ bars. bars.items ≡ report_bars report.now) }
 {
     let mut bars = Vec::new(alloc);

@@ -7,7 +7,7 @@ use std::alloc::AllocError;
 
 /// A part of a page that is always the same.
 #[derive(Clone, Copy, Debug, PartialEq, Eq)]
-pub enum Part {
+pub enum PagePart {
     /// Up to the ruling's line.
     Head,
     /// Between the ruling's line and the picture.
@@ -36,27 +36,27 @@ pub enum Part {
 
 /// The text of a part.
 #[tactic(auto, unfolding(crate::specs::Page::part_text))]
-fn part_text(part: Part) -> &'static str
+fn part_text(part: PagePart) -> &'static str
     ensures { result.now ≡ part_text part }
 {
     match part {
-        Part::Head => HEAD,
-        Part::BeforePicture => BEFORE_PICTURE,
-        Part::BehindPicture => BEHIND_PICTURE,
-        Part::BeforeProgram => BEFORE_PROGRAM,
-        Part::BeforePrimary => BEFORE_PRIMARY,
-        Part::BeforeSecondary => BEFORE_SECONDARY,
-        Part::BeforeCertificate => BEFORE_CERTIFICATE,
-        Part::BeforeSkew => BEFORE_SKEW,
-        Part::BeforeSecond => BEFORE_SECOND,
-        Part::Tail => TAIL,
-        Part::SkewOption => SKEW_OPTION,
-        Part::TransitOption => TRANSIT_OPTION,
+        PagePart::Head => HEAD,
+        PagePart::BeforePicture => BEFORE_PICTURE,
+        PagePart::BehindPicture => BEHIND_PICTURE,
+        PagePart::BeforeProgram => BEFORE_PROGRAM,
+        PagePart::BeforePrimary => BEFORE_PRIMARY,
+        PagePart::BeforeSecondary => BEFORE_SECONDARY,
+        PagePart::BeforeCertificate => BEFORE_CERTIFICATE,
+        PagePart::BeforeSkew => BEFORE_SKEW,
+        PagePart::BeforeSecond => BEFORE_SECOND,
+        PagePart::Tail => TAIL,
+        PagePart::SkewOption => SKEW_OPTION,
+        PagePart::TransitOption => TRANSIT_OPTION,
     }
 }
 
 /// Appends a part.
-pub(crate) fn push_part(out: &mut Vec<u8>, part: Part) -> Result<(), AllocError>
+pub(crate) fn push_part(out: &mut Vec<u8>, part: PagePart) -> Result<(), AllocError>
     ensures { OnOk result (out.new.items ≡ out.old.items ++ part_text part) }
 {
     out.extend_from_slice(part_text(part).as_bytes())

@@ -11,7 +11,7 @@ use client_id::Iaid;
 use journal_text::push_entry;
 use lead_time::Reading;
 use prefix_range::push_prefix;
-use report_words::Word;
+use report_document::ReportWord;
 use std::alloc::{AllocError, Global};
 use text_fields::{push_number, push_octets};
 use time_text::push_time;
@@ -112,26 +112,26 @@ fn push_word(
     out: &mut Vec<u8>,
     alloc: Global,
     zone: Option<&ZoneFile>,
-    word: &Word,
+    word: &ReportWord,
 ) -> Result<(), AllocError>
     ensures { OnOk result (AddsWord zone.entry word.now out.old.items out.new.items) }
 {
     match word {
-        Word::Prose(prose) => out.extend_from_slice(prose.as_bytes()),
-        Word::Side(side) => push_side(out, *side),
-        Word::Line(at) => push_place(out, at.side, at.number),
-        Word::Reading(milliseconds) => push_moment(out, alloc, None, *milliseconds),
-        Word::Moment(milliseconds) => push_moment(out, alloc, zone, *milliseconds),
-        Word::BeforeEpoch(milliseconds) => {
+        ReportWord::Prose(prose) => out.extend_from_slice(prose.as_bytes()),
+        ReportWord::Side(side) => push_side(out, *side),
+        ReportWord::Line(at) => push_place(out, at.side, at.number),
+        ReportWord::Reading(milliseconds) => push_moment(out, alloc, None, *milliseconds),
+        ReportWord::Moment(milliseconds) => push_moment(out, alloc, zone, *milliseconds),
+        ReportWord::BeforeEpoch(milliseconds) => {
             push_counted(out, *milliseconds, b" ms before 1970-01-01T00:00:00.000Z")
         }
-        Word::Milliseconds(milliseconds) => push_counted(out, *milliseconds, b" ms"),
-        Word::Seconds(seconds) => push_counted(out, *seconds, b" s"),
-        Word::Number(number) => push_number(out, *number),
-        Word::Client(client) => push_octets(out, client.as_bytes()),
-        Word::Association(Iaid(number)) => push_octets(out, &number.to_be_bytes()),
-        Word::Prefix(prefix) => push_prefix(out, prefix),
-        Word::Entry(line) => push_entry(out, line),
+        ReportWord::Milliseconds(milliseconds) => push_counted(out, *milliseconds, b" ms"),
+        ReportWord::Seconds(seconds) => push_counted(out, *seconds, b" s"),
+        ReportWord::Number(number) => push_number(out, *number),
+        ReportWord::Client(client) => push_octets(out, client.as_bytes()),
+        ReportWord::Association(Iaid(number)) => push_octets(out, &number.to_be_bytes()),
+        ReportWord::Prefix(prefix) => push_prefix(out, prefix),
+        ReportWord::Entry(line) => push_entry(out, line),
     }
 }
 
@@ -141,7 +141,7 @@ pub(crate) fn push_words(
     out: &mut Vec<u8>,
     alloc: Global,
     zone: Option<&ZoneFile>,
-    words: &[Word],
+    words: &[ReportWord],
 ) -> Result<(), AllocError>
     ensures { OnOk result (AddsWords zone.entry words.now out.old.items out.new.items) }
 {

@@ -7,7 +7,7 @@ use Rattle.text_fields.specs.Parsing.{◌>>=◌}
 use Rattle.book_state.specs.Places.{AreDisjoint}
 use Rattle.server_settings.specs.Settings.{ServerSettings, AreWithin}
 use Rattle.server_settings.specs.Document.{IsDocument, named_in}
-use Rattle.server_upkeep.specs.Upkeep.{Limits}
+use Rattle.server_timers.specs.Timers.{TimerSettings}
 use Rattle.server_settings.specs.declared.error.OpenError.{OpenError}
 use Rattle.server_settings.specs.declared.error.OpenError.TheVariants.{Overlap, Memory as NoMemory}
 use Rattle.serve_settings.specs.declared.error.ServeSettingsError.{ServeSettingsError}
@@ -17,8 +17,8 @@ use Rattle.serve_settings.specs.declared.error.ServeSettingsError.TheVariants.{A
 use Rattle.serve_settings.specs.declared.error.ServeSettingsError.TheVariants.{NoLinkKey, LinkKey, RenewFloor}
 use Rattle.serve_settings.specs.declared.error.ServeSettingsError.TheVariants.{IasPerMessage, UnitsPerClient}
 use Rattle.serve_settings.specs.declared.error.ServeSettingsError.TheVariants.{UnitsPerPort, ClientRate, BindToPort}
-use Rattle.serve_settings.specs.declared.error.ServeSettingsError.TheVariants.{Manner}
-use Rattle.manner_settings.specs.Keys.{IsMannerFault}
+use Rattle.serve_settings.specs.declared.error.ServeSettingsError.TheVariants.{ReplyPolicy}
+use Rattle.reply_settings.specs.Keys.{IsReplyPolicyFault}
 use Rattle.client_limits.specs.declared.limits.Limits.{Limits as Quotas}
 use Rattle.client_limits.specs.declared.limits.PortRule.{PortRule}
 use Rattle.client_limits.specs.declared.limits.PortRule.TheVariants.{Free, Bound}
@@ -60,7 +60,7 @@ abbrev pub volume_hours_in : Members → Option ℕ
 volume_hours_in members = limit_at (codes "volume_hours") 24 8760 members
 
 -- when the server owes something
-unfoldable pub limits_in : Members → Option Limits
+unfoldable pub limits_in : Members → Option TimerSettings
 limits_in members = do
   heartbeat ← heartbeat_in members
   volume_lines ← volume_lines_in members
@@ -230,7 +230,7 @@ has_none (Some protection) = false
 -- ---- the document
 
 -- a server runs by what a document says
-pub record IsServed (members : Members) (server : ServerSettings) (upkeep : Limits) (floor : ℕ) (quotas : Quotas)
+pub record IsServed (members : Members) (server : ServerSettings) (upkeep : TimerSettings) (floor : ℕ) (quotas : Quotas)
     (protection : Option LinkProtection) : Type 0 where
   pub named : named_in members ≡ Some server
   pub limits : limits_in members ≡ Some upkeep
@@ -262,5 +262,5 @@ IsRefusal text NoPartner = (members : Members) × IsDocument text members × IsP
 IsRefusal text PartnerOfAlone = (members : Members) × IsDocument text members × IsPartnerFault members PartnerOfAlone
 IsRefusal text NoLinkKey = (members : Members) × IsDocument text members × IsKeyFault members NoLinkKey
 IsRefusal text LinkKey = (members : Members) × IsDocument text members × IsKeyFault members LinkKey
-IsRefusal text (Manner e) =
-    (members : Members) × IsDocument text members × ((is_alone : Bool) × IsMannerFault is_alone members e)
+IsRefusal text (ReplyPolicy e) =
+    (members : Members) × IsDocument text members × ((is_alone : Bool) × IsReplyPolicyFault is_alone members e)

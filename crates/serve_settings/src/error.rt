@@ -1,6 +1,6 @@
 //! Why settings are refused.
 
-use manner_settings::MannerError;
+use reply_settings::ReplyPolicyError;
 use server_settings::OpenError;
 use thiserror::Error;
 
@@ -51,7 +51,7 @@ pub enum ServeSettingsError {
     NoLinkKey,
     /// The keys of how the server answers have something else than they want, or a growth was refused.
     #[error("{0}")]
-    Manner(MannerError),
+    ReplyPolicy(ReplyPolicyError),
     /// What is at `link_key` is no text, or an empty one.
     #[error("link_key: wants the name of a file, or \"none\"")]
     LinkKey,

@@ -9,7 +9,7 @@ ghost use Rattle.serve_settings.specs.Serving.{floor_of, floor_in, IsFloorFault}
 ghost use Rattle.serve_settings.specs.Serving.{HasPartnerOrIsAlone, IsPartnerFault};
 
 use crate::error::ServeSettingsError;
-use server_upkeep::Upkeep;
+use server_timers::Timers;
 use toml::{Table, Value};
 
 /// Seconds without a line, where nothing else is said.
@@ -75,7 +75,7 @@ fn alone_in(table: &Table) -> Option<bool>
 /// When the server owes something. `Heartbeat`, `VolumeLines` or `VolumeHours`, in this order, where that key has no
 /// number within its limits.
 #[tactic(auto, unfolding(crate::specs::Serving::limits_in))]
-pub(crate) fn upkeep_in(table: &Table) -> Result<Upkeep, ServeSettingsError>
+pub(crate) fn upkeep_in(table: &Table) -> Result<Timers, ServeSettingsError>
     ensures { MatchResult result (λ u. limits_in (table_view table.now)
         ≡ Some u) (IsLimitFault (table_view table.now)) }
 {
@@ -88,7 +88,7 @@ pub(crate) fn upkeep_in(table: &Table) -> Result<Upkeep, ServeSettingsError>
     let volume_hours = limit_at(table, "volume_hours", VOLUME_HOURS, 8_760).ok_or(
         ServeSettingsError::VolumeHours,
     )?;
-    match Upkeep::new(heartbeat, volume_lines, volume_hours) {
+    match Timers::new(heartbeat, volume_lines, volume_hours) {
         Some(upkeep) => Ok(upkeep),
         None => unreachable!(),
     }

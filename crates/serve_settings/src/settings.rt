@@ -6,18 +6,18 @@ ghost use Rattle.toml.specs.View.{table_view};
 ghost use Rattle.server_settings.specs.Document.{IsDocument};
 ghost use Rattle.serve_settings.specs.Serving.{IsServed, IsNodeRefusal, IsRefusal};
 ghost use Rattle.serve_settings.specs.Serving.{HasPartnerOrIsAlone, IsProtected, IsPartnerFault, IsKeyFault, has_none};
-ghost use Rattle.manner_settings.specs.Keys.{IsManner};
+ghost use Rattle.reply_settings.specs.Keys.{IsReplyPolicy};
 
 use crate::error::ServeSettingsError;
 use crate::limits::{is_alone, renew_floor_in, upkeep_in};
 use crate::protection::{LinkProtection, protection_in};
 use crate::quotas::quotas_in;
 use client_limits::Limits;
-use manner_settings::manner_in;
 use node_threads::NodeSettings;
-use server_book::Manner;
+use reply_settings::reply_policy_in;
+use server_book::ReplyPolicy;
 use server_settings::OpenError;
-use server_upkeep::Upkeep;
+use server_timers::Timers;
 use std::alloc::Global;
 use toml::Table;
 
@@ -25,8 +25,8 @@ use toml::Table;
 #[derive(Drop)]
 pub struct ServeSettings {
     pub node: NodeSettings,
-    /// Where a key isn't there, what [`Upkeep::DEFAULT`] has.
-    pub upkeep: Upkeep,
+    /// Where a key isn't there, what [`Timers::DEFAULT`] has.
+    pub upkeep: Timers,
     /// The age, in seconds, from which on a grant isn't told again: with 0 none is. Where the key isn't there, a tenth
     /// of the desired lifetime, and 10 at least.
     pub renew_floor: u32,
@@ -37,7 +37,7 @@ pub struct ServeSettings {
     pub protection: Option<LinkProtection>,
     /// How it answers beside what its book says. Where no key is there, nothing is handed out beside prefixes, an IA_NA
     /// is passed over, and a server that has a partner says nothing of a REBIND that it has no binding for.
-    pub manner: Manner,
+    pub reply_policy: ReplyPolicy,
 }
 
 /// What protects the link, where the server has a partner.
@@ -79,11 +79,11 @@ impl ServeSettings {
     /// which may each be left out. `Node` where no node runs by it, or a growth was refused; else `Alone`, `NoPartner`
     /// or `PartnerOfAlone`; else `NoLinkKey` or `LinkKey`; else `Heartbeat`, `VolumeLines` or `VolumeHours`; else
     /// `RenewFloor`; else `IasPerMessage`, `UnitsPerClient`, `UnitsPerPort`, `ClientRate` or `BindToPort`; else
-    /// `Manner`.
+    /// `ReplyPolicy`.
     pub fn read(alloc: Global, text: &[u8]) -> Result<ServeSettings, ServeSettingsError>
         ensures served { IfOk result (λ s. (members : Members) × IsDocument text.now members
             × IsServed members s.node.server s.upkeep s.renew_floor s.quotas s.protection
-            × IsManner (has_none s.protection) members s.manner) }
+            × IsReplyPolicy (has_none s.protection) members s.reply_policy) }
         ensures refused { IfErr result (IsRefusal text.now) }
     {
         let node = match NodeSettings::read(alloc, text) {
@@ -101,9 +101,9 @@ impl ServeSettings {
         let upkeep = upkeep_in(&table)?;
         let renew_floor = renew_floor_in(&table, node.server.life())?;
         let quotas = quotas_in(&table)?;
-        let manner = match manner_in(alloc, &table, has_none(&protection)) {
+        let manner = match reply_policy_in(alloc, &table, has_none(&protection)) {
             Ok(manner) => manner,
-            Err(error) => return Err(ServeSettingsError::Manner(error)),
+            Err(error) => return Err(ServeSettingsError::ReplyPolicy(error)),
         };
         Ok(ServeSettings {
             node,
@@ -111,7 +111,7 @@ impl ServeSettings {
             renew_floor,
             quotas,
             protection,
-            manner,
+            reply_policy: manner,
         })
     }
 }

@@ -1,2 +1,2 @@
-pub mod Manner
+pub mod ReplyPolicy
 pub mod Messages

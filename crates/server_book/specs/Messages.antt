@@ -18,19 +18,19 @@ use Rattle.dhcp6_pd.specs.declared.message.IaReplyAnswer.TheVariants.{NoBinding 
 use Rattle.dhcp6_pd.specs.declared.message.InformationRequest.{InformationRequest}
 use Rattle.router_options.specs.declared.choosing.Occasion.TheVariants.{Information}
 use Rattle.router_options.specs.Choosing.{chosen}
-use Rattle.server_book.specs.declared.manner.Manner.{Manner}
-use Rattle.server_book.specs.Manner.{hides, occasion_of, refused_addresses}
-use Rattle.order_book.specs.declared.order.Asked.{Asked}
+use Rattle.server_book.specs.declared.reply_policy.ReplyPolicy.{ReplyPolicy}
+use Rattle.server_book.specs.ReplyPolicy.{omits_unbound, occasion_of, refused_addresses}
+use Rattle.order_book.specs.declared.order.LeaseRequest.{LeaseRequest}
 use Rattle.order_book.specs.declared.order.Order.{Order}
 use Rattle.order_book.specs.declared.order.Order.TheVariants.{Request, Renew, Release}
 use Rattle.server_book.specs.declared.messages.IaAnswer.{IaAnswer}
 use Rattle.server_book.specs.declared.messages.IaAnswer.TheVariants.{Given, NoPrefix, NoBinding, Released}
 
-abbrev pub asked_in : List ℕ → IaPd → Asked
+abbrev pub asked_in : List ℕ → IaPd → LeaseRequest
 asked_in client ia = record { client = client; iaid = ia.iaid; hint = ia.hint }
 
 -- a SOLICIT asks what a REQUEST would be given; a RENEW goes to the server that leased, a REBIND to any
-abbrev pub order_by : ClientKind → Asked → Order
+abbrev pub order_by : ClientKind → LeaseRequest → Order
 order_by Solicit a = Request a
 order_by RequestKind a = Request a
 order_by RenewKind a = Renew a
@@ -93,7 +93,7 @@ is_release ReleaseKind = true
 is_release _ = false
 
 -- the answer goes back by the same relays; that of a RELEASE says Success
-abbrev pub answer_of : ClientMessage → List ℕ → Manner → List IaAnswer → ServerMessage
+abbrev pub answer_of : ClientMessage → List ℕ → ReplyPolicy → List IaAnswer → ServerMessage
 answer_of m own manner answers =
     record {
       relays = m.relays;
@@ -104,7 +104,7 @@ answer_of m own manner answers =
       options = chosen (occasion_of m.kind) m.requested manner.options;
       success = is_release m.kind;
       no_addresses = refused_addresses manner m;
-      ias = replies_of (hides manner m.kind) m.ias answers;
+      ias = replies_of (omits_unbound manner m.kind) m.ias answers;
     }
 
 abbrev pub has_none : List IaReply → Bool
@@ -112,13 +112,13 @@ has_none [] = true
 has_none (reply ∷ replies) = false
 
 -- nothing is known of a message whose unknown IA_PDs are hidden: the answer has none
-abbrev pub is_elsewhere : ClientMessage → Manner → List IaAnswer → Bool
-is_elsewhere m manner answers = hides manner m.kind && has_none (replies_of (hides manner m.kind) m.ias answers)
+abbrev pub is_elsewhere : ClientMessage → ReplyPolicy → List IaAnswer → Bool
+is_elsewhere m manner answers = omits_unbound manner m.kind && has_none (replies_of (omits_unbound manner m.kind) m.ias answers)
 
 -- ---- requests for options alone (section 18.3.6)
 
 -- what was asked for, and nothing of prefixes
-abbrev pub information_answer : InformationRequest → List ℕ → Manner → ServerMessage
+abbrev pub information_answer : InformationRequest → List ℕ → ReplyPolicy → ServerMessage
 information_answer i own manner =
     record {
       relays = i.relays;

@@ -1,7 +1,7 @@
 //! A server's book as its clients use it: what a message of theirs orders, and the message that answers it.
 //!
 //! `order_of` takes the order of each IA_PD out of a client's message, and `answer_of` makes the message that answers
-//! it in a server's [`Manner`], of what became of each (specs/Messages, specs/Manner); `information_answer` answers a
+//! it in a server's [`ReplyPolicy`], of what became of each (specs/Messages, specs/ReplyPolicy); `information_answer` answers a
 //! request for options alone. The book that does what is ordered is that of `order_book`, its
 //! settings are those of `server_settings`: this crate hands their items on, so that who serves
 //! clients names one crate.
@@ -12,10 +12,12 @@
 //! ```
 #![tactic(auto)]
 
-mod manner;
 mod messages;
+mod reply_policy;
 
-pub use manner::{AddressRule, Manner, RebindUnknown};
 pub use messages::{IaAnswer, answer_of, information_answer, order_of};
-pub use order_book::{Asked, Book, BookError, Order, Reply, answer_is_one, opening_is_legal};
+pub use order_book::{
+    Book, BookError, LeaseRequest, Order, Reply, answer_is_one, opening_is_legal,
+};
+pub use reply_policy::{AddressRule, RebindUnknown, ReplyPolicy};
 pub use server_settings::{OpenError, Settings, read_settings};

@@ -5,13 +5,13 @@ ghost use Rattle.server_book.specs.Messages.{asked_in, order_by, order_of, writt
 ghost use Rattle.server_book.specs.Messages.{first_bound, further_of, at_first};
 ghost use Rattle.server_book.specs.Messages.{kind_of, is_release, answer_of, information_answer};
 
-use crate::manner::{Manner, occasion_of, refused_addresses};
+use crate::reply_policy::{ReplyPolicy, occasion_of, refused_addresses};
 use client_id::{Duid, Iaid};
 use dhcp6_pd::{
     ClientKind, ClientMessage, IaPart, IaPd, IaReply, IaReplyAnswer, InformationRequest, Relay,
     RelayId, RelayList, ServerKind, ServerMessage,
 };
-use order_book::{Asked, BookError, Order};
+use order_book::{BookError, LeaseRequest, Order};
 use prefix_range::Prefix;
 use router_options::{Occasion, chosen};
 use std::alloc::{AllocError, Global};
@@ -30,7 +30,7 @@ pub enum IaAnswer {
     Released,
 }
 
-fn order_by(kind: ClientKind, asked: Asked) -> Order
+fn order_by(kind: ClientKind, asked: LeaseRequest) -> Order
     ensures { result ≡ order_by kind asked }
 {
     match kind {
@@ -48,7 +48,7 @@ pub fn order_of(message: &ClientMessage, place: usize) -> Option<Order>
     match message.ias.as_slice().get(place) {
         Some(ia) => Some(order_by(
             message.kind,
-            Asked {
+            LeaseRequest {
                 client: message.client,
                 iaid: ia.iaid,
                 hint: ia.hint,
@@ -200,7 +200,7 @@ pub fn answer_of(
     alloc: Global,
     message: &ClientMessage,
     own: &Duid,
-    manner: &Manner,
+    manner: &ReplyPolicy,
     answers: &[IaAnswer],
 ) -> Result<ServerMessage, BookError>
     requires some { 1 ≤ length message.now.ias }
@@ -218,7 +218,7 @@ pub fn answer_of(
     let no_addresses = refused_addresses(alloc, manner, message)?;
     let ias = replies_of(
         alloc,
-        manner.hides(message.kind),
+        manner.omits_unbound(message.kind),
         message.ias.as_slice(),
         answers,
     )?;
@@ -241,7 +241,7 @@ pub fn information_answer(
     alloc: Global,
     request: InformationRequest,
     own: &Duid,
-    manner: &Manner,
+    manner: &ReplyPolicy,
 ) -> Result<ServerMessage, BookError>
     ensures answered { IfOk result (λ s. s ≡ information_answer request own.now manner.now) }
     ensures refused { IfErr result (λ e. e ≡ BookError.Memory) }

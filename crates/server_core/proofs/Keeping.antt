@@ -17,12 +17,12 @@ use Rattle.open_volume.specs.Laws.{GivesTheVolumeItSpells, FirstLinesAreParsed}
 use Rattle.volume_store.specs.Folder.{AreVolumesSoFar}
 use Rattle.volume_store.specs.Volumes.{going_on, ended_volume}
 use Rattle.volume_store.specs.Laws.{NextIsItsServers}
-use Rattle.volume_store.specs.Told.{LeftAreLegal}
+use Rattle.volume_store.specs.Published.{LeftAreLegal}
 use Rattle.disk_model.specs.Later.{LeftAreFirst}
-use Rattle.server_core.specs.Live.{LiveState, has_head}
-use Rattle.server_core.specs.Going.{so_far, GoesOn}
+use Rattle.server_core.specs.VolumeWriters.{WriterState, has_head}
+use Rattle.server_core.specs.Going.{so_far, CanContinue}
 use Rattle.server_core.specs.Servers.{LeavesLines, AllLeaveLines, IsServers, IsFront}
-use Rattle.server_core.specs.Laws.{SettlesKeep, RollsKeep}
+use Rattle.server_core.specs.Laws.{CommitsKeep, RollsKeep}
 use Rattle.server_core.proofs.Front.{same_text, front}
 use Rattle.server_core.proofs.Legal.{go_on, written_to_end}
 use Rattle.server_core.proofs.Moments.{leaves_lines, names_stay, at_each, at_each_name}
@@ -51,18 +51,18 @@ module _ (spells : GivesTheVolumeItSpells) (parsed : FirstLinesAreParsed) (law :
     (left : LeftAreFirst) where
   -- the open volume as it goes on
   front_of : (role : Role) (earlier : List VolumeSoFar) (files : List (List Call)) (j : Journal) (names : List NameCall)
-      (v : LiveState) → IsServers role earlier files j names v → GoesOn v → IsFront j v.served.journal
+      (v : WriterState) → IsServers role earlier files j names v → CanContinue v → IsFront j v.served.journal
   front_of role earlier files j names v is on =
       front spells parsed v.calls j v.served.journal v.kept is.has on.had is.kept on.within is.are.more.written
       on.written
 
   more_of : (role : Role) (earlier : List VolumeSoFar) (files : List (List Call)) (j : Journal) (names : List NameCall)
-      (v : LiveState) → IsServers role earlier files j names v → GoesOn v
+      (v : WriterState) → IsServers role earlier files j names v → CanContinue v
       → has_head (drop (length j.lines) v.served.journal.lines) ≡ false
   more_of role earlier files j names v is on =
       subst (λ n. has_head (drop n v.served.journal.lines) ≡ false) is.kept on.more
 
-  pub settles_keep : SettlesKeep
+  pub settles_keep : CommitsKeep
   settles_keep role earlier files j names old new is put =
       let on = put.goes_on in
       let k = old.served.journal in
@@ -100,8 +100,8 @@ module _ (spells : GivesTheVolumeItSpells) (parsed : FirstLinesAreParsed) (law :
           are = is.are;
           ended = is.ended;
           has = subst (λ calls. HasSettled calls (text_lines (so_far j)))
-              (sym (ap (λ (s : LiveState). s.calls) same)) is.has;
-          kept = ap (λ (s : LiveState). s.kept) same ∙ is.kept;
+              (sym (ap (λ (s : WriterState). s.calls) same)) is.has;
+          kept = ap (λ (s : WriterState). s.kept) same ∙ is.kept;
           named = is.named;
           count = is.count;
         } in
@@ -138,7 +138,7 @@ module _ (spells : GivesTheVolumeItSpells) (parsed : FirstLinesAreParsed) (law :
               (names_stay (length earlier) names_before is.named is.count) old.calls rolls.ended
               (subst (λ calls.
               LeavesOnly (AreFirst (text_lines (ended_volume k)) (length j.lines + 1)) calls rolls.ended)
-              (ap (λ (s : LiveState). s.calls) same)
+              (ap (λ (s : WriterState). s.calls) same)
               (subst (λ n. LeavesOnly (AreFirst (text_lines (ended_volume k)) n) closed.calls rolls.ended) synced
               rolls.ends.any_moment));
           leaves_next = at_each_name law role volumes (going_on next) 0 (files ++ rolls.ended ∷ []) also leave

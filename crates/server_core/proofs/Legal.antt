@@ -17,7 +17,7 @@ use Rattle.open_volume.specs.Spelling.{behind_all, IsWrittenSoFar}
 use Rattle.open_volume.proofs.Phases.{closed_phase}
 use Rattle.volume_store.specs.Folder.{lines_of, AreVolumesSoFar}
 use Rattle.volume_store.specs.Volumes.{ended_volume}
-use Rattle.server_core.specs.Live.{has_head}
+use Rattle.server_core.specs.VolumeWriters.{has_head}
 use Rattle.server_core.specs.Going.{so_far}
 use Rattle.server_core.specs.Servers.{IsFront}
 

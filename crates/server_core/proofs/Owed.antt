@@ -5,15 +5,15 @@ use Rattle.client_service.specs.declared.permit.Permit.{Permit}
 use Rattle.dhcp6_pd.specs.declared.message.ClientMessage.{ClientMessage}
 use Rattle.locked_book.specs.declared.receipt.Receipt.{Receipt}
 use Rattle.client_service.specs.Answering.{AnswerTo}
-use Rattle.client_service.specs.declared.partner.Partner.{Partner}
-use Rattle.server_core.specs.declared.leaving.HeldAnswer.{HeldAnswer}
+use Rattle.client_service.specs.declared.partner_availability.PartnerAvailability.{PartnerAvailability}
+use Rattle.server_core.specs.declared.committed_output.HeldAnswer.{HeldAnswer}
 use Rattle.server_core.specs.Served.{ServedState, receipts_in}
-use Rattle.server_core.specs.Live.{LiveState, Grows}
-use Rattle.client_service.specs.declared.terms.RenewTerms.{RenewTerms}
-use Rattle.server_book.specs.declared.manner.Manner.{Manner}
-use Rattle.server_core.specs.Owing.{Tells, OwesLease, IsOwed}
+use Rattle.server_core.specs.VolumeWriters.{WriterState, Grows}
+use Rattle.client_service.specs.declared.terms.ReuseTerms.{ReuseTerms}
+use Rattle.server_book.specs.declared.reply_policy.ReplyPolicy.{ReplyPolicy}
+use Rattle.server_core.specs.Owing.{IsReplyOfReceipts, OwesLease, IsOwed}
 
-pub stays_owed : {P : Type 0} (own : List ℕ) (t : RenewTerms) (receipts more all : List Receipt) (a : AnswerTo P)
+pub stays_owed : {P : Type 0} (own : List ℕ) (t : ReuseTerms) (receipts more all : List Receipt) (a : AnswerTo P)
     → all ≡ receipts ++ more → IsOwed own t receipts a → IsOwed own t all a
 stays_owed own t receipts more all a grows (inl o) = inl (record {
   partner = o.partner;
@@ -30,7 +30,7 @@ stays_owed own t receipts more all a grows (inl o) = inl (record {
 stays_owed own t receipts more all a grows (inr informs) = inr informs
 
 -- all that are owed stay so
-pub all_owed : {P : Type 0} (own : List ℕ) (t : RenewTerms) (receipts more all : List Receipt) (held : List (HeldAnswer P))
+pub all_owed : {P : Type 0} (own : List ℕ) (t : ReuseTerms) (receipts more all : List Receipt) (held : List (HeldAnswer P))
     → all ≡ receipts ++ more → AllByRecursion (λ (h : HeldAnswer P). IsOwed own t receipts h.answer) held
     → AllByRecursion (λ (h : HeldAnswer P). IsOwed own t all h.answer) held
 all_owed own t receipts more all [] grows owed = tt
@@ -38,7 +38,7 @@ all_owed own t receipts more all (h ∷ held) grows owed =
     (stays_owed own t receipts more all h.answer grows owed.0, all_owed own t receipts more all held grows owed.1)
 
 -- and one more
-pub one_more_owed : {P : Type 0} (own : List ℕ) (t : RenewTerms) (receipts : List Receipt) (held : List (HeldAnswer P))
+pub one_more_owed : {P : Type 0} (own : List ℕ) (t : ReuseTerms) (receipts : List Receipt) (held : List (HeldAnswer P))
     (h : HeldAnswer P) → AllByRecursion (λ (x : HeldAnswer P). IsOwed own t receipts x.answer) held
     → IsOwed own t receipts h.answer
     → AllByRecursion (λ (x : HeldAnswer P). IsOwed own t receipts x.answer) (held ++ h ∷ [])
@@ -46,9 +46,9 @@ one_more_owed own t receipts [] h owed one = (one, tt)
 one_more_owed own t receipts (x ∷ held) h owed one = (owed.0, one_more_owed own t receipts held h owed.1 one)
 
 -- an answer that tells what was just added is owed
-pub just_owed : {P : Type 0} (own : List ℕ) (t : RenewTerms) (partner : Partner) (manner : Manner) (m : ClientMessage)
+pub just_owed : {P : Type 0} (own : List ℕ) (t : ReuseTerms) (partner : PartnerAvailability) (manner : ReplyPolicy) (m : ClientMessage)
     (permits : List Permit) (read : ℕ) (had has : List Receipt) (a : AnswerTo P)
-    → Tells partner t own manner m permits read had has a.octets a.line → IsOwed own t has a
+    → IsReplyOfReceipts partner t own manner m permits read had has a.octets a.line → IsOwed own t has a
 just_owed own t partner manner m permits read had has a told = inl (record {
   partner = partner;
   manner = manner;
@@ -63,16 +63,16 @@ just_owed own t partner manner m permits read had has a told = inl (record {
 })
 
 -- where nothing was changed, no receipt was added
-pub same_grows : (old new : LiveState) → new ≡ old → (added : List Receipt) × Grows old new added
+pub same_grows : (old new : WriterState) → new ≡ old → (added : List Receipt) × Grows old new added
 same_grows old new same = (
   [],
   (
-    ap (λ (s : LiveState). receipts_in s.served) same ∙ sym (append-nil (receipts_in old.served)),
+    ap (λ (s : WriterState). receipts_in s.served) same ∙ sym (append-nil (receipts_in old.served)),
     λ i. record (same i) { served = new.served },
   ),
 )
 
-pub held_as : {P : Type 0} (own : List ℕ) (t : RenewTerms) (receipts : List Receipt) (held is : List (HeldAnswer P)) → is ≡ held
+pub held_as : {P : Type 0} (own : List ℕ) (t : ReuseTerms) (receipts : List Receipt) (held is : List (HeldAnswer P)) → is ≡ held
     → AllByRecursion (λ (h : HeldAnswer P). IsOwed own t receipts h.answer) held
     → AllByRecursion (λ (h : HeldAnswer P). IsOwed own t receipts h.answer) is
 held_as {P} own t receipts held is same owed =
@@ -83,9 +83,9 @@ pub held_more : {X : Type 0} (was mid is : List X) (h : X) → is ≡ mid ++ h �
 held_more was mid is h more same = more ∙ ap (λ xs. xs ++ h ∷ []) same
 
 -- what is added to the book inside is added to the volume
-pub grows_by : (inside now : LiveState) → inside ≡ now → (new : ServedState) (added : List Receipt)
+pub grows_by : (inside now : WriterState) → inside ≡ now → (new : ServedState) (added : List Receipt)
     → receipts_in new ≡ receipts_in inside.served ++ added → Grows now (record inside { served = new }) added
 grows_by inside now is new added more = (
-  more ∙ ap (λ (s : LiveState). receipts_in s.served ++ added) is,
+  more ∙ ap (λ (s : WriterState). receipts_in s.served ++ added) is,
   λ i. record (is i) { served = new },
 )

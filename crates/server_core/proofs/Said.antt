@@ -8,10 +8,10 @@ use Rattle.binding_rules.specs.declared.role.Role.{Role}
 use Rattle.binding_rules.specs.declared.role.Role.TheVariants.{Primary, Secondary}
 use Rattle.failover_message.specs.declared.frame.FrameKind.{FrameKind}
 use Rattle.locked_book.specs.declared.receipt.Receipt.{Receipt}
-use Rattle.link_talk.specs.declared.outbox.Handed.{Handed}
-use Rattle.link_talk.specs.Handed.{Said, Sends, Greets, said_of, sent_in, said_by, sends_of, is_above, sends_above, answer, opening}
-use Rattle.link_talk.specs.Talking.{Met, Unmet, Refused, Named, first_said, Hears}
-use Rattle.link_talk.specs.Turning.{TalkState}
+use Rattle.failover_session.specs.declared.outbox.OutboundFrame.{OutboundFrame}
+use Rattle.failover_session.specs.OutboundFrames.{FrameMeaning, Sends, Greets, meanings_of, sent_in, meaning_of_receipt, sends_of, is_above, sends_above, answer, opening}
+use Rattle.failover_session.specs.Sessions.{Met, Unmet, Refused, Named, first_meanings, Handles}
+use Rattle.failover_session.specs.Polling.{SessionModel}
 use Rattle.server_core.specs.Saying.{IsBacked, AreBacked, IsTalkBacked, handed_of}
 
 -- ---- all of a list
@@ -38,7 +38,7 @@ all_filter P q (x ∷ xs) all = all_cond P (q x) x (filter q xs) all.0 (all_filt
 
 -- ---- what was backed stays so
 
-backed_later : (receipts more all : List Receipt) → all ≡ receipts ++ more → (s : Said) → IsBacked receipts s
+backed_later : (receipts more all : List Receipt) → all ≡ receipts ++ more → (s : FrameMeaning) → IsBacked receipts s
     → IsBacked all s
 backed_later receipts more all grows (Sends number m) b = (
   b.0,
@@ -55,16 +55,16 @@ backed_later receipts more all grows (Greets kind) b = (
   b.4,
 )
 
-all_later : (receipts more all : List Receipt) → all ≡ receipts ++ more → (xs : List Said)
+all_later : (receipts more all : List Receipt) → all ≡ receipts ++ more → (xs : List FrameMeaning)
     → AllByRecursion (IsBacked receipts) xs → AllByRecursion (IsBacked all) xs
 all_later receipts more all grows [] backed = tt
 all_later receipts more all grows (x ∷ xs) backed =
     (backed_later receipts more all grows x backed.0, all_later receipts more all grows xs backed.1)
 
-pub talk_later : (receipts more all : List Receipt) (talk : Option TalkState) → all ≡ receipts ++ more
+pub talk_later : (receipts more all : List Receipt) (talk : Option SessionModel) → all ≡ receipts ++ more
     → IsTalkBacked receipts talk → IsTalkBacked all talk
 talk_later receipts more all None grows backed = tt
-talk_later receipts more all (Some t) grows backed = all_later receipts more all grows (said_of t.handed) backed
+talk_later receipts more all (Some t) grows backed = all_later receipts more all grows (meanings_of t.handed) backed
 
 -- ---- what receipts say
 
@@ -73,8 +73,8 @@ no_greeting : (number : ℕ) (kind : FrameKind) (o : Option PartnerMessage)
 no_greeting number kind None is = absurd cc
 no_greeting number kind (Some m) is = absurd cc
 
-one_backed : (all front back : List Receipt) (r : Receipt) → all ≡ front ++ r ∷ back → (x : Said)
-    → said_by r ≡ Some x → IsBacked all x
+one_backed : (all front back : List Receipt) (r : Receipt) → all ≡ front ++ r ∷ back → (x : FrameMeaning)
+    → meaning_of_receipt r ≡ Some x → IsBacked all x
 one_backed all front back r among (Sends number m) is = (r, front, back, among, is)
 one_backed all front back r among (Greets kind) is = absurd (no_greeting r.number kind (sent_in r.line.event) is)
 
@@ -82,7 +82,7 @@ sends_backed : (all front rs later : List Receipt) → all ≡ front ++ (rs ++ l
     → AllByRecursion (IsBacked all) (sends_of rs)
 sends_backed all front [] later is = tt
 sends_backed all front (r ∷ rs) later is =
-    all_cons (IsBacked all) (said_by r) (sends_of rs) (one_backed all front (rs ++ later) r is)
+    all_cons (IsBacked all) (meaning_of_receipt r) (sends_of rs) (one_backed all front (rs ++ later) r is)
     (sends_backed all (front ++ r ∷ []) rs later (is ∙ sym (append_assoc front (r ∷ []) (rs ++ later))))
 
 answer_backed : (role : Role) (had later all : List Receipt) → all ≡ had ++ later
@@ -95,7 +95,7 @@ opening_backed Primary had = ((Primary, had, [], sym (append-nil had), refl), tt
 opening_backed Secondary had = tt
 
 first_backed : (role : Role) (before after : Met) (had later all : List Receipt) → all ≡ had ++ later
-    → AllByRecursion (IsBacked all) (first_said role before after had)
+    → AllByRecursion (IsBacked all) (first_meanings role before after had)
 first_backed role Unmet Unmet had later all is = tt
 first_backed role Unmet Refused had later all is = answer_backed role had later all is
 first_backed role Unmet (Named last) had later all is =
@@ -107,31 +107,31 @@ first_backed role (Named n) after had later all is = tt
 -- ---- a turn of the talk
 
 pub heard_backed : (role : Role) (heard : List PartnerMessage) (before after : Met) (had has : List Receipt)
-    (was out : List Handed) → Hears role heard before after had has was out → AreBacked had was → AreBacked has out
+    (was out : List OutboundFrame) → Handles role heard before after had has was out → AreBacked had was → AreBacked has out
 heard_backed role heard before after had has was out h backed =
     let whole : has ≡ had ++ (h.added ++ []) = h.all
     ∙ ap (λ (rs : List Receipt). had ++ rs) (sym (append-nil h.added)) in
-    subst (λ (xs : List Said). AllByRecursion (IsBacked has) xs) (sym h.sends)
-    (all_append (IsBacked has) (said_of was ++ first_said role before after had) (sends_of h.added)
-    (all_append (IsBacked has) (said_of was) (first_said role before after had)
-    (all_later had h.added has h.all (said_of was) backed) (first_backed role before after had h.added has h.all))
+    subst (λ (xs : List FrameMeaning). AllByRecursion (IsBacked has) xs) (sym h.sends)
+    (all_append (IsBacked has) (meanings_of was ++ first_meanings role before after had) (sends_of h.added)
+    (all_append (IsBacked has) (meanings_of was) (first_meanings role before after had)
+    (all_later had h.added has h.all (meanings_of was) backed) (first_backed role before after had h.added has h.all))
     (sends_backed has had h.added [] whole))
 
-pub said_as : (receipts : List Receipt) (was out : List Handed) (more : List Said)
-    → said_of out ≡ said_of was ++ more → AreBacked receipts was → AllByRecursion (IsBacked receipts) more
+pub said_as : (receipts : List Receipt) (was out : List OutboundFrame) (more : List FrameMeaning)
+    → meanings_of out ≡ meanings_of was ++ more → AreBacked receipts was → AllByRecursion (IsBacked receipts) more
     → AreBacked receipts out
 said_as receipts was out more says backed others =
-    subst (λ (xs : List Said). AllByRecursion (IsBacked receipts) xs) (sym says)
-    (all_append (IsBacked receipts) (said_of was) more backed others)
+    subst (λ (xs : List FrameMeaning). AllByRecursion (IsBacked receipts) xs) (sym says)
+    (all_append (IsBacked receipts) (meanings_of was) more backed others)
 
 -- what a backed talk hands out is backed
-pub handed_backed : (receipts : List Receipt) (talk : Option TalkState) (frames : List Handed)
+pub handed_backed : (receipts : List Receipt) (talk : Option SessionModel) (frames : List OutboundFrame)
     → frames ≡ handed_of talk → IsTalkBacked receipts talk → AreBacked receipts frames
 handed_backed receipts None frames is backed = subst (AreBacked receipts) (sym is) tt
 handed_backed receipts (Some t) frames is backed = subst (AreBacked receipts) (sym is) backed
 
 -- a talk that has handed out all is backed
-pub nothing_said : (receipts : List Receipt) (talk : Option TalkState) → handed_of talk ≡ []
+pub nothing_said : (receipts : List Receipt) (talk : Option SessionModel) → handed_of talk ≡ []
     → IsTalkBacked receipts talk
 nothing_said receipts None none = tt
 nothing_said receipts (Some t) none = subst (AreBacked receipts) (sym none) tt

@@ -23,17 +23,17 @@ use Rattle.open_volume.specs.declared.volume.VolumeSoFar.{VolumeSoFar}
 use Rattle.open_volume.specs.Spelling.{text_lines, behind_all, first_lines, IsWrittenSoFar}
 use Rattle.open_volume.specs.Laws.{GivesTheVolumeItSpells, FirstLinesAreParsed}
 use Rattle.open_volume.proofs.Phases.{phase_itself}
-use Rattle.volume_store.specs.Finding.{left_of, found_book, book_at, is_told}
-use Rattle.volume_store.specs.declared.finding.FoundBook.{FoundBook}
-use Rattle.volume_store.specs.declared.finding.FoundBook.TheVariants.{NeverTold, Open, Closed, Ended}
-use Rattle.volume_store.specs.Told.{told, LeftAreLegal}
+use Rattle.volume_store.specs.Finding.{left_of, found_book, book_at, is_published}
+use Rattle.volume_store.specs.declared.finding.RecoveredBook.{RecoveredBook}
+use Rattle.volume_store.specs.declared.finding.RecoveredBook.TheVariants.{Unpublished, Open, Closed, Ended}
+use Rattle.volume_store.specs.Published.{told, LeftAreLegal}
 use Rattle.volume_store.specs.Folder.{lines_of, IsVolumeAt, HaveEnded, AreVolumesSoFar, behind_ended, goes_on_with}
-use Rattle.volume_store.specs.declared.step.FolderBook.{FolderBook}
-use Rattle.volume_store.specs.declared.step.NextStep.{NextStep}
-use Rattle.volume_store.specs.declared.step.NextStep.TheVariants.{BeginNext}
+use Rattle.volume_store.specs.declared.step.RecoveredFolder.{RecoveredFolder}
+use Rattle.volume_store.specs.declared.step.ResumeStep.{ResumeStep}
+use Rattle.volume_store.specs.declared.step.ResumeStep.TheVariants.{BeginNext}
 use Rattle.volume_store.specs.Volumes.{ended_volume}
 use Rattle.volume_store.specs.Laws.{NextIsItsServers}
-use Rattle.server_core.specs.Live.{LiveState}
+use Rattle.server_core.specs.VolumeWriters.{WriterState}
 use Rattle.server_core.specs.Going.{so_far}
 use Rattle.server_core.specs.Beginning.{HasBook, HasNextBook}
 use Rattle.server_core.specs.Servers.{AllLeaveLines, IsServers}
@@ -49,11 +49,11 @@ use Rattle.server_core.proofs.Keeping.{open_so_far, one_leaves_more}
 record IsFound (v : VolumeSoFar) (j : Journal) : Type 0 where
   count : ℕ
   is : j ≡ record v.journal { lines = take count v.journal.lines }
-  is_told : is_told j.lines ≡ true
+  is_told : is_published j.lines ≡ true
   written : IsWrittenSoFar (so_far j)
 
-abbrev FoundOf : VolumeSoFar → FoundBook → Type 0
-FoundOf v NeverTold = ⊤
+abbrev FoundOf : VolumeSoFar → RecoveredBook → Type 0
+FoundOf v Unpublished = ⊤
 FoundOf v (Open j) = IsFound v j
 FoundOf v (Closed j) = IsFound v j
 FoundOf v (Ended j) = IsFound v j
@@ -63,11 +63,11 @@ at_phase v j GoingOn found = found
 at_phase v j BehindClose found = found
 at_phase v j HasEnded found = found
 
-book_found : (v w : VolumeSoFar) → (is_told w.journal.lines ≡ true → IsFound v w.journal) → FoundOf v (found_book w)
-book_found v w found = by (is_told w.journal.lines) refl
+book_found : (v w : VolumeSoFar) → (is_published w.journal.lines ≡ true → IsFound v w.journal) → FoundOf v (found_book w)
+book_found v w found = by (is_published w.journal.lines) refl
   where
-    by : (b : Bool) → is_told w.journal.lines ≡ b
-        → FoundOf v (if b then book_at w.phase w.journal else NeverTold)
+    by : (b : Bool) → is_published w.journal.lines ≡ b
+        → FoundOf v (if b then book_at w.phase w.journal else Unpublished)
     by true e = at_phase v w.journal w.phase (found e)
     by false e = tt
 
@@ -201,7 +201,7 @@ module _ (spells : GivesTheVolumeItSpells) (parsed : FirstLinesAreParsed) (legal
     (left : LeftAreFirst) (next_law : NextIsItsServers) where
   -- a book that stands in its file is the server's open volume
   has_book : (role : Role) (ended : List VolumeSoFar) (files : List (List Call)) (j : Journal)
-      (names : List NameCall) (v : LiveState) → AreVolumesSoFar role ended (so_far j)
+      (names : List NameCall) (v : WriterState) → AreVolumesSoFar role ended (so_far j)
       → AllLeaveLines files (map text_lines ended) → HasBook j names (length ended + 1) v
       → IsServers role ended files j names v
   has_book role ended files j names v are leave has = record {
@@ -215,7 +215,7 @@ module _ (spells : GivesTheVolumeItSpells) (parsed : FirstLinesAreParsed) (legal
 
   -- and so is one that follows
   has_next : (role : Role) (front : List VolumeSoFar) (files : List (List Call)) (j : Journal) (volumes : ℕ)
-      (names : List NameCall) (v : LiveState) → AreVolumesSoFar role front (ended_volume j)
+      (names : List NameCall) (v : WriterState) → AreVolumesSoFar role front (ended_volume j)
       → AllLeaveLines files (map text_lines (front ++ ended_volume j ∷ []))
       → volumes ≡ length front + 1 → (next : HasNextBook j volumes names v)
       → IsServers role (front ++ ended_volume j ∷ []) files next.next names v
@@ -228,7 +228,7 @@ module _ (spells : GivesTheVolumeItSpells) (parsed : FirstLinesAreParsed) (legal
       leave (subst (λ n. HasBook next.next names n v) (omega (arith, many, size)) next.begun)
 
   module _ (role : Role) (ended : List VolumeSoFar) (files : List (List Call)) (last : VolumeSoFar) (count : ℕ)
-      (names : List NameCall) (v : LiveState) (vs : AreVolumesSoFar role ended last)
+      (names : List NameCall) (v : WriterState) (vs : AreVolumesSoFar role ended last)
       (leave : AllLeaveLines files (map text_lines ended)) where
     -- behind a volume whose last lines are found
     behind : (j : Journal) → IsFound last j → MayRoll j → (next : HasNextBook j (length ended + 1) names v)
@@ -263,7 +263,7 @@ module _ (spells : GivesTheVolumeItSpells) (parsed : FirstLinesAreParsed) (legal
               (subst (λ (es : List VolumeSoFar). AllLeaveLines files (map text_lines es)) all leave) size next),
         )
 
-    never_told : (es : List VolumeSoFar) → ended ≡ es → left_of count last ≡ NeverTold
+    never_told : (es : List VolumeSoFar) → ended ≡ es → left_of count last ≡ Unpublished
         → HasStarted role (behind_ended es) (length es) names v → StartsServers role ended files last count names v
     never_told [] is e has =
         begins has.0 is e (has_book role [] [] has.0 names v
@@ -271,7 +271,7 @@ module _ (spells : GivesTheVolumeItSpells) (parsed : FirstLinesAreParsed) (legal
     never_told (w ∷ ws) is e has =
         let l : HasLast (w ∷ ws) = last_of w ws in
         let started : HasStarted role (BeginNext l.last.journal) (length (w ∷ ws)) names v =
-        subst (λ (s : NextStep). HasStarted role s (length (w ∷ ws)) names v) l.step has in
+        subst (λ (s : ResumeStep). HasStarted role s (length (w ∷ ws)) names v) l.step has in
         let next : HasNextBook l.last.journal (length ended) names v =
         subst (λ (es : List VolumeSoFar). HasNextBook l.last.journal (length es) names v) (sym is) started.1 in
         let found = anew (record {
@@ -282,10 +282,10 @@ module _ (spells : GivesTheVolumeItSpells) (parsed : FirstLinesAreParsed) (legal
         }) next in
         begins_behind found.0 e found.1
 
-    by : (f : FoundBook) → left_of count last ≡ f → FoundOf last f
+    by : (f : RecoveredBook) → left_of count last ≡ f → FoundOf last f
         → HasStarted role (goes_on_with ended f).step (goes_on_with ended f).volumes names v
         → StartsServers role ended files last count names v
-    by NeverTold e found has = never_told ended refl e has
+    by Unpublished e found has = never_told ended refl e has
     by (Open j) e found has =
         goes_on j e (has_book role ended files j names v (with_found legal_law role ended last j vs found) leave has)
     by (Closed j) e found has = follows j has.1.next has.1.ended (inl e) (behind j found has.0 has.1)
@@ -295,4 +295,4 @@ module _ (spells : GivesTheVolumeItSpells) (parsed : FirstLinesAreParsed) (legal
   starts_keep role ended files last count found names v vs leave is has =
       by role ended files last count names v vs leave (left_of count last) refl
       (found_of spells parsed count last vs.more.written)
-      (subst (λ (f : FolderBook). HasStarted role f.step f.volumes names v) is has)
+      (subst (λ (f : RecoveredFolder). HasStarted role f.step f.volumes names v) is has)

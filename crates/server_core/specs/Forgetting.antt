@@ -6,7 +6,7 @@ use Rattle.journal_lines.specs.declared.event.Event.TheVariants.{Send, Take}
 use Rattle.order_book.specs.declared.reply.Reply.{Reply}
 use Rattle.order_book.specs.declared.reply.Reply.TheVariants.{Taken}
 use Rattle.locked_book.specs.declared.receipt.Receipt.{Receipt}
-use Rattle.link_talk.specs.Receipts.{last_taken}
+use Rattle.failover_session.specs.Receipts.{last_taken}
 
 -- ---- serials of the last messages: 0 where there is none
 
@@ -22,24 +22,24 @@ abbrev pub last_sent : List Receipt → ℕ
 last_sent receipts = sent_after 0 receipts
 
 -- a message that was taken wasn't dropped
-abbrev pub is_heeded : Reply → Bool
-is_heeded (Taken Drop) = false
-is_heeded (Taken _) = true
-is_heeded _ = false
+abbrev pub is_applied : Reply → Bool
+is_applied (Taken Drop) = false
+is_applied (Taken _) = true
+is_applied _ = false
 
-abbrev pub heeded_if : Bool → ℕ → Event → ℕ
-heeded_if true last (Take m) = m.serial
-heeded_if heeded last _ = last
+abbrev pub applied_if : Bool → ℕ → Event → ℕ
+applied_if true last (Take m) = m.serial
+applied_if heeded last _ = last
 
-abbrev pub heeded_by : ℕ → Receipt → ℕ
-heeded_by last r = heeded_if (is_heeded r.reply) last r.line.event
+abbrev pub applied_by : ℕ → Receipt → ℕ
+applied_by last r = applied_if (is_applied r.reply) last r.line.event
 
-abbrev pub heeded_after : ℕ → List Receipt → ℕ
-heeded_after last [] = last
-heeded_after last (r ∷ rs) = heeded_after (heeded_by last r) rs
+abbrev pub applied_after : ℕ → List Receipt → ℕ
+applied_after last [] = last
+applied_after last (r ∷ rs) = applied_after (applied_by last r) rs
 
-abbrev pub last_heeded : List Receipt → ℕ
-last_heeded receipts = heeded_after 0 receipts
+abbrev pub last_applied : List Receipt → ℕ
+last_applied receipts = applied_after 0 receipts
 
 -- ---- what is needed
 
@@ -51,7 +51,7 @@ is_needed_by taken sent came heeded _ = false
 
 abbrev pub is_needed : ℕ → List Receipt → Receipt → Bool
 is_needed taken older r =
-    is_needed_by taken (last_sent older) (last_taken older) (last_heeded older) r.line.event
+    is_needed_by taken (last_sent older) (last_taken older) (last_applied older) r.line.event
 
 abbrev pub needed : ℕ → List Receipt → List Receipt
 needed taken older = filter (is_needed taken older) older

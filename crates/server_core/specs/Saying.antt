@@ -5,31 +5,31 @@ use Rattle.binding_rules.specs.declared.role.Role.{Role}
 use Rattle.journal_lines.specs.declared.event.Event.{Event}
 use Rattle.journal_lines.specs.declared.event.Event.TheVariants.{Base, Send}
 use Rattle.locked_book.specs.declared.receipt.Receipt.{Receipt}
-use Rattle.link_talk.specs.declared.outbox.Handed.{Handed}
-use Rattle.link_talk.specs.Handed.{Said, Greets, Sends, said_of, said_by, greeting_kind}
-use Rattle.link_talk.specs.Receipts.{last_taken}
-use Rattle.link_talk.specs.Turning.{TalkState}
+use Rattle.failover_session.specs.declared.outbox.OutboundFrame.{OutboundFrame}
+use Rattle.failover_session.specs.OutboundFrames.{FrameMeaning, Greets, Sends, meanings_of, meaning_of_receipt, greeting_kind}
+use Rattle.failover_session.specs.Receipts.{last_taken}
+use Rattle.failover_session.specs.Polling.{SessionModel}
 
 -- One of these receipts says it by its own line; or it greets the partner by the message that was taken last of the
 -- first of these.
-abbrev pub IsBacked : List Receipt → Said → Type 0
+abbrev pub IsBacked : List Receipt → FrameMeaning → Type 0
 IsBacked receipts (Sends number message) =
     (r : Receipt) × (front : List Receipt) × (back : List Receipt) × (receipts ≡ front ++ r ∷ back)
-    × (said_by r ≡ Some (Sends number message))
+    × (meaning_of_receipt r ≡ Some (Sends number message))
 IsBacked receipts (Greets kind) =
     (role : Role) × (had : List Receipt) × (later : List Receipt) × (receipts ≡ had ++ later)
     × (kind ≡ greeting_kind role (last_taken had))
 
 -- all that frames say
-abbrev pub AreBacked : List Receipt → List Handed → Type 0
-AreBacked receipts frames = AllByRecursion (IsBacked receipts) (said_of frames)
+abbrev pub AreBacked : List Receipt → List OutboundFrame → Type 0
+AreBacked receipts frames = AllByRecursion (IsBacked receipts) (meanings_of frames)
 
 -- of a talk, if there is one
-abbrev pub IsTalkBacked : List Receipt → Option TalkState → Type 0
+abbrev pub IsTalkBacked : List Receipt → Option SessionModel → Type 0
 IsTalkBacked receipts talk = IfSome talk (λ t. AreBacked receipts t.handed)
 
 -- the frames that a talk hands out, if there is one
-abbrev pub handed_of : Option TalkState → List Handed
+abbrev pub handed_of : Option SessionModel → List OutboundFrame
 handed_of None = []
 handed_of (Some t) = t.handed
 

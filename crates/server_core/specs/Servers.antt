@@ -10,7 +10,7 @@ use Rattle.open_volume.specs.declared.volume.VolumeSoFar.{VolumeSoFar}
 use Rattle.open_volume.specs.Spelling.{text_lines}
 use Rattle.volume_store.specs.Folder.{AreVolumesSoFar}
 use Rattle.volume_store.specs.Laws.{AreServersContents}
-use Rattle.server_core.specs.Live.{LiveState}
+use Rattle.server_core.specs.VolumeWriters.{WriterState}
 use Rattle.server_core.specs.Going.{so_far}
 
 -- whatever a loss of power leaves of the file are these lines
@@ -28,7 +28,7 @@ AllLeaveLines (file ∷ files) [] = ⊥
 -- each earlier one stands in its file; the open one is on the disk, and so are the names of the files.
 pub record IsServers
     (role : Role) (earlier : List VolumeSoFar) (files : List (List Call)) (j : Journal)
-    (names : List NameCall) (v : LiveState) : Type 0 where
+    (names : List NameCall) (v : WriterState) : Type 0 where
   pub are : AreVolumesSoFar role earlier (so_far j)
   pub ended : AllLeaveLines files (map text_lines earlier)
   pub has : HasSettled v.calls (text_lines (so_far j))

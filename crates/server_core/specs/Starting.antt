@@ -8,19 +8,19 @@ use Rattle.order_book.specs.NextBook.{MayRoll}
 use Rattle.open_volume.specs.declared.volume.VolumeSoFar.{VolumeSoFar}
 use Rattle.open_volume.specs.Spelling.{text_lines}
 use Rattle.volume_store.specs.Finding.{left_of}
-use Rattle.volume_store.specs.declared.finding.FoundBook.TheVariants.{NeverTold, Open, Closed, Ended}
+use Rattle.volume_store.specs.declared.finding.RecoveredBook.TheVariants.{Unpublished, Open, Closed, Ended}
 use Rattle.volume_store.specs.Folder.{AreVolumesSoFar, goes_on_with}
-use Rattle.volume_store.specs.declared.step.FolderBook.{FolderBook}
-use Rattle.volume_store.specs.declared.step.NextStep.{NextStep}
-use Rattle.volume_store.specs.declared.step.NextStep.TheVariants.{BeginFirst, GoOn, End, BeginNext}
+use Rattle.volume_store.specs.declared.step.RecoveredFolder.{RecoveredFolder}
+use Rattle.volume_store.specs.declared.step.ResumeStep.{ResumeStep}
+use Rattle.volume_store.specs.declared.step.ResumeStep.TheVariants.{BeginFirst, GoOn, End, BeginNext}
 use Rattle.volume_store.specs.Volumes.{going_on, ended_volume}
-use Rattle.server_core.specs.Live.{LiveState}
+use Rattle.server_core.specs.VolumeWriters.{WriterState}
 use Rattle.server_core.specs.Beginning.{HasBook, HasNextBook}
 use Rattle.server_core.specs.Servers.{AllLeaveLines, IsServers}
 
 -- What stands on the disk behind a start, by the step to which so many volumes led: a first volume; the one that goes
 -- on, as it was found; or a next one behind one that has ended.
-abbrev pub HasStarted : Role → NextStep → ℕ → List NameCall → LiveState → Type 0
+abbrev pub HasStarted : Role → ResumeStep → ℕ → List NameCall → WriterState → Type 0
 HasStarted role BeginFirst volumes names v =
     (j : Journal) × AreVolumesSoFar role [] (going_on j) × HasBook j names 1 v
 HasStarted role (GoOn j) volumes names v = HasBook j names volumes v
@@ -30,10 +30,10 @@ HasStarted role (BeginNext j) volumes names v = MayRoll j × HasNextBook j volum
 -- A server's volumes that have ended, and the first so many lines of the last one, which may not be there: with these a
 -- server of the same volumes starts. Where nobody was told of the last one, it may be another one that begins.
 pub data StartsServers (role : Role) (ended : List VolumeSoFar) (files : List (List Call)) (last : VolumeSoFar)
-    (count : ℕ) (names : List NameCall) (v : LiveState) : Type 0 where
-  begins : (j : Journal) → ended ≡ [] → left_of count last ≡ NeverTold → IsServers role [] [] j names v
+    (count : ℕ) (names : List NameCall) (v : WriterState) : Type 0 where
+  begins : (j : Journal) → ended ≡ [] → left_of count last ≡ Unpublished → IsServers role [] [] j names v
       → StartsServers role ended files last count names v
-  begins_behind : (next : Journal) → left_of count last ≡ NeverTold → IsServers role ended files next names v
+  begins_behind : (next : Journal) → left_of count last ≡ Unpublished → IsServers role ended files next names v
       → StartsServers role ended files last count names v
   goes_on : (j : Journal) → left_of count last ≡ Open j → IsServers role ended files j names v
       → StartsServers role ended files last count names v
@@ -45,7 +45,7 @@ pub data StartsServers (role : Role) (ended : List VolumeSoFar) (files : List (L
 -- A start that did what its folder led to begins with the server's volumes.
 abbrev pub StartsKeep : Type 0
 StartsKeep = (role : Role) (ended : List VolumeSoFar) (files : List (List Call)) (last : VolumeSoFar) (count : ℕ)
-    (found : FolderBook) (names : List NameCall) (v : LiveState)
+    (found : RecoveredFolder) (names : List NameCall) (v : WriterState)
     → AreVolumesSoFar role ended last → AllLeaveLines files (map text_lines ended)
     → found ≡ goes_on_with ended (left_of count last) → HasStarted role found.step found.volumes names v
     → StartsServers role ended files last count names v

@@ -11,7 +11,7 @@ use volume_store::{BeginVolumeError, PutError, ReopenError, RollError};
 
 /// Why the lines of a book aren't settled. The server has to stop: what it held back is never told.
 #[derive(Clone, Copy, Debug, PartialEq, Eq, Error)]
-pub enum SettleError {
+pub enum VolumeCommitError {
     /// The lines weren't put to the file.
     #[error("the journal isn't written: {0}")]
     Put(PutError),
@@ -37,7 +37,7 @@ pub enum RollFault<D> {
     /// The book doesn't take its close line.
     NotClosed(ServeError),
     /// The rules let no volume follow, or the book isn't the one whose lines the file has.
-    Barred,
+    Blocked,
     /// The volume wasn't ended, or the next one wasn't begun.
     NotRolled(RollError<D>),
     /// A growth was refused.

@@ -1,8 +1,8 @@
 //! Which receipts of older volumes are still needed.
 
 ghost use Rattle.std.specs.Prelude.{◌≡◌, ◌≤◌, ◌++◌, IfOk, OnOk, OnErr, length, take, drop, vec_len, vec_capacity};
-ghost use Rattle.link_talk.specs.Receipts.{taken_by, last_taken};
-ghost use Rattle.server_core.specs.Forgetting.{sent_by, heeded_by, last_sent, last_heeded, is_heeded, is_needed_by};
+ghost use Rattle.failover_session.specs.Receipts.{taken_by, last_taken};
+ghost use Rattle.server_core.specs.Forgetting.{sent_by, applied_by, last_sent, last_applied, is_applied, is_needed_by};
 ghost use Rattle.server_core.specs.Forgetting.{needed, first_sent};
 
 use binding_rules::{Counter, Outcome};
@@ -19,12 +19,12 @@ struct LastMessages {
     /// The last one that was taken.
     taken: Counter,
     /// The last one that was taken and not dropped: it had the book's term.
-    heeded: Counter,
+    applied: Counter,
 }
 
 /// Returns whether a message that was taken wasn't dropped.
-fn is_heeded(reply: &Reply) -> bool
-    ensures { result ≡ is_heeded reply.now }
+fn is_applied(reply: &Reply) -> bool
+    ensures { result ≡ is_applied reply.now }
 {
     matches!(reply, Reply::Taken(Outcome::Accept | Outcome::Reject))
 }
@@ -33,14 +33,14 @@ impl LastMessages {
     fn note(&mut self, receipt: &Receipt)
         ensures sent { self.new.sent ≡ sent_by self.old.sent receipt.now.line.event }
         ensures taken { self.new.taken ≡ taken_by self.old.taken receipt.now.line.event }
-        ensures heeded { self.new.heeded ≡ heeded_by self.old.heeded receipt.now }
+        ensures heeded { self.new.applied ≡ applied_by self.old.applied receipt.now }
     {
         match &receipt.line.event {
             Event::Send(message) => self.sent = message.serial,
             Event::Take(message) => {
                 self.taken = message.serial;
-                if is_heeded(&receipt.reply) {
-                    self.heeded = message.serial;
+                if is_applied(&receipt.reply) {
+                    self.applied = message.serial;
                 }
             }
             _ => {}
@@ -51,12 +51,12 @@ impl LastMessages {
     fn of(receipts: &[Receipt]) -> LastMessages
         ensures sent { result.sent ≡ last_sent receipts.now }
         ensures taken { result.taken ≡ last_taken receipts.now }
-        ensures heeded { result.heeded ≡ last_heeded receipts.now }
+        ensures heeded { result.applied ≡ last_applied receipts.now }
     {
         let mut last = LastMessages {
             sent: Counter::ZERO,
             taken: Counter::ZERO,
-            heeded: Counter::ZERO,
+            applied: Counter::ZERO,
         };
         for receipt in receipts {
             last.note(receipt);
@@ -66,12 +66,12 @@ impl LastMessages {
 
     /// Returns whether a receipt is needed where the partner has taken all messages up to a serial.
     fn needs(&self, taken: Counter, receipt: &Receipt) -> bool
-        ensures { result ≡ is_needed_by taken self.now.sent self.now.taken self.now.heeded receipt.now.line.event }
+        ensures { result ≡ is_needed_by taken self.now.sent self.now.taken self.now.applied receipt.now.line.event }
     {
         match &receipt.line.event {
             Event::Send(message) => message.serial > taken || message.serial == self.sent,
             Event::Take(message) => {
-                message.serial == self.taken || message.serial == self.heeded
+                message.serial == self.taken || message.serial == self.applied
             }
             _ => false,
         }

@@ -1,6 +1,6 @@
 //! The laws of a settle, of a roll and of a start.
 
-ghost use Rattle.server_core.specs.Laws.{SettlesKeep, RollsKeep};
+ghost use Rattle.server_core.specs.Laws.{CommitsKeep, RollsKeep};
 ghost use Rattle.server_core.specs.Starting.{StartsKeep};
 
 use disk_model::left_are_first;
@@ -9,8 +9,8 @@ use volume_store::{left_are_legal, next_is_its_servers};
 
 /// Behind a settle the volumes are the same server's, and at each moment meanwhile a loss of power leaves contents of
 /// its folder: what was on the disk before is among them.
-pub fn a_settle_keeps_a_servers()
-    ensures { SettlesKeep }
+pub fn commit_keeps_volumes()
+    ensures { CommitsKeep }
 {
     first_lines_are_parsed();
     text_gives_the_volume_it_spells();
@@ -20,7 +20,7 @@ pub fn a_settle_keeps_a_servers()
 
 /// Behind a roll the volumes are the same server's, the one that was closed among those that have ended; and at each
 /// moment meanwhile a loss of power leaves contents of its folder.
-pub fn a_roll_keeps_a_servers()
+pub fn roll_keeps_volumes()
     ensures { RollsKeep }
 {
     first_lines_are_parsed();
@@ -31,7 +31,7 @@ pub fn a_roll_keeps_a_servers()
 }
 
 /// A start that did what its folder led to begins with the volumes of the server whose volumes were left there.
-pub fn a_start_keeps_a_servers()
+pub fn start_keeps_volumes()
     ensures { StartsKeep }
 {
     first_lines_are_parsed();

@@ -2,22 +2,22 @@
 //!
 //! A server's book with a receipt for each of its lines, as its one thread serves clients and its partner by it.
 //!
-//! A [`ServedBook`] is the book of the volume that is written now, the receipts of its lines, and before them those of
+//! A [`ReceiptBook`] is the book of the volume that is written now, the receipts of its lines, and before them those of
 //! lines of older volumes, as far as they are kept: what was sent to the partner and not taken yet is found in these.
-//! [`Served`] gives it orders, as a [`Service`](client_service::Service) for clients and as a
-//! [`PairBook`](link_talk::PairBook) for the talk with the partner: both see the same receipts.
+//! [`ReceiptBookAccess`] gives it orders, as a [`BookService`](client_service::BookService) for clients and as a
+//! [`PairBook`](failover_session::PairBook) for the talk with the partner: both see the same receipts.
 //!
 //! ```text
-//! let mut book = ServedBook::new(alloc, book, Vec::new(alloc))?;
-//! let told = answer_to(alloc, &Served, &mut book, &own, Partner::Up, &permits, now, &message, peer);
-//! talk.turn(&Served, &mut book, &settings, now, &came)?;
+//! let mut book = ReceiptBook::new(alloc, book, Vec::new(alloc))?;
+//! let told = answer_to(alloc, &ReceiptBookAccess, &mut book, &own, PartnerAvailability::Up, &permits, now, &message, peer);
+//! talk.turn(&ReceiptBookAccess, &mut book, &settings, now, &came)?;
 //! for receipt in &book.receipts()[written..] { volume.append(&receipt.line)?; }
 //! ```
 //!
 //! A server that runs, without sockets, clocks or threads: what it hears, what it holds back, and what may leave.
 //!
-//! A [`Running`] server owns its book, the file of the open volume and the folder. Datagrams and the partner's octets
-//! are heard one after the other; their answers and frames are held back. [`Running::settle`] puts all new lines to the
+//! A [`ServerCore`] server owns its book, the file of the open volume and the folder. Datagrams and the partner's octets
+//! are heard one after the other; their answers and frames are held back. [`ServerCore::commit`] puts all new lines to the
 //! file by one write and one sync, and only then gives what may leave. So whatever was ever told stands in what any
 //! loss of power leaves.
 //!
@@ -31,25 +31,25 @@
 #![tactic(auto)]
 
 mod book;
+mod committed_output;
+mod datagram_outcome;
 mod error;
 mod forgetting;
-mod heard;
 mod laws;
-mod leaving;
 mod link;
-mod live_volume;
 mod making;
 mod rolling;
-mod running;
 mod served;
+mod server;
 mod starting;
+mod volume_writer;
 
-pub use book::ServedBook;
-pub use error::{BeginFault, EndFault, RollFault, SettleError};
-pub use heard::Heard;
-pub use laws::{a_roll_keeps_a_servers, a_settle_keeps_a_servers, a_start_keeps_a_servers};
-pub use leaving::{HeldAnswer, Leaving};
-pub use live_volume::{LiveVolume, Unsettled};
-pub use running::{Running, Settled};
-pub use served::Served;
-pub use starting::{Beginning, end, first, follow, go_on, restarted, server_of};
+pub use book::ReceiptBook;
+pub use committed_output::{CommittedOutput, HeldAnswer};
+pub use datagram_outcome::DatagramOutcome;
+pub use error::{BeginFault, EndFault, RollFault, VolumeCommitError};
+pub use laws::{commit_keeps_volumes, roll_keeps_volumes, start_keeps_volumes};
+pub use served::ReceiptBookAccess;
+pub use server::{Committed, ServerCore};
+pub use starting::{StartContext, end, first, follow, go_on, restarted, server_of};
+pub use volume_writer::{CommitFailure, VolumeWriter};

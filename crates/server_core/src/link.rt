@@ -4,15 +4,15 @@ ghost use Rattle.std.specs.Prelude.{◌≡◌, ◌≤◌, ◌↔◌, IsTrue, Lis
 ghost use Rattle.server_core.specs.Served.{receipts_in};
 ghost use Rattle.server_core.specs.Saying.{sent_before};
 ghost use Rattle.locked_book.specs.declared.receipt.Receipt.{Receipt as ReceiptValue};
-ghost use Rattle.server_core.specs.Live.{Grows};
+ghost use Rattle.server_core.specs.VolumeWriters.{Grows};
 
-use crate::live_volume::LiveVolume;
-use crate::running::Running;
+use crate::server::ServerCore;
+use crate::volume_writer::VolumeWriter;
 use binding_rules::Counter;
 use disk_model::{Device, Folder};
+use failover_session::{FailoverSession, LinkInput, SessionError, SessionStage};
 use journal_lines::Event;
 use lead_time::Reading;
-use link_talk::{Came, Stage, Talk, TalkError};
 use locked_book::Receipt;
 use server_settings::Settings;
 
@@ -33,25 +33,27 @@ fn sent_before(receipts: &[Receipt]) -> u64
 }
 
 /// Forgets receipts of older volumes, up to the message that the partner named.
-fn forget_by<D: Device>(volume: &mut LiveVolume<D>, stage: &Stage)
+fn forget_by<D: Device>(volume: &mut VolumeWriter<D>, stage: &SessionStage)
     ensures journal { volume.new.served.journal ≡ volume.old.served.journal }
     ensures file { (volume.new.kept ≡ volume.old.kept) × (volume.new.calls ≡ volume.old.calls) }
 {
     match stage {
-        Stage::Joined { last } | Stage::Ended { named: Some(last) } => volume.forget(*last),
-        Stage::Greeting | Stage::Refused | Stage::Ended { named: None } => {}
+        SessionStage::Joined { last } | SessionStage::Ended { named: Some(last) } => volume.forget(
+            *last,
+        ),
+        SessionStage::Greeting | SessionStage::Refused | SessionStage::Ended { named: None } => {}
     }
 }
 
-impl<F: Folder + Drop, P: Drop> Running<F, P>
+impl<F: Folder + Drop, P: Drop> ServerCore<F, P>
 where
     F::File: Drop,
 {
     /// A connection with the partner begins: the primary's greeting is held back.
-    pub fn meet(&mut self, settings: &Settings) -> Result<(), TalkError>
+    pub fn connect_partner(&mut self, settings: &Settings) -> Result<(), SessionError>
         ensures { self.new ≡ record self.old { talk = self.new.talk } }
     {
-        let mut talk = Talk::new(self.alloc);
+        let mut talk = FailoverSession::new(self.alloc);
         match self.volume.greet(&mut talk, settings) {
             Ok(()) => {
                 self.talk = Some(talk);
@@ -65,26 +67,26 @@ where
     }
 
     /// Takes what came over the connection, does what follows from it, and holds back what is to be said
-    /// (`link_talk::Talk::turn`). Where there is no connection, nothing is done. After an error the connection has to
+    /// (`failover_session::FailoverSession::poll`). Where there is no connection, nothing is done. After an error the connection has to
     /// be ended, once what was held back has left.
-    pub fn heed(
+    pub fn handle_input(
         &mut self,
         settings: &Settings,
         read: Reading,
-        came: &Came<'_>,
-    ) -> Result<(), TalkError>
+        came: &LinkInput<'_>,
+    ) -> Result<(), SessionError>
         ensures grows { (added : List ReceiptValue) × Grows self.old.volume self.new.volume added }
         ensures rest { self.new ≡ record self.old { volume = self.new.volume; talk = self.new.talk } }
     {
         match &mut self.talk {
-            Some(talk) => self.volume.turn(talk, settings, read, came),
+            Some(talk) => self.volume.poll(talk, settings, read, came),
             None => Ok(()),
         }
     }
 
     /// The connection has ended. What was held back for it isn't said. Where no answer is held back, receipts of older
     /// volumes are forgotten, up to the message that the partner named as the last that it took.
-    pub fn part(&mut self)
+    pub fn disconnect_partner(&mut self)
         ensures talk { self.new.talk ≡ None }
         ensures journal { self.new.volume.served.journal ≡ self.old.volume.served.journal }
         ensures file { (self.new.volume.kept ≡ self.old.volume.kept) × (self.new.volume.calls ≡ self.old.volume.calls) }
@@ -104,14 +106,14 @@ where
     /// Returns whether its receipts say all that was sent above a serial. A partner that took no more than one below
     /// can't be told all again: of older volumes it had said before that it took them, or they weren't read at the
     /// start.
-    pub fn has_all_above(&self, last: Counter) -> bool
+    pub fn can_resend_above(&self, last: Counter) -> bool
         ensures { IsTrue result ↔ (sent_before (receipts_in self.now.volume.served) ≤ last) }
     {
         sent_before(self.volume.served.receipts()) <= last.number()
     }
 
     /// How far the two ends of the connection have come; none where there is no connection.
-    pub fn stage(&self) -> Option<Stage> {
+    pub fn stage(&self) -> Option<SessionStage> {
         self.talk.as_ref().map(|talk| talk.stage())
     }
 }

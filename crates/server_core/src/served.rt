@@ -2,26 +2,26 @@
 
 ghost use Rattle.std.specs.Prelude.{◌≡◌, ◌++◌, ◌∷◌, [], None, IfOk, OnErr, List};
 ghost use Rattle.client_service.specs.Lines.{receipts_of};
-ghost use Rattle.link_talk.specs.Receipts.{IsNamedBy};
+ghost use Rattle.failover_session.specs.Receipts.{IsNamedBy};
 ghost use Rattle.locked_book.specs.declared.receipt.Receipt.{Receipt as ReceiptValue};
-ghost use Rattle.locked_book.specs.Serving.{IsPassServed, IsShown, last_receipt};
+ghost use Rattle.locked_book.specs.Serving.{IsPassServed, HasItsReceipt, last_receipt};
 ghost use Rattle.order_book.specs.Replayed.{IsLegal};
 ghost use Rattle.server_core.specs.Served.{receipts_in};
 
-use crate::book::ServedBook;
-use client_service::{RenewTerms, Service, Standing, standing_of};
+use crate::book::ReceiptBook;
+use client_service::{BookService, ReusableLease, ReuseTerms, find_reusable_lease};
+use failover_session::{PairBook, Receipts};
 use lead_time::Reading;
-use link_talk::{PairBook, Receipts};
-use locked_book::{Look, Receipt, ServeError, Work, look_at, work_at};
+use locked_book::{Look, PendingWork, Receipt, ServeError, look_at, work_at};
 use order_book::{BookError, Order};
 use prefix_range::Prefix;
 
 /// Gives orders to a served book, which is its own pass.
 #[derive(Clone, Copy, Debug)]
-pub struct Served;
+pub struct ReceiptBookAccess;
 
 /// Does what is ordered.
-fn serve(book: &mut ServedBook, now: Reading, order: &Order) -> Result<Receipt, ServeError>
+fn serve(book: &mut ReceiptBook, now: Reading, order: &Order) -> Result<Receipt, ServeError>
     ensures added { IfOk result (λ r. receipts_in book.new ≡ receipts_in book.old ++ r ∷ []) }
     ensures served { IsPassServed book.old.journal None now order.now result }
     ensures named { IfOk result (λ r. IsNamedBy order.now r.line) }
@@ -36,8 +36,8 @@ fn serve(book: &mut ServedBook, now: Reading, order: &Order) -> Result<Receipt, 
 
 /// Refuses a book that hasn't the line of its last receipt: one without a line, behind receipts of older volumes.
 #[tactic(auto, using(crate::proofs::Shown::last_is_own))]
-fn show(book: &ServedBook) -> Result<(), ServeError>
-    ensures shown { IsShown book.now.journal.lines (last_receipt (receipts_in book.now)) result }
+fn show(book: &ReceiptBook) -> Result<(), ServeError>
+    ensures shown { HasItsReceipt book.now.journal.lines (last_receipt (receipts_in book.now)) result }
     ensures legal { IsLegal book.now.journal }
 {
     if !book.book().journal().is_empty() {
@@ -52,8 +52,8 @@ fn show(book: &ServedBook) -> Result<(), ServeError>
     }
 }
 
-impl Service for Served {
-    type Pass = ServedBook;
+impl BookService for ReceiptBookAccess {
+    type Pass = ReceiptBook;
 
     ghost receipts = { λ b. receipts_in b };
 
@@ -61,7 +61,7 @@ impl Service for Served {
 
     fn serve(
         &self,
-        pass: &mut ServedBook,
+        pass: &mut ReceiptBook,
         now: Reading,
         order: &Order,
     ) -> Result<Receipt, ServeError> {
@@ -73,7 +73,7 @@ impl Service for Served {
 
     fn offer(
         &self,
-        pass: &mut ServedBook,
+        pass: &mut ReceiptBook,
         now: Reading,
         order: &Order,
     ) -> Result<(Prefix, u32), ServeError> {
@@ -88,7 +88,7 @@ impl Service for Served {
 
     fn first_to_seize(
         &self,
-        pass: &mut ServedBook,
+        pass: &mut ReceiptBook,
         now: Reading,
     ) -> Result<Option<Prefix>, ServeError> {
         match show(pass) {
@@ -97,24 +97,24 @@ impl Service for Served {
         }
     }
 
-    fn recall(
+    fn reusable_lease(
         &self,
-        pass: &ServedBook,
-        terms: &RenewTerms,
+        pass: &ReceiptBook,
+        terms: &ReuseTerms,
         now: Reading,
         order: &Order,
-    ) -> Result<Option<Standing>, ServeError> {
+    ) -> Result<Option<ReusableLease>, ServeError> {
         if let Err(refusal) = show(pass) {
             return Err(refusal);
         }
-        match standing_of(pass.book(), terms, now, order) {
+        match find_reusable_lease(pass.book(), terms, now, order) {
             Ok(found) => Ok(found),
             Err(error) => Err(ServeError::Book(error)),
         }
     }
 }
 
-impl Receipts for ServedBook {
+impl Receipts for ReceiptBook {
     ghost receipts = { λ b. receipts_in b };
 
     ghost shown = { λ b. None };
@@ -124,12 +124,12 @@ impl Receipts for ServedBook {
     }
 }
 
-impl PairBook for Served {
-    type Pass = ServedBook;
+impl PairBook for ReceiptBookAccess {
+    type Pass = ReceiptBook;
 
     fn serve(
         &self,
-        pass: &mut ServedBook,
+        pass: &mut ReceiptBook,
         now: Reading,
         order: &Order,
     ) -> Result<Receipt, ServeError> {
@@ -139,14 +139,14 @@ impl PairBook for Served {
 
     fn work_from(
         &self,
-        pass: &mut ServedBook,
+        pass: &mut ReceiptBook,
         now: Reading,
         from: u128,
-    ) -> Result<Work, ServeError> {
+    ) -> Result<PendingWork, ServeError> {
         work_at(pass.book(), None, now, from)
     }
 
-    fn look(&self, pass: &mut ServedBook, prefix: Prefix) -> Result<Look, ServeError> {
+    fn look(&self, pass: &mut ReceiptBook, prefix: Prefix) -> Result<Look, ServeError> {
         look_at(pass.book(), None, prefix)
     }
 }

@@ -17,23 +17,23 @@ ghost use Rattle.server_core.specs.Beginning.{Begins, BeginsBehind, HasBook, Has
 ghost use Rattle.open_volume.specs.Spelling.{IsWrittenSoFar};
 ghost use Rattle.volume_store.specs.Volumes.{going_on, HasVolume};
 
-use crate::book::ServedBook;
+use crate::book::ReceiptBook;
 use crate::error::BeginFault;
-use crate::live_volume::LiveVolume;
 use crate::rolling::rolled;
-use crate::running::Running;
-use client_service::RenewTerms;
+use crate::server::ServerCore;
+use crate::volume_writer::VolumeWriter;
+use client_service::ReuseTerms;
 use disk_model::Folder;
 use lead_time::Reading;
 use locked_book::Receipt;
 use order_book::{Book, Order};
 use server_settings::Settings;
 use std::alloc::Global;
-use volume_store::{Begun, begin_first, begin_next, reopen, reopen_ended};
+use volume_store::{BegunVolume, begin_first, begin_next, reopen, reopen_ended};
 
 /// What a server begins by: its settings, what its clock reads, and the receipts of volumes before the last one.
 #[derive(Drop)]
-pub struct Beginning<'a> {
+pub struct StartContext<'a> {
     pub alloc: Global,
     pub settings: &'a Settings,
     pub now: Reading,
@@ -43,10 +43,10 @@ pub struct Beginning<'a> {
 }
 
 /// By what a server of these settings tells grants again.
-fn terms_of(settings: &Settings, renew_floor: u32) -> RenewTerms
+fn terms_of(settings: &Settings, renew_floor: u32) -> ReuseTerms
     ensures { result ≡ terms_of settings.now renew_floor }
 {
-    RenewTerms {
+    ReuseTerms {
         floor: renew_floor,
         skew: settings.skew(),
         transit: settings.transit(),
@@ -60,8 +60,8 @@ pub fn server_of<F: Folder + Drop, P: Drop>(
     settings: &Settings,
     renew_floor: u32,
     folder: F,
-    volume: LiveVolume<F::File>,
-) -> Running<F, P>
+    volume: VolumeWriter<F::File>,
+) -> ServerCore<F, P>
 where
     F::File: Drop,
     requires { AreSettled (F.calls folder) }
@@ -75,15 +75,15 @@ where
     } }
 {
     let terms = terms_of(settings, renew_floor);
-    Running::new(alloc, *settings.duid(), terms, folder, volume)
+    ServerCore::new(alloc, *settings.duid(), terms, folder, volume)
 }
 
 /// The server of a volume that was begun behind these receipts.
 fn begun<F: Folder + Drop, P: Drop>(
-    with: Beginning<'_>,
+    with: StartContext<'_>,
     folder: F,
-    begun: Begun<F::File>,
-) -> Result<Running<F, P>, BeginFault<F::File>>
+    begun: BegunVolume<F::File>,
+) -> Result<ServerCore<F, P>, BeginFault<F::File>>
 where
     F::File: Drop,
     requires names { AreSettled (F.calls folder) }
@@ -94,18 +94,18 @@ where
     ensures terms { IfOk result (λ r. r.terms ≡ terms_of with.entry.settings.now with.entry.renew_floor) }
     ensures has { IfOk result (λ r. HasBook begun.book r.names (names_after (F.calls folder)).files r.volume) }
 {
-    let Begun { book, file } = begun;
+    let BegunVolume { book, file } = begun;
     let kept = book.journal().len();
-    let served = ServedBook::new(with.alloc, book, with.older)?;
-    let volume = LiveVolume::new(served, file, kept);
+    let served = ReceiptBook::new(with.alloc, book, with.older)?;
+    let volume = VolumeWriter::new(served, file, kept);
     Ok(server_of(with.alloc, with.settings, with.renew_floor, folder, volume))
 }
 
 /// Opens the first book of a server, and begins its first volume in a folder that has no file.
 pub fn first<F: Folder + Drop, P: Drop>(
-    with: Beginning<'_>,
+    with: StartContext<'_>,
     mut folder: F,
-) -> Result<Running<F, P>, BeginFault<F::File>>
+) -> Result<ServerCore<F, P>, BeginFault<F::File>>
 where
     F::File: Drop,
     requires names { AreSettled (F.calls folder) }
@@ -125,12 +125,12 @@ where
 
 /// Goes on with a book whose last line, `restart`, its file lacks, which was opened and held this content.
 pub fn go_on<F: Folder + Drop, P: Drop>(
-    with: Beginning<'_>,
+    with: StartContext<'_>,
     folder: F,
     book: Book,
     file: F::File,
     content: &[u8],
-) -> Result<Running<F, P>, BeginFault<F::File>>
+) -> Result<ServerCore<F, P>, BeginFault<F::File>>
 where
     F::File: Drop,
     requires names { AreSettled (F.calls folder) }
@@ -145,8 +145,8 @@ where
     let lines = book.journal().len();
     match reopen(with.alloc, file, content, &book, lines) {
         Ok(file) => {
-            let served = ServedBook::new(with.alloc, book, with.older)?;
-            let volume = LiveVolume::new(served, file, lines - 1);
+            let served = ReceiptBook::new(with.alloc, book, with.older)?;
+            let volume = VolumeWriter::new(served, file, lines - 1);
             Ok(server_of(with.alloc, with.settings, with.renew_floor, folder, volume))
         }
         Err(error) => Err(BeginFault::NotReopened(error)),
@@ -155,12 +155,12 @@ where
 
 /// Ends the volume of a closed book, whose file was opened and held this content, and goes on with the next one.
 pub fn end<F: Folder + Drop, P: Drop>(
-    with: Beginning<'_>,
+    with: StartContext<'_>,
     mut folder: F,
     book: Book,
     file: F::File,
     content: &[u8],
-) -> Result<Running<F, P>, BeginFault<F::File>>
+) -> Result<ServerCore<F, P>, BeginFault<F::File>>
 where
     F::File: Drop,
     requires names { AreSettled (F.calls folder) }
@@ -175,8 +175,8 @@ where
         Ok(file) => file,
         Err(error) => return Err(BeginFault::NotReopened(error)),
     };
-    let served = ServedBook::new(with.alloc, book, with.older)?;
-    let volume = LiveVolume::new(served, file, lines);
+    let served = ReceiptBook::new(with.alloc, book, with.older)?;
+    let volume = VolumeWriter::new(served, file, lines);
     match rolled(with.alloc, &mut folder, volume, with.now) {
         Ok(volume) => Ok(server_of(with.alloc, with.settings, with.renew_floor, folder, volume)),
         Err(fault) => Err(BeginFault::NotRolled(fault)),
@@ -185,12 +185,12 @@ where
 
 /// Goes on behind a closed book, whose volume has ended in its file, which was opened and held this content.
 pub fn follow<F: Folder + Drop, P: Drop>(
-    with: Beginning<'_>,
+    with: StartContext<'_>,
     mut folder: F,
     book: Book,
     file: F::File,
     content: &[u8],
-) -> Result<Running<F, P>, BeginFault<F::File>>
+) -> Result<ServerCore<F, P>, BeginFault<F::File>>
 where
     F::File: Drop,
     requires names { AreSettled (F.calls folder) }
@@ -206,10 +206,10 @@ where
         Err(error) => return Err(BeginFault::NotReopened(error)),
     };
     match begin_next(with.alloc, &mut folder, &last, &book, with.now) {
-        Ok(Begun { book: next, file }) => {
+        Ok(BegunVolume { book: next, file }) => {
             let kept = next.journal().len();
-            let served = ServedBook::new(with.alloc, book, with.older)?.follow(next)?;
-            let volume = LiveVolume::new(served, file, kept);
+            let served = ReceiptBook::new(with.alloc, book, with.older)?.follow(next)?;
+            let volume = VolumeWriter::new(served, file, kept);
             Ok(server_of(with.alloc, with.settings, with.renew_floor, folder, volume))
         }
         Err(error) => Err(BeginFault::NotBegun(error)),
@@ -220,8 +220,8 @@ where
 /// answer then.
 pub fn restarted<F: Folder + Drop, P: Drop>(
     now: Reading,
-    mut running: Running<F, P>,
-) -> Result<Running<F, P>, BeginFault<F::File>>
+    mut running: ServerCore<F, P>,
+) -> Result<ServerCore<F, P>, BeginFault<F::File>>
 where
     F::File: Drop,
     ensures restarts { IfOk result (λ r. (receipt : ReceiptValue)

@@ -9,19 +9,19 @@ use Rattle.order_book.specs.declared.order.Order.TheVariants.{Restart}
 use Rattle.order_book.specs.Replayed.{state_of, with_line}
 use Rattle.order_book.specs.Answer.{reading_of, next_line, IsFirstRefusal}
 use Rattle.order_book.specs.NextBook.{MayRoll}
-use Rattle.volume_store.specs.declared.step.NextStep.{NextStep}
-use Rattle.volume_store.specs.declared.step.NextStep.TheVariants.{BeginFirst, GoOn as GoOnWith, BeginNext}
-use Rattle.volume_store.specs.declared.step.NextStep.TheVariants.{End as EndOf}
-use Rattle.server_start.specs.declared.setting.Setting.{Setting}
+use Rattle.volume_store.specs.declared.step.ResumeStep.{ResumeStep}
+use Rattle.volume_store.specs.declared.step.ResumeStep.TheVariants.{BeginFirst, GoOn as GoOnWith, BeginNext}
+use Rattle.volume_store.specs.declared.step.ResumeStep.TheVariants.{End as EndOf}
+use Rattle.server_start.specs.declared.setting.FixedSetting.{FixedSetting}
 use Rattle.server_start.specs.declared.error.StartError.{StartError}
 use Rattle.server_start.specs.declared.error.StartError.TheVariants.{Settings, ClockBehind, NoVolumeFollows, Refused}
 use Rattle.server_start.specs.declared.error.StartError.TheVariants.{Memory}
-use Rattle.server_start.specs.declared.starting.Start.{Start}
-use Rattle.server_start.specs.declared.starting.Start.TheVariants.{First, GoOn, End, Next}
-use Rattle.server_start.specs.declared.setting.Differing.{Differing}
+use Rattle.server_start.specs.declared.starting.StartAction.{StartAction}
+use Rattle.server_start.specs.declared.starting.StartAction.TheVariants.{First, GoOn, End, Next}
+use Rattle.server_start.specs.declared.setting.DifferingSettings.{DifferingSettings}
 use Rattle.server_start.specs.Opening.{Opened, opened}
 use Rattle.server_start.specs.Agreement.{names, NamesThose, Agrees}
-use Rattle.server_start.specs.Clock.{IsBehind}
+use Rattle.server_start.specs.Clock.{IsClockBehind}
 
 -- ---- the line `restart`
 
@@ -37,16 +37,16 @@ HasRestarted j now k = IsStep (state_of j) (restart_line j now) × (k ≡ with_l
 -- ---- what is asked of each book, in this order
 
 -- the settings differ, and which from what
-abbrev pub Disagrees : ServerSettings → Journal → Differing → Opened → Type 0
-Disagrees s j d o = NamesThose s (opened j) d × ((x : Setting) × IsTrue (names d x)) × (o ≡ opened j)
+abbrev pub Disagrees : ServerSettings → Journal → DifferingSettings → Opened → Type 0
+Disagrees s j d o = NamesThose s (opened j) d × ((x : FixedSetting) × IsTrue (names d x)) × (o ≡ opened j)
 
 -- the settings agree, and the clock is too far behind the last line, whose reading this is
 abbrev pub HasClockBehind : ServerSettings → Journal → (now last : ℕ) → Type 0
-HasClockBehind s j now last = Agrees s j × (last ≡ (state_of j).reading) × IsBehind now last s.skew
+HasClockBehind s j now last = Agrees s j × (last ≡ (state_of j).reading) × IsClockBehind now last s.skew
 
 -- the settings agree, and the clock isn't too far behind
 abbrev pub MayStart : ServerSettings → Journal → (now : ℕ) → Type 0
-MayStart s j now = Agrees s j × (IsBehind now (state_of j).reading s.skew → ⊥)
+MayStart s j now = Agrees s j × (IsClockBehind now (state_of j).reading s.skew → ⊥)
 
 -- why a book isn't started with, before its volume is looked at
 abbrev pub IsNotFit : ServerSettings → Journal → (now : ℕ) → StartError → Type 0
@@ -66,7 +66,7 @@ abbrev pub IsFollowed : ServerSettings → Journal → (now : ℕ) → Journal �
 IsFollowed s j now k = MayStart s j now × MayRoll j × (k ≡ j)
 
 -- what is done
-abbrev pub IsStart : ServerSettings → (now : ℕ) → NextStep → Start → Type 0
+abbrev pub IsStart : ServerSettings → (now : ℕ) → ResumeStep → StartAction → Type 0
 IsStart s now BeginFirst First = ⊤
 IsStart s now (GoOnWith j) (GoOn k) = IsGoneOn s j now k
 IsStart s now (EndOf j) (End k) = IsFollowed s j now k
@@ -84,7 +84,7 @@ IsNotFollowed s j now NoVolumeFollows = MayStart s j now × (MayRoll j → ⊥)
 IsNotFollowed s j now e = IsNotFit s j now e
 
 -- Why nothing is done. A first volume is begun whatever the settings and the clock say.
-abbrev pub IsNoStart : ServerSettings → (now : ℕ) → NextStep → StartError → Type 0
+abbrev pub IsNoStart : ServerSettings → (now : ℕ) → ResumeStep → StartError → Type 0
 IsNoStart s now BeginFirst e = ⊥
 IsNoStart s now (GoOnWith j) e = IsNotGoneOn s j now e
 IsNoStart s now (EndOf j) e = IsNotFollowed s j now e

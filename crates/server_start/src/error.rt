@@ -3,8 +3,8 @@
 ghost use Rattle.std.specs.Prelude.{◌≡◌};
 ghost use Rattle.server_start.specs.declared.error.StartError.TheVariants.{Memory};
 
-use crate::opening::Opening;
-use crate::setting::Differing;
+use crate::opened_settings::OpenedSettings;
+use crate::setting::DifferingSettings;
 use lead_time::Reading;
 use order_book::BookError;
 use std::alloc::AllocError;
@@ -16,9 +16,9 @@ pub enum StartError {
     /// Settings differ from those that the journal was opened with.
     #[error("these settings differ from the journal's, and have to be as they were: {differing}")]
     Settings {
-        differing: Differing,
+        differing: DifferingSettings,
         /// What the journal was opened with.
-        opening: Opening,
+        opening: OpenedSettings,
     },
     /// The clock reads more than twice the skew below the journal's last line.
     #[error("set the clock right: it reads {} ms, and the journal {} ms", .now.milliseconds(), .last.milliseconds())]

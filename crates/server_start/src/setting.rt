@@ -1,10 +1,10 @@
 //! The settings that a journal fixes.
 
 ghost use Rattle.std.specs.Prelude.{◌≡◌, ◌↔◌, IsTrue};
-ghost use Rattle.server_start.specs.declared.setting.Setting.{Setting as SettingValue};
+ghost use Rattle.server_start.specs.declared.setting.FixedSetting.{FixedSetting as SettingValue};
 ghost use Rattle.server_start.specs.Agreement.{names, NamesThose};
 
-use crate::opening::Opening;
+use crate::opened_settings::OpenedSettings;
 use book_state::Pool;
 use server_settings::Settings;
 use std::fmt;
@@ -12,7 +12,7 @@ use std::fmt::Write;
 
 /// A setting that a server's journal fixes: it stays as it is as long as the book does.
 #[derive(Clone, Copy, Debug, PartialEq, Eq)]
-pub enum Setting {
+pub enum FixedSetting {
     Role,
     Pools,
     Skew,
@@ -21,35 +21,35 @@ pub enum Setting {
     Transit,
 }
 
-impl Setting {
+impl FixedSetting {
     /// All of them, in their order.
-    pub const ALL: [Setting; 6] = [
-        Setting::Role,
-        Setting::Pools,
-        Setting::Skew,
-        Setting::Mclt,
-        Setting::Life,
-        Setting::Transit,
+    pub const ALL: [FixedSetting; 6] = [
+        FixedSetting::Role,
+        FixedSetting::Pools,
+        FixedSetting::Skew,
+        FixedSetting::Mclt,
+        FixedSetting::Life,
+        FixedSetting::Transit,
     ];
 }
 
-impl fmt::Display for Setting {
+impl fmt::Display for FixedSetting {
     /// The key of a settings file.
     fn fmt<W: Write>(&self, f: &mut fmt::Formatter<W>) -> fmt::Result {
         f.write_str(match self {
-            Setting::Role => "role",
-            Setting::Pools => "pool",
-            Setting::Skew => "skew_ms",
-            Setting::Mclt => "mclt",
-            Setting::Life => "life",
-            Setting::Transit => "transit_ms",
+            FixedSetting::Role => "role",
+            FixedSetting::Pools => "pool",
+            FixedSetting::Skew => "skew_ms",
+            FixedSetting::Mclt => "mclt",
+            FixedSetting::Life => "life",
+            FixedSetting::Transit => "transit_ms",
         })
     }
 }
 
 /// Which settings of a server differ from those that its book was opened with.
 #[derive(Clone, Copy, Debug, PartialEq, Eq)]
-pub struct Differing {
+pub struct DifferingSettings {
     role: bool,
     pools: bool,
     skew: bool,
@@ -65,12 +65,12 @@ fn are_same_pools(one: &[Pool], other: &[Pool]) -> bool
     one == other
 }
 
-impl Differing {
+impl DifferingSettings {
     /// Each setting that differs, and no other.
-    pub fn of(settings: &Settings, opening: &Opening) -> Differing
+    pub fn of(settings: &Settings, opening: &OpenedSettings) -> DifferingSettings
         ensures { NamesThose settings.now opening.now result }
     {
-        Differing {
+        DifferingSettings {
             role: settings.role() != opening.role,
             pools: !are_same_pools(settings.pools(), &opening.pools),
             skew: settings.skew().milliseconds() != opening.skew,
@@ -81,16 +81,16 @@ impl Differing {
     }
 
     /// Returns whether it names a setting.
-    pub fn names(&self, setting: Setting) -> bool
+    pub fn names(&self, setting: FixedSetting) -> bool
         ensures { result ≡ names self.now setting }
     {
         match setting {
-            Setting::Role => self.role,
-            Setting::Pools => self.pools,
-            Setting::Skew => self.skew,
-            Setting::Mclt => self.mclt,
-            Setting::Life => self.life,
-            Setting::Transit => self.transit,
+            FixedSetting::Role => self.role,
+            FixedSetting::Pools => self.pools,
+            FixedSetting::Skew => self.skew,
+            FixedSetting::Mclt => self.mclt,
+            FixedSetting::Life => self.life,
+            FixedSetting::Transit => self.transit,
         }
     }
 
@@ -102,11 +102,11 @@ impl Differing {
     }
 }
 
-impl fmt::Display for Differing {
+impl fmt::Display for DifferingSettings {
     /// The keys, with commas between them.
     fn fmt<W: Write>(&self, f: &mut fmt::Formatter<W>) -> fmt::Result {
         let mut lead = "";
-        for setting in Setting::ALL {
+        for setting in FixedSetting::ALL {
             if self.names(setting) {
                 write!(f, "{lead}{setting}")?;
                 lead = ", ";

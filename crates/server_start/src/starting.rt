@@ -8,17 +8,17 @@ ghost use Rattle.server_start.specs.Starting.{IsNotFollowed, IsStart, IsNoStart}
 
 use crate::clock::reading_ahead;
 use crate::error::StartError;
-use crate::opening::opening_of;
-use crate::setting::Differing;
+use crate::opened_settings::opening_of;
+use crate::setting::DifferingSettings;
 use lead_time::Reading;
 use order_book::{Book, BookError, Order};
 use server_settings::Settings;
 use std::alloc::Global;
-use volume_store::NextStep;
+use volume_store::ResumeStep;
 
 /// What a server does at its start.
 #[derive(Drop)]
-pub enum Start {
+pub enum StartAction {
     /// Nobody was told of any volume: the first book is opened now (`volume_store::begin_first`).
     First,
     /// This book goes on: its last line is `restart`, which its file lacks.
@@ -55,7 +55,7 @@ pub fn may_start(
     ensures refused { IfErr result (IsNotFit settings.now book.now now) }
 {
     let opening = opening_of(alloc, book)?;
-    let differing = Differing::of(settings, &opening);
+    let differing = DifferingSettings::of(settings, &opening);
     if differing.is_any() {
         return Err(StartError::Settings { differing, opening });
     }
@@ -102,17 +102,17 @@ fn followed(
 /// `NoVolumeFollows` of a closed one; `Memory` where a growth was refused. None of them where there is no volume.
 pub fn start_with(
     alloc: Global,
-    step: NextStep,
+    step: ResumeStep,
     settings: &Settings,
     now: Reading,
-) -> Result<Start, StartError>
+) -> Result<StartAction, StartError>
     ensures start { IfOk result (IsStart settings.now now step) }
     ensures refused { IfErr result (IsNoStart settings.now now step) }
 {
     match step {
-        NextStep::BeginFirst => Ok(Start::First),
-        NextStep::GoOn(book) => Ok(Start::GoOn(gone_on(alloc, book, settings, now)?)),
-        NextStep::End(book) => Ok(Start::End(followed(alloc, book, settings, now)?)),
-        NextStep::BeginNext(book) => Ok(Start::Next(followed(alloc, book, settings, now)?)),
+        ResumeStep::BeginFirst => Ok(StartAction::First),
+        ResumeStep::GoOn(book) => Ok(StartAction::GoOn(gone_on(alloc, book, settings, now)?)),
+        ResumeStep::End(book) => Ok(StartAction::End(followed(alloc, book, settings, now)?)),
+        ResumeStep::BeginNext(book) => Ok(StartAction::Next(followed(alloc, book, settings, now)?)),
     }
 }

@@ -1,6 +1,6 @@
 //! A status as JSON. Readings are in milliseconds since 1970, and what there isn't is `null`.
 
-use crate::status::{Status, VolumeStatus};
+use crate::status::{ServerStatus, VolumeStatus};
 use crate::sync_times::SyncSummary;
 use crate::traffic::Traffic;
 use crate::units::UnitCounts;
@@ -38,7 +38,7 @@ fn volume_of(alloc: Global, volume: &VolumeStatus) -> Result<Value, AllocError> 
     })
 }
 
-fn partner_of(alloc: Global, status: &Status) -> Result<Value, AllocError> {
+fn partner_of(alloc: Global, status: &ServerStatus) -> Result<Value, AllocError> {
     json!(in alloc; {
         "standing": status.standing.name(),
         "standing_since_ms": reading_or_null(status.standing.since()),
@@ -74,7 +74,7 @@ fn add<V: ToValue>(
 fn add_server(
     alloc: Global,
     object: &mut Map<String, Value>,
-    status: &Status,
+    status: &ServerStatus,
 ) -> Result<(), AllocError> {
     add(alloc, object, "role", role_name(status.role))?;
     add(alloc, object, "reading_ms", status.reading.milliseconds())?;
@@ -120,7 +120,7 @@ fn add_unanswered(
 }
 
 /// A status as an object.
-fn object_of(alloc: Global, status: &Status) -> Result<Map<String, Value>, AllocError> {
+fn object_of(alloc: Global, status: &ServerStatus) -> Result<Map<String, Value>, AllocError> {
     let mut object = Map::new(alloc);
     add_server(alloc, &mut object, status)?;
     let volume = volume_of(alloc, &status.volume)?;
@@ -136,7 +136,7 @@ fn object_of(alloc: Global, status: &Status) -> Result<Map<String, Value>, Alloc
 }
 
 /// Writes JSON: one object, and a line feed. `AllocError` where a growth was refused.
-pub(crate) fn json_of(alloc: Global, status: &Status) -> Result<String, AllocError> {
+pub(crate) fn json_of(alloc: Global, status: &ServerStatus) -> Result<String, AllocError> {
     let mut text = Value::Object(object_of(alloc, status)?).to_string(alloc)?;
     text.push('\n')?;
     Ok(text)

@@ -1,6 +1,6 @@
 //! A status as lines for a person, each a name and what it is.
 
-use crate::status::{Status, VolumeStatus};
+use crate::status::{ServerStatus, VolumeStatus};
 use crate::sync_times::SyncSummary;
 use crate::traffic::Traffic;
 use crate::units::UnitCounts;
@@ -47,7 +47,7 @@ fn push_counts(
 }
 
 /// Appends what the server and its clock are.
-fn push_server(out: &mut String, alloc: Global, status: &Status) -> Result<(), AllocError> {
+fn push_server(out: &mut String, alloc: Global, status: &ServerStatus) -> Result<(), AllocError> {
     let role = role_name(status.role);
     let clock = status.clock.name();
     let ahead = status.ahead();
@@ -69,7 +69,7 @@ fn push_volume(out: &mut String, alloc: Global, volume: &VolumeStatus) -> Result
 }
 
 /// Appends what is known of the partner.
-fn push_partner(out: &mut String, alloc: Global, status: &Status) -> Result<(), AllocError> {
+fn push_partner(out: &mut String, alloc: Global, status: &ServerStatus) -> Result<(), AllocError> {
     let (standing, link) = (&status.standing, &status.link);
     push_since(out, alloc, "partner", standing.name(), standing.since())?;
     push_since(out, alloc, "link", link.name(), link.since())?;
@@ -113,7 +113,7 @@ fn push_syncs(out: &mut String, syncs: &Option<SyncSummary>) -> Result<(), Alloc
 }
 
 /// Writes lines for a person. `AllocError` where a growth was refused.
-pub(crate) fn lines_of(alloc: Global, status: &Status) -> Result<String, AllocError> {
+pub(crate) fn lines_of(alloc: Global, status: &ServerStatus) -> Result<String, AllocError> {
     let mut out = String::new(alloc);
     push_server(&mut out, alloc, status)?;
     push_volume(&mut out, alloc, &status.volume)?;

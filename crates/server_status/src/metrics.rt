@@ -1,6 +1,6 @@
 //! A status as the text of OpenMetrics, for a monitor that scrapes it.
 
-use crate::status::{Status, VolumeStatus};
+use crate::status::{ServerStatus, VolumeStatus};
 use crate::sync_times::SyncSummary;
 use crate::traffic::Traffic;
 use crate::units::UnitCounts;
@@ -89,7 +89,7 @@ fn push_moment(
 }
 
 /// Appends what the server and its clock are.
-fn push_server(out: &mut String, status: &Status) -> Result<(), AllocError> {
+fn push_server(out: &mut String, status: &ServerStatus) -> Result<(), AllocError> {
     let role = role_name(status.role);
     push_family(out, "server", "info", "What the server is.")?;
     writeln!(out, "fengtuyas_server_info{{role=\"{role}\"}} 1")?;
@@ -174,7 +174,7 @@ fn push_limits(out: &mut String, volume: &VolumeStatus) -> Result<(), AllocError
 }
 
 /// Appends what is known of the partner.
-fn push_partner(out: &mut String, status: &Status) -> Result<(), AllocError> {
+fn push_partner(out: &mut String, status: &ServerStatus) -> Result<(), AllocError> {
     push_states(
         out,
         "partner",
@@ -297,7 +297,7 @@ fn push_syncs(out: &mut String, syncs: &Option<SyncSummary>) -> Result<(), Alloc
 }
 
 /// Writes the text of OpenMetrics. `AllocError` where a growth was refused.
-pub(crate) fn metrics_of(alloc: Global, status: &Status) -> Result<String, AllocError> {
+pub(crate) fn metrics_of(alloc: Global, status: &ServerStatus) -> Result<String, AllocError> {
     let mut out = String::new(alloc);
     push_server(&mut out, status)?;
     push_ahead(&mut out, status.ahead())?;

@@ -2,28 +2,28 @@
 
 ghost use Rattle.std.specs.Prelude.{◌≡◌, pos, ◌-ℤ◌};
 
+use crate::control_request::StatusFormat;
 use crate::json::json_of;
 use crate::lines::lines_of;
 use crate::metrics::metrics_of;
-use crate::request::Form;
 use crate::sync_times::SyncSummary;
 use crate::traffic::Traffic;
 use crate::units::UnitCounts;
 use binding_rules::Role;
 use lead_time::Reading;
-use server_upkeep::{Roll, Room};
+use server_timers::{RollState, Room};
 use std::alloc::{AllocError, Global};
 
 /// How a server is, when its clock reads `reading`.
 #[derive(Clone, Copy, Debug, PartialEq, Eq)]
-pub struct Status {
+pub struct ServerStatus {
     pub role: Role,
     pub reading: Reading,
     pub clock: ClockState,
     pub volume: VolumeStatus,
     pub units: UnitCounts,
-    pub standing: Standing,
-    pub link: Link,
+    pub standing: PartnerState,
+    pub link: LinkState,
     /// When the partner's last message was taken, if one was since the server began.
     pub heard: Option<Reading>,
     pub traffic: Traffic,
@@ -51,13 +51,13 @@ pub struct VolumeStatus {
     pub opened: Reading,
     /// The reading of its last line.
     pub written: Reading,
-    pub roll: Roll,
+    pub roll: RollState,
     pub room: Room,
 }
 
 /// What a server takes its partner for.
 #[derive(Clone, Copy, Debug, PartialEq, Eq)]
-pub enum Standing {
+pub enum PartnerState {
     /// Both serve.
     Normal,
     /// It began again, and serves nobody until its partner answers.
@@ -68,7 +68,7 @@ pub enum Standing {
 
 /// How a server is linked to its partner.
 #[derive(Clone, Copy, Debug, PartialEq, Eq)]
-pub enum Link {
+pub enum LinkState {
     /// It is alone: its settings name no partner.
     Alone,
     /// There is no connection.
@@ -76,7 +76,7 @@ pub enum Link {
     Connected { since: Reading },
 }
 
-impl Status {
+impl ServerStatus {
     /// By how many milliseconds the clock is ahead of the last line; below 0 where it is behind.
     pub fn ahead(&self) -> i64
         ensures { result ≡ pos self.now.reading -ℤ pos self.now.volume.written }
@@ -85,11 +85,11 @@ impl Status {
     }
 
     /// Writes the status. `AllocError` where a growth was refused.
-    pub fn text(&self, alloc: Global, form: Form) -> Result<String, AllocError> {
+    pub fn text(&self, alloc: Global, form: StatusFormat) -> Result<String, AllocError> {
         match form {
-            Form::Lines => lines_of(alloc, self),
-            Form::Json => json_of(alloc, self),
-            Form::Metrics => metrics_of(alloc, self),
+            StatusFormat::Lines => lines_of(alloc, self),
+            StatusFormat::Json => json_of(alloc, self),
+            StatusFormat::Metrics => metrics_of(alloc, self),
         }
     }
 }
@@ -103,39 +103,39 @@ impl ClockState {
     }
 }
 
-impl Standing {
+impl PartnerState {
     pub(crate) fn name(&self) -> &'static str {
         match self {
-            Standing::Normal => "normal",
-            Standing::Waiting { .. } => "waiting",
-            Standing::Down { .. } => "down",
+            PartnerState::Normal => "normal",
+            PartnerState::Waiting { .. } => "waiting",
+            PartnerState::Down { .. } => "down",
         }
     }
 
     /// Since when the server doesn't take its partner for up, if it doesn't.
     pub(crate) fn since(&self) -> Option<Reading> {
         match self {
-            Standing::Normal => None,
-            Standing::Waiting { since } => Some(*since),
-            Standing::Down { since } => Some(*since),
+            PartnerState::Normal => None,
+            PartnerState::Waiting { since } => Some(*since),
+            PartnerState::Down { since } => Some(*since),
         }
     }
 }
 
-impl Link {
+impl LinkState {
     pub(crate) fn name(&self) -> &'static str {
         match self {
-            Link::Alone => "alone",
-            Link::Apart => "apart",
-            Link::Connected { .. } => "connected",
+            LinkState::Alone => "alone",
+            LinkState::Apart => "apart",
+            LinkState::Connected { .. } => "connected",
         }
     }
 
     /// Since when there is a connection, if there is one.
     pub(crate) fn since(&self) -> Option<Reading> {
         match self {
-            Link::Alone | Link::Apart => None,
-            Link::Connected { since } => Some(*since),
+            LinkState::Alone | LinkState::Apart => None,
+            LinkState::Connected { since } => Some(*since),
         }
     }
 }

@@ -2,7 +2,7 @@
 
 use binding_rules::Role;
 use lead_time::Reading;
-use server_upkeep::{Bar, Roll, Room};
+use server_timers::{RollBlocked, RollState, Room};
 use std::alloc::{AllocError, Global};
 use std::str;
 use time_text::push_time;
@@ -16,12 +16,12 @@ pub(crate) fn role_name(role: Role) -> &'static str {
 }
 
 /// Returns the name of what is owed of a roll.
-pub(crate) fn roll_name(roll: &Roll) -> &'static str {
+pub(crate) fn roll_name(roll: &RollState) -> &'static str {
     match roll {
-        Roll::NotDue => "not_due",
-        Roll::Due => "due",
-        Roll::Forbidden(Bar::PartnerDown) => "partner_down",
-        Roll::Forbidden(Bar::UnitMarked) => "unit_marked",
+        RollState::NotDue => "not_due",
+        RollState::Due => "due",
+        RollState::Blocked(RollBlocked::PartnerDown) => "partner_down",
+        RollState::Blocked(RollBlocked::UnitMarked) => "unit_marked",
     }
 }
 

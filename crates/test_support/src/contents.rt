@@ -2,7 +2,7 @@
 
 ghost use Rattle.std.specs.Prelude.{◌≡◌, refl};
 
-use disk_model::{Files, Unread};
+use disk_model::{Files, ReadFailed};
 use std::alloc::Global;
 use std::marker::Model;
 
@@ -47,13 +47,13 @@ impl Files for Contents {
         self.files.len()
     }
 
-    fn read(&self, alloc: Global, place: usize) -> Result<Vec<u8>, Unread> {
+    fn read(&self, alloc: Global, place: usize) -> Result<Vec<u8>, ReadFailed> {
         let Some(content) = self.files.get(place) else {
-            return Err(Unread);
+            return Err(ReadFailed);
         };
         match content.to_vec(alloc) {
             Ok(content) => Ok(content),
-            Err(_) => Err(Unread),
+            Err(_) => Err(ReadFailed),
         }
     }
 }

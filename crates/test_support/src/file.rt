@@ -6,7 +6,7 @@ ghost use Rattle.disk_model.specs.Disk.{opened, file_after, IsLeft};
 use crate::calls::CallsLeft;
 use crate::drawing::draw_left;
 use crate::state::FileState;
-use call_record::Record;
+use call_trace::CallTrace;
 use disk_model::{Device, DeviceError};
 use std::alloc::{AllocError, Global};
 use std::marker::Model;
@@ -19,7 +19,7 @@ pub struct TestFile {
     /// No growth was refused so far.
     is_known: bool,
     calls_left: CallsLeft,
-    noted: Record,
+    noted: CallTrace,
 }
 
 impl Model for TestFile {
@@ -58,7 +58,7 @@ impl TestFile {
             state: FileState::new(alloc, content)?,
             is_known: true,
             calls_left,
-            noted: Record::opened(content),
+            noted: CallTrace::opened(content),
         })
     }
 

@@ -11,7 +11,7 @@ use crate::drawing::Draws;
 use crate::error::DrawError;
 use crate::file::TestFile;
 use crate::names::NameState;
-use call_record::NameRecord;
+use call_trace::NameTrace;
 use disk_model::{DeviceError, Folder};
 use std::alloc::{AllocError, Global};
 use std::marker::Model;
@@ -25,7 +25,7 @@ pub struct TestFolder {
     /// No growth was refused so far.
     is_known: bool,
     calls_left: CallsLeft,
-    noted: NameRecord,
+    noted: NameTrace,
 }
 
 impl Model for TestFolder {
@@ -88,7 +88,7 @@ impl TestFolder {
             names: NameState::held(files),
             is_known: true,
             calls_left: CallsLeft::new(alloc, calls_left)?,
-            noted: NameRecord::held(files),
+            noted: NameTrace::held(files),
         })
     }
 

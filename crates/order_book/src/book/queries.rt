@@ -2,14 +2,14 @@
 
 ghost use Rattle.std.specs.Prelude.{IsTrue};
 ghost use Rattle.prefix_range.specs.Prefix.{Prefix as PrefixValue};
-ghost use Rattle.unit_finder.specs.Units.{IsLeastOf, IsUsable};
-ghost use Rattle.unit_finder.specs.Queries.{IsToExpire, IsFirstExpiry, IsToSeize, HasReply, HasChange, HasMark};
+ghost use Rattle.unit_index.specs.Units.{IsLeastOf, IsUsable};
+ghost use Rattle.unit_index.specs.Queries.{IsToExpire, IsFirstExpiry, IsToSeize, HasReply, HasChange, HasMark};
 ghost use Rattle.order_book.specs.Replayed.{state_of};
 
 use crate::book::Book;
 use lead_time::{End, Reading, is_past};
 use prefix_range::Prefix;
-use unit_finder::{Wanted, first_end, lowest, lowest_from};
+use unit_index::{UnitQuery, first_end, lowest, lowest_from};
 
 impl Book {
     /// Returns whether a lease has ended, as far as that can be told with no look at a unit.
@@ -30,7 +30,7 @@ impl Book {
         if !self.has_ended_lease(now) {
             return None;
         }
-        lowest(self.register(), &Wanted::Expirable(now))
+        lowest(self.register(), &UnitQuery::Expirable(now))
     }
 
     /// The first reading at which an Expire ends a unit, in milliseconds; none while no unit is delegated. It looks at
@@ -47,34 +47,34 @@ impl Book {
     {
         // While the partner isn't taken for down, no unit is looked at.
         self.down()?;
-        lowest(self.register(), &Wanted::Seizable(now))
+        lowest(self.register(), &UnitQuery::Seizable(now))
     }
 
     /// The lowest unit that the server may give to any client.
     pub fn first_usable(&self) -> Option<Prefix>
         ensures { IsLeastOf (IsUsable (state_of self.now)) result }
     {
-        lowest(self.register(), &Wanted::Usable)
+        lowest(self.register(), &UnitQuery::Usable)
     }
 
     /// The lowest unit with a pending reply that begins at an address or above.
     pub fn next_reply(&self, from: u128) -> Option<Prefix>
         ensures { IsLeastOf (HasReply (state_of self.now) from) result }
     {
-        lowest_from(self.register(), &Wanted::Pending, from)
+        lowest_from(self.register(), &UnitQuery::Pending, from)
     }
 
     /// The lowest unit with a change that is due to be told that begins at an address or above.
     pub fn next_change(&self, from: u128) -> Option<Prefix>
         ensures { IsLeastOf (HasChange (state_of self.now) from) result }
     {
-        lowest_from(self.register(), &Wanted::Due, from)
+        lowest_from(self.register(), &UnitQuery::Due, from)
     }
 
     /// The lowest unit that begins at an address or above, was seized, and isn't acknowledged yet.
     pub fn next_mark(&self, from: u128) -> Option<Prefix>
         ensures { IsLeastOf (HasMark (state_of self.now) from) result }
     {
-        lowest_from(self.register(), &Wanted::Marked, from)
+        lowest_from(self.register(), &UnitQuery::Marked, from)
     }
 }

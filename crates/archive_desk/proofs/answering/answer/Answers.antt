@@ -1,7 +1,7 @@
 use Rattle.std.proofs.Common.{◌∙◌, ◌++◌, ap, subst, refl, List}
-use Rattle.archive_files.specs.declared.ties.Agreement.{Agreement}
+use Rattle.archive_files.specs.declared.settings_check.SettingsScope.{SettingsScope}
 use Rattle.archive_files.specs.Ties.{AreTied}
-use Rattle.archive_files.specs.declared.cataloguing.PassedOver.{PassedOver}
+use Rattle.archive_files.specs.declared.cataloguing.SkippedFile.{SkippedFile}
 use Rattle.archive_desk.specs.Unread.{AllRead}
 use Rattle.archive_desk.proofs.answering.answer.Goals as goal
 
@@ -9,10 +9,10 @@ pub returns : goal.returns
 returns g c = record {
   catalogue = c.in_ok-catalogue.catalogue;
   is_catalogue = c.in_ok-catalogue.ensures.catalogue;
-  tied = subst (λ (a : Agreement). AreTied (g.F.JournalFiles.had c.args.files.now) a
+  tied = subst (λ (a : SettingsScope). AreTied (g.F.JournalFiles.had c.args.files.now) a
       c.in_ok-catalogue.catalogue.archive.primary c.in_ok-catalogue.catalogue.archive.secondary)
       c.agreement_of.ensures c.in_ok-catalogue.ensures.tied;
-  read = subst (λ (ps : List PassedOver). AllRead c.args.names.now ps) c.deref.ensures.value
+  read = subst (λ (ps : List SkippedFile). AllRead c.args.names.now ps) c.deref.ensures.value
       c.in_ok-expect_read.ensures.read;
   answer = c.in_ok-told.told;
   is_answer = c.in_ok-told.ensures;

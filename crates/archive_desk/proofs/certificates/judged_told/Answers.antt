@@ -1,6 +1,6 @@
 use Rattle.std.proofs.Common.{subst}
 use Rattle.std.proofs.Math.Path.{subst₂}
-use Rattle.archive_desk.specs.Telling.{said_of, noted_first}
+use Rattle.archive_desk.specs.CommandOutputs.{said_of, noted_first}
 use Rattle.archive_desk.specs.Certificates.{AreSaid, AreJudged}
 use Rattle.archive_desk.proofs.Saying.{said_judged}
 use Rattle.archive_desk.proofs.certificates.judged_told.Goals as goal

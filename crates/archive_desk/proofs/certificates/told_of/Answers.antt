@@ -1,6 +1,6 @@
 use Rattle.std.proofs.Common.{rules, ◌≡◌}
-use Rattle.archive_desk.specs.declared.waiting.Pending.TheVariants.{Judged as IsJudgedAs}
-use Rattle.archive_desk.specs.Telling.{said_of}
+use Rattle.archive_desk.specs.declared.waiting.PendingState.TheVariants.{Judged as IsJudgedAs}
+use Rattle.archive_desk.specs.CommandOutputs.{said_of}
 use Rattle.archive_desk.proofs.Saying.{one_said}
 use Rattle.archive_desk.proofs.certificates.told_of.Goals as goal
 

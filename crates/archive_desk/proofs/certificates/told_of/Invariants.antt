@@ -1,6 +1,6 @@
 use Rattle.std.proofs.Common.{drop}
 use Rattle.archive_desk.specs.Certificates.{AreSaid}
-use Rattle.archive_desk.specs.Telling.{Said, said_of, noted_first}
+use Rattle.archive_desk.specs.CommandOutputs.{Said, said_of, noted_first}
 use Rattle.archive_desk.proofs.certificates.told_of.Given as goal
 
 -- what is told of the certificates that are left, behind what was told, is what is told of all

@@ -1,7 +1,7 @@
 use Rattle.std.proofs.Common.{sym, subst, refl, List}
-use Rattle.journal_archive.specs.declared.spans.Span.{Span}
+use Rattle.journal_archive.specs.declared.spans.CoverageSpan.{CoverageSpan}
 use Rattle.archive_desk.specs.Stretches.{AreStretchesTold}
-use Rattle.archive_desk.specs.Telling.{Said, said_of}
+use Rattle.archive_desk.specs.CommandOutputs.{Said, said_of}
 use Rattle.archive_desk.proofs.Dropping.{drop_end}
 use Rattle.archive_desk.proofs.OneMore.{one_stretch}
 use Rattle.archive_desk.proofs.stretches.told_over.Goals as goal
@@ -21,6 +21,6 @@ loop-span-preserved g c after h =
 pub returns : goal.returns
 returns g c =
     c.loop-span.invariant (said_of c.loop-span.told)
-    (subst (λ (ss : List Span). AreStretchesTold (g.F.JournalFiles.had c.args.files.now) c.args.names.now
+    (subst (λ (ss : List CoverageSpan). AreStretchesTold (g.F.JournalFiles.had c.args.files.now) c.args.names.now
     c.args.archive.now c.args.query.now ss (said_of c.loop-span.told) (said_of c.loop-span.told))
     (sym (drop_end c.args.spans.now c.loop-span.span-index c.loop-span-test.false)) refl)

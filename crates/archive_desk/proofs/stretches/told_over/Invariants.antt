@@ -1,6 +1,6 @@
 use Rattle.std.proofs.Common.{drop}
 use Rattle.archive_desk.specs.Stretches.{AreStretchesTold}
-use Rattle.archive_desk.specs.Telling.{Said, said_of, nothing}
+use Rattle.archive_desk.specs.CommandOutputs.{Said, said_of, nothing}
 use Rattle.archive_desk.proofs.stretches.told_over.Given as goal
 
 -- what is told of the spans that are left, behind what was told, is what is told of all

@@ -1,7 +1,7 @@
 use Rattle.std.proofs.Common.{List, sym, subst}
 use Rattle.std.proofs.lemmas.Result.{err_from_is_err_and}
 use Rattle.binding_rules.specs.declared.role.Role.TheVariants.{Primary, Secondary}
-use Rattle.journal_archive.specs.declared.outline.Filed.{Filed}
+use Rattle.journal_archive.specs.declared.outline.FiledVolume.{FiledVolume}
 use Rattle.archive_files.specs.Catalogues.{AreFound}
 use Rattle.archive_files.proofs.Listed.{on_shelf_found, differ_told}
 use Rattle.archive_files.proofs.cataloguing.archive_of.Goals as goal
@@ -15,13 +15,13 @@ returns-in_err-archive-clause-differ g c =
 pub expect_copies-requires-clause-shelf : goal.expect_copies-requires-clause-shelf
 expect_copies-requires-clause-shelf g c =
     let had = g.F.JournalFiles.had c.args.files.now in
-    subst (λ (vs : List Filed). AreFound had vs) (sym c.volumes.ensures)
+    subst (λ (vs : List FiledVolume). AreFound had vs) (sym c.volumes.ensures)
     (on_shelf_found had Primary c.args.volumes.now c.in_ok-archive.archive.primary c.requires
     c.in_ok-archive.ensures.primary)
 
 pub expect_copies-requires-2-clause-shelf : goal.expect_copies-requires-2-clause-shelf
 expect_copies-requires-2-clause-shelf g c =
     let had = g.F.JournalFiles.had c.args.files.now in
-    subst (λ (vs : List Filed). AreFound had vs) (sym c.volumes-2.ensures)
+    subst (λ (vs : List FiledVolume). AreFound had vs) (sym c.volumes-2.ensures)
     (on_shelf_found had Secondary c.args.volumes.now c.in_ok-archive.archive.secondary c.requires
     c.in_ok-archive.ensures.secondary)

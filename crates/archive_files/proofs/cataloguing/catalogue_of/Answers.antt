@@ -1,6 +1,6 @@
 use Rattle.std.specs.Prelude.{List}
 use Rattle.std.proofs.Common.{rules, subst}
-use Rattle.journal_archive.specs.declared.outline.Filed.{Filed}
+use Rattle.journal_archive.specs.declared.outline.FiledVolume.{FiledVolume}
 use Rattle.archive_files.specs.Telling.{AreTold}
 use Rattle.archive_files.proofs.Listed.{catalogued}
 use Rattle.archive_files.specs.Ties.{AreTiedBy}
@@ -12,7 +12,7 @@ archive_of-requires g c =
     let had = g.F.JournalFiles.had c.args.files.now in
     let told : AreTold had (g.F.JournalFiles.files c.args.files.now) c.deref-2.result.now
     c.in_ok-volumes.field-0.passed_over.items =
-    subst (λ (vs : List Filed).
+    subst (λ (vs : List FiledVolume).
     AreTold had (g.F.JournalFiles.files c.args.files.now) vs c.in_ok-volumes.field-0.passed_over.items)
     (search rules) c.in_ok-volumes.ensures in
     told.found
@@ -22,7 +22,7 @@ returns-clause-catalogue g c =
     let had = g.F.JournalFiles.had c.args.files.now in
     catalogued had (g.F.JournalFiles.files c.args.files.now) c.deref-2.result.now
     (record { archive = c.in_ok-archive.archive; passed_over = c.in_ok-volumes.field-0.passed_over })
-    (subst (λ (vs : List Filed).
+    (subst (λ (vs : List FiledVolume).
     AreTold had (g.F.JournalFiles.files c.args.files.now) vs c.in_ok-volumes.field-0.passed_over.items)
     (search rules) c.in_ok-volumes.ensures)
     c.in_ok-archive.ensures.primary c.in_ok-archive.ensures.secondary c.in_ok-archive.ensures.copies

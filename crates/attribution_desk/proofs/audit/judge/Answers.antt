@@ -1,7 +1,7 @@
 use Rattle.std.proofs.Common.{[]}
 use Rattle.std.specs.Prelude.{◌≡◌, ℕ, List, Result, Ok, Err, IfOk}
 use Rattle.attribution_desk.specs.Answer.{IsAnswerOf, IsDeskAnswer}
-use Rattle.attribution_desk.specs.declared.answer.Answer.{Answer}
+use Rattle.attribution_desk.specs.declared.answer.DeskAnswer.{DeskAnswer}
 use Rattle.attribution_desk.specs.declared.error.DeskError.{DeskError}
 use Rattle.attribution_desk.specs.Headline.{IsTrueOfTexts}
 use Rattle.attribution_desk.proofs.AllRead.{of_input}
@@ -29,7 +29,7 @@ returns-clause-headline g c =
     _ _
     (c.finish.ensures.primary _ has) (c.finish.ensures.secondary _ has)
     (c.finish.ensures.rest _ has) c.answer_to.ensures.answer) where
-      of_answer : (input : List ℕ) (skew transit : ℕ) (r : Result Answer DeskError)
+      of_answer : (input : List ℕ) (skew transit : ℕ) (r : Result DeskAnswer DeskError)
           → IfOk r (λ answer. IsDeskAnswer input skew transit answer.line.items answer.status)
           → IfOk r (λ answer. answer.status ≡ 0 → IsTrueOfTexts input skew transit)
       of_answer input skew transit (Ok answer) h =

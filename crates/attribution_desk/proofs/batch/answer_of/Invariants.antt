@@ -1,7 +1,7 @@
 use Rattle.std.proofs.Common.{◌≡◌, ◌++◌, drop, flat_map}
-use Rattle.pair_ruling.specs.Ruling.{ruling_line}
+use Rattle.pair_judgement.specs.Judgements.{judgement_line}
 use Rattle.attribution_desk.proofs.batch.answer_of.Given as goal
 
 abbrev pub invariant-loop-ruling : goal.invariant-loop-ruling
-invariant-loop-ruling l = l.line.items ++ flat_map ruling_line (drop l.ruling-index l.rulings)
-    ≡ flat_map ruling_line l.rulings
+invariant-loop-ruling l = l.line.items ++ flat_map judgement_line (drop l.ruling-index l.rulings)
+    ≡ flat_map judgement_line l.rulings

@@ -1,5 +1,5 @@
 use Rattle.std.proofs.Common.{inl, subst}
-use Rattle.pair_ruling.specs.Clocked.{IsClocked}
+use Rattle.pair_judgement.specs.Clocked.{IsClocked}
 use Rattle.attribution_desk.proofs.clocks.answer_on.Goals as goal
 
 pub returns-in_ok-answer-in-Refused-clause-answer : goal.returns-in_ok-answer-in-Refused-clause-answer

@@ -1,6 +1,6 @@
 use Rattle.std.specs.Prelude.{◌≡◌, IfOk, IfSome}
 use Rattle.std.proofs.Common.{subst, sym}
-use Rattle.desk_words.specs.declared.command.Command.{Command}
+use Rattle.desk_args.specs.declared.command.Command.{Command}
 use Rattle.attribution_desk.specs.Answer.{IsDeskAnswer}
 use Rattle.attribution_desk.specs.Batch.{IsBatch}
 use Rattle.attribution_desk.specs.Headline.{IsTrueOfTexts, AreTrueInEveryRun, SaysTrue}

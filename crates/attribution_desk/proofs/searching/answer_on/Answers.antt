@@ -1,7 +1,7 @@
 use Rattle.std.specs.Prelude.{◌≡◌, ℕ, Option, Some, MatchOption}
 use Rattle.std.proofs.Common.{inl, inr, subst}
-use Rattle.pair_ruling.specs.declared.ruling.Ruling.{Ruling}
-use Rattle.pair_ruling.specs.Ruled.{IsRuledOut, IsFit}
+use Rattle.pair_judgement.specs.declared.judging.Judgement.{Judgement}
+use Rattle.pair_judgement.specs.PairJudgements.{IsRuledOut, IsFit}
 use Rattle.attribution_desk.specs.Case.{IsCaseOf}
 use Rattle.attribution_desk.specs.Searching.{Forbids, Allows, Answered}
 use Rattle.attribution_desk.proofs.searching.answer_on.Goals as goal
@@ -21,11 +21,11 @@ pub returns-in-Some-clause-answer : goal.returns-in-Some-clause-answer
 returns-in-Some-clause-answer g c =
     let fit = subst (IsCaseOf c.args.primary.now c.args.secondary.now c.skew.result) c.in-Open.is
     c.in_ok-case.ensures.case in
-    let found : (o : Option Ruling) → o ≡ Some c.in-Some.ruling
+    let found : (o : Option Judgement) → o ≡ Some c.in-Some.ruling
     → MatchOption o (Allows c.args.search.now c.args.primary.now c.args.secondary.now)
     (Forbids c.args.search.now c.args.primary.now c.args.secondary.now)
     → Forbids c.args.search.now c.args.primary.now c.args.secondary.now c.in-Some.ruling =
-    λ o is h. subst (λ (x : Option Ruling).
+    λ o is h. subst (λ (x : Option Judgement).
     MatchOption x (Allows c.args.search.now c.args.primary.now c.args.secondary.now)
     (Forbids c.args.search.now c.args.primary.now c.args.secondary.now)) is h in
     inr (
@@ -38,7 +38,7 @@ returns-clause-answer g c =
     let fit = subst (IsCaseOf c.args.primary.now c.args.secondary.now c.skew.result) c.in-Open.is
     c.in_ok-case.ensures.case in
     let allowed =
-    subst (λ (x : Option Ruling). MatchOption x (Allows c.args.search.now c.args.primary.now c.args.secondary.now)
+    subst (λ (x : Option Judgement). MatchOption x (Allows c.args.search.now c.args.primary.now c.args.secondary.now)
     (Forbids c.args.search.now c.args.primary.now c.args.secondary.now)) c.in_default.is c.forbidden.ensures in
     let answer = c.in_ok-answer-2.answer in
     inr (

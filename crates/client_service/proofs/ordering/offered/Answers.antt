@@ -6,9 +6,9 @@ use Rattle.client_service.proofs.ordering.offered.Goals as goal
 
 pub returns-in-Err : goal.returns-in-Err
 returns-in-Err g c =
-    let had = g.S.Service.receipts c.args.pass.now in
-    let has = g.S.Service.receipts c.offer.new.pass in
-    subst (λ x. EndsIn g.S.Service.may_have Solicit c.args.now c.args.order.now had has x) (sym c.told_of.ensures)
-    (offer_refusal g.S.Service.may_have c.args.now c.args.order.now had has c.in-Err.refusal c.requires
+    let had = g.S.BookService.receipts c.args.pass.now in
+    let has = g.S.BookService.receipts c.offer.new.pass in
+    subst (λ x. EndsIn g.S.BookService.may_have Solicit c.args.now c.args.order.now had has x) (sym c.refusal_outcome.ensures)
+    (offer_refusal g.S.BookService.may_have c.args.now c.args.order.now had has c.in-Err.refusal c.requires
     c.in-Err.ensures.offered
     c.in-Err.ensures.same)

@@ -6,8 +6,8 @@ use Rattle.client_service.proofs.ordering.served.Goals as goal
 
 pub returns-in-Err : goal.returns-in-Err
 returns-in-Err g c =
-    let had = g.S.Service.receipts c.args.pass.now in
-    let has = g.S.Service.receipts c.serve.new.pass in
-    subst (λ x. EndsIn g.S.Service.may_have Request c.args.now c.args.order.now had has x) (sym c.told_of.ensures)
-    (served_refusal g.S.Service.may_have c.args.now c.args.order.now had has c.in-Err.refusal c.in-Err.ensures.served
+    let had = g.S.BookService.receipts c.args.pass.now in
+    let has = g.S.BookService.receipts c.serve.new.pass in
+    subst (λ x. EndsIn g.S.BookService.may_have Request c.args.now c.args.order.now had has x) (sym c.refusal_outcome.ensures)
+    (served_refusal g.S.BookService.may_have c.args.now c.args.order.now had has c.in-Err.refusal c.in-Err.ensures.served
     c.in-Err.ensures.refused)

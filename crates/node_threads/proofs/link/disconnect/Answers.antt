@@ -1,10 +1,10 @@
 use Rattle.std.specs.Prelude.{⊤, None, refl}
 use Rattle.failover_message.specs.declared.frame.FrameKind.TheVariants.{Disconnect}
-use Rattle.link_talk.specs.declared.outbox.Handed.{Handed}
+use Rattle.failover_session.specs.declared.outbox.OutboundFrame.{OutboundFrame}
 use Rattle.node_threads.proofs.Wires.{word_out, no_word_out}
 use Rattle.node_threads.proofs.link.disconnect.Goals as goal
 
-abbrev word : Handed
+abbrev word : OutboundFrame
 word = record { frame = record { term = 0; serial = 0; kind = Disconnect }; number = None }
 
 pub returns-in-Ok : goal.returns-in-Ok

@@ -2,8 +2,8 @@ use Rattle.std.specs.Prelude.{refl}
 use Rattle.std.proofs.Common.{ap, subst, ◌∙◌}
 use Rattle.node_threads.proofs.Going.{goes_nowhere, goes_on}
 use Rattle.node_threads.proofs.Linking.{opening_lost, then_tells, then_has_told, talk_begun}
-use Rattle.link_talk.specs.Talking.{Unmet, IsGoing}
-use Rattle.link_talk.proofs.Front.{goes_on as is_going}
+use Rattle.failover_session.specs.Sessions.{Unmet, IsGoing}
+use Rattle.failover_session.proofs.Front.{goes_on as is_going}
 use Rattle.node_threads.proofs.link.serve_link.Goals as goal
 
 pub returns-in_default-clause-told : goal.returns-in_default-clause-told

@@ -1,7 +1,7 @@
 use Rattle.std.specs.Prelude.{◌≡◌, []}
-use Rattle.link_talk.specs.Handed.{opening}
-use Rattle.link_talk.specs.Receipts.{Goes}
-use Rattle.link_talk.specs.Talking.{met_at, Unmet}
+use Rattle.failover_session.specs.OutboundFrames.{opening}
+use Rattle.failover_session.specs.Receipts.{Goes}
+use Rattle.failover_session.specs.Sessions.{met_at, Unmet}
 use Rattle.node_threads.specs.Reading.{HeardAll}
 use Rattle.node_threads.specs.Writing.{HasTold}
 use Rattle.node_threads.proofs.link.serve_link.Given as goal

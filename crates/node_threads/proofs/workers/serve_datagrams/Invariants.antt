@@ -1,4 +1,4 @@
-use Rattle.link_talk.specs.Receipts.{Goes}
+use Rattle.failover_session.specs.Receipts.{Goes}
 use Rattle.node_threads.proofs.Turning.{HasMade}
 use Rattle.node_threads.proofs.workers.serve_datagrams.Given as goal
 

@@ -4,7 +4,7 @@ use Rattle.std.specs.Prelude.{IfOk, IfSome}
 use Rattle.std.proofs.lemmas.List.Elements.{All-pop}
 use Rattle.attribution.specs.declared.verdict.Verdict.{Verdict}
 use Rattle.parallel_check.specs.Counting.{times}
-use Rattle.parallel_check.specs.declared.drawing.Found.{Found}
+use Rattle.parallel_check.specs.declared.drawing.IndexedVerdict.{IndexedVerdict}
 use Rattle.parallel_check.specs.Verdicts.{IsVerdictAt}
 use Rattle.parallel_check.specs.Findings.{IsDone, IsDrawn, Settled}
 use Rattle.parallel_check.proofs.Placing.{settle_step, past_step, has_room}
@@ -22,7 +22,7 @@ seats-preserved g c =
     let d = subst (λ o. IfSome o (IsDone Q count c.args.word.now.table_id)) c.in-Some.is popped.1 in
     let found = subst (λ r. IfOk r (λ found. IsDrawn Q count c.in-Some.field-0.seat.me.0.numbers found.items))
     c.in-Ok.is d.found in
-    let drawn = subst (λ (fs : List Found). IsDrawn Q count c.in-Some.field-0.seat.me.0.numbers fs)
+    let drawn = subst (λ (fs : List IndexedVerdict). IsDrawn Q count c.in-Some.field-0.seat.me.0.numbers fs)
     (sym c.deref.ensures.value) found in
     let joined = c.take_in.ensures.1 in
     let numbers = ap (λ m. m.0.numbers) joined in
@@ -56,6 +56,6 @@ place-requires g c =
     let d = subst (λ o. IfSome o (IsDone Q count c.args.word.now.table_id)) c.in-Some.is popped.1 in
     let found = subst (λ r. IfOk r (λ found. IsDrawn Q count c.in-Some.field-0.seat.me.0.numbers found.items))
     c.in-Ok.is d.found in
-    let drawn = subst (λ (fs : List Found). IsDrawn Q count c.in-Some.field-0.seat.me.0.numbers fs)
+    let drawn = subst (λ (fs : List IndexedVerdict). IsDrawn Q count c.in-Some.field-0.seat.me.0.numbers fs)
     (sym c.deref.ensures.value) found in
     has_room Q count c.deref.result.now c.seats.verdicts drawn.right c.seats.invariant.room

@@ -1,7 +1,7 @@
 use Rattle.std.proofs.Common.{arith, rules, refl}
 use Rattle.std.proofs.lemmas.List.Sorted.{IsPartitionPoint-from_clause}
 use Rattle.std.proofs.lemmas.Option.{slice_get_read, get_or_from_slice_get}
-use Rattle.plain_search.specs.declared.collected.Dated.{Dated}
+use Rattle.plain_search.specs.declared.collected.DatedRelease.{DatedRelease}
 use Rattle.plain_search.specs.Collected.{shows_before}
 use Rattle.plain_search.proofs.Halving.{parted_before, none_fails, first_fails}
 use Rattle.plain_search.proofs.releases.first_cutting.Goals as goal
@@ -10,18 +10,18 @@ pub returns-then-place-releases : goal.returns-then-place-releases
 returns-then-place-releases c =
     let xs = c.args.releases.now in
     let parted = parted_before c.args.skew xs c.requires c.args.grant.now in
-    let point = IsPartitionPoint-from_clause (λ (x : Dated). shows_before c.args.skew x c.args.grant.now) _ _
+    let point = IsPartitionPoint-from_clause (λ (x : DatedRelease). shows_before c.args.skew x c.args.grant.now) _ _
     c.partition_point-place.ensures.partitioned parted (λ a r q k. search rules) in
-    none_fails (λ (x : Dated). shows_before c.args.skew x c.args.grant.now) xs c.partition_point-place.result point
+    none_fails (λ (x : DatedRelease). shows_before c.args.skew x c.args.grant.now) xs c.partition_point-place.result point
     (omega arith)
 
 pub returns : goal.returns
 returns c =
     let xs = c.args.releases.now in
     let parted = parted_before c.args.skew xs c.requires c.args.grant.now in
-    let point = IsPartitionPoint-from_clause (λ (x : Dated). shows_before c.args.skew x c.args.grant.now) _ _
+    let point = IsPartitionPoint-from_clause (λ (x : DatedRelease). shows_before c.args.skew x c.args.grant.now) _ _
     c.partition_point-place.ensures.partitioned parted (λ a r q k. search rules) in
-    first_fails (λ (x : Dated). shows_before c.args.skew x c.args.grant.now) xs c.partition_point-place.result point
+    first_fails (λ (x : DatedRelease). shows_before c.args.skew x c.args.grant.now) xs c.partition_point-place.result point
     c.requires c.index-releases-place.result (let bound = c.partition_point-place.ensures.bound in omega arith)
     (λ d. get_or_from_slice_get xs c.partition_point-place.result c.index-releases-place.result d
     (slice_get_read xs _ c.partition_point-place.result c.index-releases-place.result refl (let bound =

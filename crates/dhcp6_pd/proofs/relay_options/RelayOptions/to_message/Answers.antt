@@ -13,24 +13,24 @@ returns-in_err-option c =
     let p = err_from_is_err_and c.from_residual.result c.from_residual.ensures.1 in
     rw (p.1, p.2) (breaks _ _ _ _ c.loop-option.invariant (broke _ _ _ _ c.next_option.ensures c.in_err-option.was))
 
-pub returns-in_err-keep : goal.returns-in_err-keep
-returns-in_err-keep c =
+pub returns-in_err-store_option : goal.returns-in_err-store_option
+returns-in_err-store_option c =
     let here = took _ _ _ _ c.next_option.ensures (c.in_ok-option.was ∙ ap (λ o. Ok o) c.in-Some.is) in
-    let p = err_from_is_err_and c.from_residual-in_err-keep.result c.from_residual-in_err-keep.ensures.1 in
+    let p = err_from_is_err_and c.from_residual-in_err-store_option.result c.from_residual-in_err-store_option.ensures.1 in
     rw (p.1, p.2) (fails_with {X = Option (Bor (List ℕ))} (λ found.
-    (c.loop-option.self, found_in (row_of c.next_option.new.self.rest.now) found)) _ c.keep.new.self _ _ _ _ _
-    c.loop-option.invariant here c.in_err-keep.ensures)
+    (c.loop-option.self, found_in (row_of c.next_option.new.self.rest.now) found)) _ c.store_option.new.self _ _ _ _ _
+    c.loop-option.invariant here c.in_err-store_option.ensures)
 
 pub returns-then-option-eq-RELAY_MESSAGE : goal.returns-then-option-eq-RELAY_MESSAGE
 returns-then-option-eq-RELAY_MESSAGE c =
     let here = took _ _ _ _ c.next_option.ensures (c.in_ok-option.was ∙ ap (λ o. Ok o) c.in-Some.is) in
-    comes _ _ _ _ _ _ c.loop-option.invariant here (given _ _ _ _ c.keep.ensures c.in_ok-keep.was)
+    comes _ _ _ _ _ _ c.loop-option.invariant here (given _ _ _ _ c.store_option.ensures c.in_ok-store_option.was)
     (eq-eqb _ _ c.if-option-eq-RELAY_MESSAGE.true)
 
 pub loop-option-preserved : goal.loop-option-preserved
 loop-option-preserved c =
     let here = took _ _ _ _ c.next_option.ensures (c.in_ok-option.was ∙ ap (λ o. Ok o) c.in-Some.is) in
-    goes_on _ _ _ _ _ _ c.loop-option.invariant here (given _ _ _ _ c.keep.ensures c.in_ok-keep.was)
+    goes_on _ _ _ _ _ _ c.loop-option.invariant here (given _ _ _ _ c.store_option.ensures c.in_ok-store_option.was)
     (ne_eqb _ _ c.if-option-eq-RELAY_MESSAGE.false)
 
 pub returns : goal.returns

@@ -16,7 +16,7 @@ returns c = (
       c.length_in-length.ensures.spelled
       c.split_at.ensures.front_len
       c.if-length-gt-MOST.false
-      (c.if-not-is_same.ensures.0 refl ∙ c.code_of.ensures
+      (c.if-not-equal_in_constant_time.ensures.0 refl ∙ c.record_mac.ensures
       ∙ ap (λ (a : Ahead). code_of c.args.key.now a.number c.split_at.result.0.now) c.self.view_is),
   c.in-Some-checked_add.ensures.1 ∙ ap (λ (a : Ahead). a.number + 1) c.self.view_is,
 )
@@ -37,7 +37,7 @@ returns-in_default-checked_add c = (
         c.length_in-length.ensures.spelled
         c.split_at.ensures.front_len
         c.if-length-gt-MOST.false
-        (c.if-not-is_same.ensures.0 refl ∙ c.code_of.ensures
+        (c.if-not-equal_in_constant_time.ensures.0 refl ∙ c.record_mac.ensures
         ∙ ap (λ (a : Ahead). code_of c.args.key.now a.number c.split_at.result.0.now) c.self.view_is);
   },
   refl,

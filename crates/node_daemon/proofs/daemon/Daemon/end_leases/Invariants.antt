@@ -1,4 +1,4 @@
-use Rattle.daemon_parties.specs.Hearing.{HasSameFiles}
+use Rattle.daemon_endpoints.specs.Receiving.{HasSameFiles}
 use Rattle.node_daemon.proofs.daemon.Daemon.end_leases.Given as goal
 
 abbrev pub invariant-loop-lease : goal.invariant-loop-lease

@@ -1,7 +1,7 @@
 use Rattle.std.specs.Prelude.{◌≡◌, ◌++◌, refl, Err}
 use Rattle.std.proofs.Common.{ap, ◌∙◌}
-use Rattle.link_talk.specs.declared.error.TalkError.TheVariants.{Memory}
-use Rattle.link_talk.specs.Handed.{said_of, opening}
+use Rattle.failover_session.specs.declared.error.SessionError.TheVariants.{Memory}
+use Rattle.failover_session.specs.OutboundFrames.{meanings_of, opening}
 use Rattle.node_threads.specs.Ending.{fault_of}
 use Rattle.node_threads.proofs.Linking.{opening_lost, opening_told, opening_whole}
 use Rattle.node_threads.proofs.link.LinkEnd.greet.Goals as goal
@@ -14,18 +14,18 @@ returns-in-Err-clause-told g c =
 
 pub returns-in-Ok-clause-told : goal.returns-in-Ok-clause-told
 returns-in-Ok-clause-told g c =
-    let said : said_of c.greet.new.self.handed ≡ opening c.args.self.now.settings.now.role c.args.pass.now.receipts =
+    let said : meanings_of c.send_greeting.new.self.handed ≡ opening c.args.self.now.settings.now.role c.args.pass.now.receipts =
     c.in-Ok.ensures.said
-    ∙ ap (λ t. said_of t.handed ++ opening c.args.self.now.settings.now.role c.args.pass.now.receipts) c.requires in
+    ∙ ap (λ t. meanings_of t.handed ++ opening c.args.self.now.settings.now.role c.args.pass.now.receipts) c.requires in
     opening_told g.W.Wire.brings g.W.Wire.writes g.W.Wire.fails c.args.self.now.settings.now.role
-    c.args.pass.now.receipts c.greet.new.self.handed _ _ _ said
+    c.args.pass.now.receipts c.send_greeting.new.self.handed _ _ _ said
     c.write_out.ensures.out
 
 pub returns-in-Ok-clause-whole : goal.returns-in-Ok-clause-whole
 returns-in-Ok-clause-whole g c =
-    let said : said_of c.greet.new.self.handed ≡ opening c.args.self.now.settings.now.role c.args.pass.now.receipts =
+    let said : meanings_of c.send_greeting.new.self.handed ≡ opening c.args.self.now.settings.now.role c.args.pass.now.receipts =
     c.in-Ok.ensures.said
-    ∙ ap (λ t. said_of t.handed ++ opening c.args.self.now.settings.now.role c.args.pass.now.receipts) c.requires in
+    ∙ ap (λ t. meanings_of t.handed ++ opening c.args.self.now.settings.now.role c.args.pass.now.receipts) c.requires in
     opening_whole g.W.Wire.brings g.W.Wire.writes g.W.Wire.fails c.args.self.now.settings.now.role
-    c.args.pass.now.receipts c.greet.new.self.handed _ _ _ said
+    c.args.pass.now.receipts c.send_greeting.new.self.handed _ _ _ said
     c.write_out.ensures.whole

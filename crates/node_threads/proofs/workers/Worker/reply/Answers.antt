@@ -1,5 +1,5 @@
 use Rattle.std.proofs.Common.{refl, subst, []}
-use Rattle.client_service.specs.Answering.{IsTold, IsSilent}
+use Rattle.client_service.specs.Answering.{IsTold, HasNoReply}
 use Rattle.node_threads.specs.Sending.{AnyJournal}
 use Rattle.node_threads.proofs.Told.{told_goes, silent_goes}
 use Rattle.node_threads.proofs.Replying.{replied, none_replied}
@@ -21,7 +21,7 @@ returns-in-Ok-clause-goes g c =
 
 pub returns-clause-heard : goal.returns-clause-heard
 returns-clause-heard g c =
-    let silent = subst (λ m. IsSilent AnyJournal c.args.self.now.partner c.args.self.now.own.now m c.args.message.now []
+    let silent = subst (λ m. HasNoReply AnyJournal c.args.self.now.partner c.args.self.now.own.now m c.args.message.now []
     c.args.now c.args.pass.now.receipts c.answer_to.new.pass.receipts c.in-Err.why) c.plain-manner.ensures
     c.in-Err.ensures.silent in
     none_replied g.M.Mailbox.sends g.M.Mailbox.fails c.args.self.now.partner c.args.self.now.own.now c.args.peer

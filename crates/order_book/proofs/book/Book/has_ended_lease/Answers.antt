@@ -1,5 +1,5 @@
 use Rattle.std.proofs.Common.{subst}
-use Rattle.unit_finder.specs.Queries.{IsFirstExpiry}
+use Rattle.unit_index.specs.Queries.{IsFirstExpiry}
 use Rattle.order_book.proofs.Expiry.{first_by_then, none_to_expire}
 use Rattle.order_book.proofs.book.Book.has_ended_lease.Goals as goal
 

@@ -1,6 +1,0 @@
-use Rattle.std.proofs.Common.{rules}
-use Rattle.archive_files.proofs.found.glimpse_of.Goals as goal
-
-pub returns-in-Some : goal.returns-in-Some
-returns-in-Some g c =
-    (c.in_ok-beginning.beginning.items, c.in_ok-end.end, c.in_ok-beginning.ensures, c.in_ok-end.ensures, search rules)

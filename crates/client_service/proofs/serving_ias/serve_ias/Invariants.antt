@@ -1,0 +1,9 @@
+use Rattle.std.proofs.Common.{◌≡◌, ◌≤◌, length}
+use Rattle.client_service.specs.Ending.{AreFirstServed}
+use Rattle.client_service.proofs.serving_ias.serve_ias.Given as goal
+
+abbrev pub invariant-loop-place : goal.invariant-loop-place
+invariant-loop-place g l =
+    (length l.answers.items ≡ l.place) × (l.place ≤ l.place-end) × (l.place-end ≡ length l.message.ias)
+    × AreFirstServed g.S.BookService.may_have l.partner l.message l.permits l.now l.place
+    (g.S.BookService.receipts l.initial.pass) (g.S.BookService.receipts l.pass) l.answers.items l.line

@@ -1,0 +1,3 @@
+pub mod Receiving
+pub mod Saying
+pub mod Sending

@@ -1,0 +1,28 @@
+//! Those whom a daemon hears and tells: clients, the partner, and the person at the control socket.
+//!
+//! Each party is heard in a turn, and told what was held back for it once the lines that this tells of are on the disk.
+//! They stand on devices that don't wait (`daemon_io`), and on a server that runs (`server_core`).
+//!
+//! ```text
+//! clients.hear(&mut running, &manner, &clocks, &mut log)?;
+//! partner.hear(&mut running, &settings, &now, &clocks, &mut log)?;
+//! .. running.settle() ..
+//! tell(&mut clients, &mut partner, &mut running, &answers, &frames, &now, &mut log);
+//! desk.tell(now.instant);
+//! ```
+#![tactic(auto)]
+
+mod clients;
+mod clocks;
+mod control_server;
+mod partner;
+mod peer_connection;
+mod receiving;
+mod sending;
+
+pub use clients::ClientEndpoint;
+pub use clocks::{Clocks, Moment, SystemClocks};
+pub use control_server::ControlServer;
+pub use partner::PartnerEndpoint;
+pub use receiving::ReceiveError;
+pub use sending::send_committed;

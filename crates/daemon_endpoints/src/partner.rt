@@ -1,0 +1,313 @@
+//! The partner: the connections that wait, and the one that stands.
+
+ghost use Rattle.std.specs.Prelude.{◌≡◌, [], Some, None, IfOk, IfSome};
+ghost use Rattle.daemon_io.specs.ConnectionWrites.{IsUnused};
+ghost use Rattle.daemon_endpoints.specs.Receiving.{HasSameFiles};
+ghost use Rattle.daemon_endpoints.specs.Saying.{frames_of, SaysOver, StandsOn, MayStand};
+
+use crate::clocks::{Clocks, Moment};
+use crate::peer_connection::{PeerConnection, parting_of};
+use crate::receiving::ReceiveError;
+use daemon_io::{Connection, ConnectionSource, PeerRejected, PendingPeers};
+use disk_model::Folder;
+use failover_session::{OutboundFrame, SessionStage};
+use lead_time::Reading;
+use link_auth::{EntryFault, PeerAuthenticator};
+use order_book::Order;
+use server_core::ServerCore;
+use server_log::{DisconnectReason, Log, LogEvent};
+use server_settings::Settings;
+use std::alloc::{AllocError, Global};
+use std::marker::Model;
+
+/// How many octets are read at once, at most.
+const READ_SIZE: usize = 65_536;
+
+/// The way to the partner. Contracts see what was given to the connection that stands, if one does.
+#[derive(Drop)]
+pub struct PartnerEndpoint<D: ConnectionSource> {
+    alloc: Global,
+    door: D,
+    buffer: Vec<u8>,
+    waiting: PendingPeers<D::Stream>,
+    standing: Option<PeerConnection<D>>,
+}
+
+impl<D: ConnectionSource> Model for PartnerEndpoint<D> {
+    ghost use Rattle.std.specs.Prelude.{Option, option_map};
+    ghost use Rattle.daemon_io.specs.ConnectionWrites.{Sent};
+
+    ghost Value = { Option Sent };
+
+    ghost view = { λ p. option_map (λ s. s.connection.sent) p.standing };
+}
+
+/// What a person is told of one that waited and wasn't let in.
+fn event_of(leaving: &PeerRejected) -> LogEvent {
+    match leaving {
+        PeerRejected::Refused(EntryFault::Forged) => LogEvent::Disconnected(
+            DisconnectReason::Forged,
+        ),
+        PeerRejected::Refused(EntryFault::Stranger) => LogEvent::Disconnected(
+            DisconnectReason::Stranger,
+        ),
+        PeerRejected::Refused(EntryFault::Memory) => LogEvent::Disconnected(
+            DisconnectReason::Memory,
+        ),
+        PeerRejected::Late => LogEvent::Disconnected(DisconnectReason::Unproved),
+        PeerRejected::Lost => LogEvent::Disconnected(DisconnectReason::LostUnproved),
+        PeerRejected::Displaced => LogEvent::Rejected,
+    }
+}
+
+impl<D: ConnectionSource> PartnerEndpoint<D> {
+    /// A partner who comes by a door, and is let in by a keeper. An error where a growth was refused.
+    pub fn new(
+        alloc: Global,
+        door: D,
+        keeper: PeerAuthenticator,
+    ) -> Result<PartnerEndpoint<D>, AllocError>
+        ensures { IfOk result (λ p. p ≡ None) }
+    {
+        Ok(PartnerEndpoint {
+            alloc,
+            door,
+            buffer: vec![in alloc; 0u8; READ_SIZE]?,
+            waiting: PendingPeers::new(alloc, keeper),
+            standing: None,
+        })
+    }
+
+    /// Since when there is a connection; none where there is none.
+    pub fn connected(&self) -> Option<Reading> {
+        Some(self.standing.as_ref()?.begun.reading)
+    }
+
+    /// When the partner was heard last over the connection that stands.
+    pub fn heard(&self) -> Option<Reading> {
+        self.standing.as_ref()?.heard
+    }
+
+    /// Gives connections that have come a seat, as far as there is room. Where there is none the next is closed, and
+    /// that is told: returns whether one was.
+    fn accept_connections<L: Print>(&mut self, now: &Moment, log: &mut Log<'_, L>) -> bool
+        ensures { self.new ≡ self.old }
+    {
+        let stands = self.standing.is_some();
+        if !self.waiting.has_room(stands) {
+            return self.turn_away(now, log);
+        }
+        for _place in 0..self.waiting.places() {
+            if !self.waiting.has_room(stands) {
+                return false;
+            }
+            match self.door.next_connection(now.instant) {
+                Some(arrival) => self.waiting.seat(arrival, now.instant),
+                None => return false,
+            }
+        }
+        false
+    }
+
+    /// Closes a connection that has come, and tells it. Returns whether one had.
+    fn turn_away<L: Print>(&mut self, now: &Moment, log: &mut Log<'_, L>) -> bool
+        ensures { self.new ≡ self.old }
+    {
+        let has_other = self.door.reject_next();
+        if has_other {
+            log.log_limited(&LogEvent::Rejected, now.reading);
+        }
+        has_other
+    }
+
+    /// Goes on with those that wait, and tells why others left. Gives the one that is let in now.
+    fn authenticate_pending<L: Print>(
+        &mut self,
+        now: &Moment,
+        log: &mut Log<'_, L>,
+    ) -> Option<Connection<D::Stream>>
+        ensures same { self.new ≡ self.old }
+        ensures unused { IfSome result (λ c. IsUnused c.sent.passage) }
+    {
+        let entered = self.waiting.go_on(&mut self.buffer, now.instant);
+        for leaving in self.waiting.left().as_slice() {
+            log.log_limited(&event_of(leaving), now.reading);
+            self.door.back_off(false, now.instant);
+        }
+        entered
+    }
+
+    /// Parts with the connection that stands, where there is one: the partner has another.
+    fn replace<F: Folder + Drop, P: Drop, L: Print>(
+        &mut self,
+        running: &mut ServerCore<F, P>,
+        now: &Moment,
+        log: &mut Log<'_, L>,
+    )
+    where
+        F::File: Drop,
+        ensures files { HasSameFiles running.old running.new }
+        ensures none { self.new ≡ None }
+    {
+        if let Some(standing) = self.standing.take() {
+            standing.log_disconnect(DisconnectReason::Replaced, now, log);
+            running.disconnect_partner();
+        }
+    }
+
+    /// Begins the talk over the connection of who was let in.
+    fn begin_session<F: Folder + Drop, P: Drop>(
+        &mut self,
+        running: &mut ServerCore<F, P>,
+        settings: &Settings,
+        connection: Connection<D::Stream>,
+        now: &Moment,
+    )
+    where
+        F::File: Drop,
+        ensures files { HasSameFiles running.old running.new }
+        ensures stands { self.new ≡ Some connection.sent }
+    {
+        let mut standing = PeerConnection::new(connection, now);
+        if let Err(error) = running.connect_partner(settings) {
+            standing.parting = Some(parting_of(error));
+        }
+        self.standing = Some(standing);
+    }
+
+    /// Hears the partner over the connection that stands, where there is one. Returns whether anything came.
+    fn receive_over_connection<F: Folder + Drop, P: Drop, C: Clocks, L: Print>(
+        &mut self,
+        running: &mut ServerCore<F, P>,
+        settings: &Settings,
+        has_other: bool,
+        now: &Moment,
+        clocks: &C,
+        log: &mut Log<'_, L>,
+    ) -> Result<bool, ReceiveError>
+    where
+        F::File: Drop,
+        ensures files { HasSameFiles running.old running.new }
+        ensures stands { MayStand self.old self.new }
+    {
+        let Some(mut standing) = self.standing.take() else {
+            return Ok(false);
+        };
+        let has_come = standing.receive(running, settings, &mut self.buffer, now.instant, clocks)?;
+        standing.log_joined(running.stage(), log);
+        standing.log_silence(now, log);
+        standing.close_if_stale(has_other, now);
+        self.standing = Some(standing);
+        Ok(has_come)
+    }
+
+    /// Hears the partner: over the connection that stands, or by one that waited and is let in. Returns whether
+    /// anything came.
+    pub fn receive<F: Folder + Drop, P: Drop, C: Clocks, L: Print>(
+        &mut self,
+        running: &mut ServerCore<F, P>,
+        settings: &Settings,
+        now: &Moment,
+        clocks: &C,
+        log: &mut Log<'_, L>,
+    ) -> Result<bool, ReceiveError>
+    where
+        F::File: Drop,
+        ensures files { HasSameFiles running.old running.new }
+        ensures stands { MayStand self.old self.new }
+    {
+        if let Some(connection) = self.authenticate_pending(now, log) {
+            self.replace(running, now, log);
+            self.begin_session(running, settings, connection, now);
+            return Ok(true);
+        }
+        let has_other = self.accept_connections(now, log);
+        match self.receive_over_connection(running, settings, has_other, now, clocks, log) {
+            Ok(has_come) => Ok(self.waiting.has_come() || has_come),
+            Err(error) => Err(error),
+        }
+    }
+
+    /// Sends the partner a contact: over the connection, where the two have joined over one; else it is a line that the
+    /// partner is told of over the next. Where the book refuses it now, nothing is done.
+    pub fn contact<F: Folder + Drop, P: Drop>(
+        &mut self,
+        running: &mut ServerCore<F, P>,
+        settings: &Settings,
+        now: &Moment,
+    )
+    where
+        F::File: Drop,
+        ensures files { HasSameFiles running.old running.new }
+        ensures same { self.new ≡ self.old }
+    {
+        match (&mut self.standing, running.stage()) {
+            (Some(standing), Some(SessionStage::Joined { .. })) => standing.send_heartbeat(
+                running, settings, now,
+            ),
+            _ => {
+                let _refused = running.serve(now.reading, &Order::SendContact);
+            }
+        }
+    }
+
+    /// Says the frames that were held back, and ends the connection where it is over.
+    pub fn send_frames<F: Folder + Drop, P: Drop, L: Print>(
+        &mut self,
+        running: &mut ServerCore<F, P>,
+        frames: &[OutboundFrame],
+        now: &Moment,
+        log: &mut Log<'_, L>,
+    )
+    where
+        F::File: Drop,
+        ensures files { HasSameFiles running.old running.new }
+        ensures said { SaysOver (frames_of frames.now) self.old self.new }
+    {
+        let Some(mut standing) = self.standing.take() else {
+            return;
+        };
+        standing.send_frames(self.alloc, frames);
+        match standing.disconnect_reason(running.stage()) {
+            Some(parting) => {
+                standing.log_disconnect(parting, now, log);
+                running.disconnect_partner();
+                self.door
+                    .back_off(standing.is_followed_soon(&parting, now), now.instant);
+            }
+            None => self.standing = Some(standing),
+        }
+    }
+
+    /// Ends the connection behind this turn, where there is one: in the next one the partner names what it has taken,
+    /// and receipts of older volumes are forgotten.
+    pub fn reconnect(&mut self)
+        ensures { self.new ≡ self.old }
+    {
+        if let Some(standing) = &mut self.standing {
+            if standing.parting.is_none() {
+                standing.parting = Some(DisconnectReason::Rolled);
+            }
+        }
+    }
+
+    /// Says DISCONNECT, where there is a connection.
+    pub fn send_disconnect(&mut self)
+        ensures { SaysOver [] self.old self.new }
+    {
+        if let Some(standing) = &mut self.standing {
+            standing.send_disconnect(self.alloc);
+        }
+    }
+
+    /// Reads on behind DISCONNECT, and passes it over: a connection that is closed with octets unread may lose what was
+    /// written last. Returns whether the other end goes on.
+    pub fn drain(&mut self, now: &Moment) -> bool
+        ensures { StandsOn self.old self.new }
+    {
+        let Some(standing) = &mut self.standing else {
+            return false;
+        };
+        standing.drain(&mut self.buffer, now.instant)
+    }
+}

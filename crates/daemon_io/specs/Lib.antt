@@ -1,0 +1,2 @@
+pub mod ConnectionWrites
+pub mod Timeouts

@@ -1,0 +1,42 @@
+//! What a daemon of one thread hears and says by, none of which waits: datagrams, the connection with the partner, the
+//! door by which it comes, and the control socket.
+//!
+//! Each device has a trait, over which a loop is generic, so that a test may hold its own; and one of the system's
+//! sockets. A call gives what has come by now, or nothing. Where a turn of the loop found nothing anywhere, it rests
+//! ([`Poller`]) until a socket has something, or a time is up.
+//!
+//! Of the connections that come by the door nothing counts at first: they wait side by side ([`PendingPeers`]) until one
+//! is let in (`link_auth`), and has 5 s for that.
+//!
+//! What is written to a stream that takes no more now waits in [`SendBuffer`], and goes out at a later turn.
+//!
+//! ```text
+//! let rest = Readiness::new(&rt)?;
+//! let mut datagrams = UdpDatagrams::bind(&rt, listen, &rest)?;
+//! let mut door = SystemConnectionSource::listen(&rt, address, &rest)?;
+//! ..
+//! while let Some((length, peer)) = datagrams.receive(&mut buffer)? { .. }
+//! rest.rest(Duration::from_millis(50))?;
+//! ```
+#![tactic(auto)]
+
+mod connection;
+mod connection_source;
+mod control;
+mod control_client;
+mod datagrams;
+mod non_blocking_stream;
+mod pending_peer;
+mod pending_peers;
+mod polling;
+mod send_buffer;
+
+pub use connection::{Connection, ConnectionLost, IdleSecond, ReadOutcome};
+pub use connection_source::{ConnectionSource, NewConnection, SystemConnectionSource};
+pub use control::{Control, ControlSocket};
+pub use datagrams::{Datagrams, UdpDatagrams};
+pub use non_blocking_stream::NonBlockingStream;
+pub use pending_peer::PeerRejected;
+pub use pending_peers::PendingPeers;
+pub use polling::{PollRegistry, Poller, Readiness};
+pub use send_buffer::SendBuffer;

@@ -1,5 +1,0 @@
-use Rattle.std.specs.Prelude.{◌≡◌}
-use Rattle.daemon_parties.proofs.partner.Partner.let_in.Given as goal
-
-abbrev pub invariant-loop-leaving : goal.invariant-loop-leaving
-invariant-loop-leaving g l = l.self-inside.standing ≡ l.initial.self-inside.standing

@@ -1,0 +1,93 @@
+//! Two servers: one that serves beside its partner, and one that has just begun.
+
+use binding_rules::Role;
+use lead_time::{LeadTimeError, Reading};
+use server_status::{
+    AnswerCounts, ClockState, FaultCounts, LinkState, MessageCounts, PartnerState, ServerStatus,
+    SyncSummary, Traffic, UnitCounts, VolumeStatus,
+};
+use server_timers::{RollBlocked, RollState, Room};
+
+/// A server that has served for a while.
+pub(crate) fn serving() -> Result<ServerStatus, LeadTimeError> {
+    Ok(ServerStatus {
+        role: Role::Primary,
+        reading: Reading::new(1_795_460_505_623)?,
+        clock: ClockState::Right,
+        volume: VolumeStatus {
+            number: 3,
+            lines: 1042,
+            synced: 1040,
+            opened: Reading::new(1_795_460_400_000)?,
+            written: Reading::new(1_795_460_504_420)?,
+            roll: RollState::Blocked(RollBlocked::UnitMarked),
+            room: Room::Enough,
+        },
+        units: UnitCounts {
+            own: 100,
+            partners: 50,
+            delegated: 90,
+            expired: 12,
+            released: 4,
+            due: 7,
+            marked: 1,
+        },
+        standing: PartnerState::Normal,
+        link: LinkState::Connected {
+            since: Reading::new(1_795_460_500_000)?,
+        },
+        heard: Some(Reading::new(1_795_460_504_419)?),
+        traffic: Traffic {
+            messages: MessageCounts {
+                solicit: 31,
+                request: 30,
+                renew: 400,
+                rebind: 2,
+                release: 5,
+            },
+            faults: FaultCounts {
+                short: 1,
+                not_ours: 9,
+                ..Traffic::NONE.faults
+            },
+            answers: AnswerCounts {
+                advertise: 31,
+                reply: 435,
+            },
+            unanswered: 2,
+            late: 3,
+            held: 6,
+        },
+        syncs: Some(SyncSummary {
+            count: 61,
+            median: 420,
+            worst: 1_012_000,
+        }),
+    })
+}
+
+/// A server whose clock is behind, and which waits for its partner since it began.
+pub(crate) fn waiting() -> Result<ServerStatus, LeadTimeError> {
+    Ok(ServerStatus {
+        role: Role::Secondary,
+        reading: Reading::new(1_795_460_400_000)?,
+        clock: ClockState::Behind,
+        volume: VolumeStatus {
+            number: 1,
+            lines: 2,
+            synced: 2,
+            opened: Reading::new(1_795_460_400_000)?,
+            written: Reading::new(1_795_460_505_623)?,
+            roll: RollState::NotDue,
+            room: Room::Full,
+        },
+        units: UnitCounts::NONE,
+        standing: PartnerState::Waiting {
+            since: Reading::new(1_795_460_400_000)?,
+        },
+        link: LinkState::Apart,
+        heard: None,
+        traffic: Traffic::NONE,
+        syncs: None,
+    })
+}

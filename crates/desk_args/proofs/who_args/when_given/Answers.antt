@@ -1,0 +1,24 @@
+use Rattle.std.proofs.Common.{◌≡◌, ◌∙◌, sym, Option, Some, None, subst, codes}
+use Rattle.std.specs.Prelude.{IfSome}
+use Rattle.clap.specs.Words.{Text, first_of, rows_of, found_of}
+use Rattle.clap.proofs.WalkLemmas.{first_value-rows}
+use Rattle.desk_args.specs.Given.{IsWhen}
+use Rattle.desk_args.proofs.who_args.when_given.Goals as goal
+
+pub returns-in_err-get_str-clause-none : goal.returns-in_err-get_str-clause-none
+returns-in_err-get_str-clause-none c none d is =
+    let found : None ≡ first_of (codes "at") (rows_of (found_of c.args.options.now)) =
+    c.in_err-get_str.ensures ∙ first_value-rows (found_of c.args.options.now) (codes "at") in
+    subst (λ (o : Option Text). IsWhen o d) (sym found) is
+
+pub returns-clause-given : goal.returns-clause-given
+returns-clause-given c =
+    let found : Some c.in_ok-get_str.field-0.now ≡ first_of (codes "at") (rows_of (found_of c.args.options.now)) =
+    c.in_ok-get_str.ensures ∙ first_value-rows (found_of c.args.options.now) (codes "at") in
+    subst (λ (o : Option Text). IfSome c.when_in.result (IsWhen o)) found c.when_in.ensures.given
+
+pub returns-clause-none : goal.returns-clause-none
+returns-clause-none c none d is =
+    let found : Some c.in_ok-get_str.field-0.now ≡ first_of (codes "at") (rows_of (found_of c.args.options.now)) =
+    c.in_ok-get_str.ensures ∙ first_value-rows (found_of c.args.options.now) (codes "at") in
+    c.when_in.ensures.none none d (subst (λ (o : Option Text). IsWhen o d) (sym found) is)

@@ -1,4 +1,0 @@
-use Rattle.dhcp6_pd.proofs.untested.+message_in.Given as goal
-
-abbrev pub decreases-message_in : goal.decreases-message_in
-decreases-message_in l = l.left

@@ -1,0 +1,15 @@
+//! A book that nobody else serves, as a talk gives orders to it.
+//!
+//! [`ExclusiveBook`] is a book with the receipts of what its end of the link ordered, and [`ExclusivePairBook`] gives it orders as
+//! [`PairBook`](failover_session::PairBook) promises, without a lock: for programs that answer calls, and for tests.
+//!
+//! ```text
+//! let mut own = ExclusiveBook::new(alloc, book);
+//! talk.greet(&own, &settings)?;
+//! talk.turn(&ExclusivePairBook, &mut own, &settings, now, &LinkInput::Octets(octets))?;
+//! ```
+#![tactic(auto)]
+
+mod exclusive;
+
+pub use exclusive::{ExclusiveBook, ExclusivePairBook};

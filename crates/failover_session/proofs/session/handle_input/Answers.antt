@@ -1,0 +1,8 @@
+use Rattle.failover_session.proofs.Turns.{turn_heard, octets_are}
+use Rattle.failover_session.proofs.session.handle_input.Goals as goal
+
+pub returns-in-Ok-clause-turn : goal.returns-in-Ok-clause-turn
+returns-in-Ok-clause-turn g c =
+    turn_heard _ c.args.came.now c.args.feed.now c.feed.new.self c.deref.result.now _ _ _ _ _ _
+    (octets_are c.args.came.now c.in-Octets.octets c.args.feed.now c.feed.new.self c.deref.result.now c.in-Octets.is
+    (rw (c.deref.ensures.value) c.in-Ok.ensures.split)) c.handle_frames.ensures.front

@@ -1,0 +1,5 @@
+pub mod Messages
+pub mod Receipts
+pub mod OutboundFrames
+pub mod Sessions
+pub mod Polling

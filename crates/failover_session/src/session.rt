@@ -1,0 +1,203 @@
+//! The talk of one connection.
+
+ghost use Rattle.std.specs.Prelude.{◌≡◌, ◌++◌, [], OnOk, OnErr, IsErrOf};
+ghost use Rattle.failover_session.specs.declared.error.SessionError.{SessionError as Error};
+ghost use Rattle.failover_session.specs.declared.error.SessionError.TheVariants.{Memory};
+ghost use Rattle.failover_session.specs.declared.stage.SessionStage.TheVariants.{Greeting};
+ghost use Rattle.failover_session.specs.Receipts.{Goes};
+ghost use Rattle.failover_session.specs.OutboundFrames.{meanings_of, opening};
+ghost use Rattle.failover_session.specs.Sessions.{SendsLines, met_at, IsGoing};
+ghost use Rattle.failover_session.specs.Polling.{IsPoll, IsWholePoll};
+
+use crate::book::{PairBook, Receipts};
+use crate::error::SessionError;
+use crate::link_endpoint::LinkEndpoint;
+use crate::link_input::LinkInput;
+use crate::outbox::OutboundFrame;
+use crate::sent_state::last_taken;
+use crate::session_state::SessionState;
+use crate::stage::SessionStage;
+use binding_rules::Role;
+use failover_message::{Feed, LinkError};
+use lead_time::Reading;
+use server_settings::Settings;
+use std::alloc::Global;
+use std::marker::Model;
+use std::mem;
+
+/// The talk of one connection with the partner. Contracts see the octets that it holds of a frame that hasn't come
+/// whole, how far the two ends have come, and the frames that are to be written.
+#[derive(Drop)]
+pub struct FailoverSession {
+    alloc: Global,
+    feed: Feed,
+    stage: SessionStage,
+    duties: SessionState,
+}
+
+impl Model for FailoverSession {
+    ghost use Rattle.failover_session.specs.Polling.{SessionModel};
+
+    ghost Value = { SessionModel };
+
+    ghost view = { λ t. record {
+      held = t.feed;
+      stage = t.stage;
+      handed = t.duties.out.items;
+    } };
+}
+
+/// Takes what came, and hands out what follows from it.
+#[tactic(auto, using(crate::proofs::Turns::parts))]
+fn handle_input<B: PairBook>(
+    end: &LinkEndpoint<'_, B>,
+    pass: &mut B::Pass,
+    feed: &mut Feed,
+    stage: &mut SessionStage,
+    duties: &mut SessionState,
+    came: &LinkInput<'_>,
+) -> Result<(), SessionError>
+    ensures turn { IsPoll end.now.role came.now feed.old (met_at stage.old) (met_at stage.new)
+        (B.Pass.receipts pass.old) (B.Pass.receipts pass.new) duties.old.out.items duties.new.out.items }
+    ensures whole { OnOk result (IsGoing stage.new → IsWholePoll end.now.role came.now feed.old feed.new
+        (met_at stage.old) (met_at stage.new) (B.Pass.receipts pass.old) (B.Pass.receipts pass.new)
+        duties.old.out.items duties.new.out.items) }
+{
+    match came {
+        LinkInput::Octets(octets) => {
+            let frames = match feed.feed(octets) {
+                Ok(frames) => frames,
+                Err(LinkError::Memory) => return Err(SessionError::Memory),
+                Err(_) => return Err(SessionError::Frame),
+            };
+            end.handle_frames(pass, duties, stage, &frames)
+        }
+        LinkInput::Idle => end.handle_idle(pass, duties, stage),
+        LinkInput::HeartbeatDue => end.handle_heartbeat(pass, duties, stage),
+        LinkInput::Closed => {
+            *stage = stage.ended();
+            Ok(())
+        }
+    }
+}
+
+/// Does one turn: takes what came, and then hands out what is to be sent, where the two ends have joined.
+#[tactic(auto, using(crate::proofs::Turns::then))]
+fn poll_session<B: PairBook>(
+    end: &LinkEndpoint<'_, B>,
+    pass: &mut B::Pass,
+    feed: &mut Feed,
+    stage: &mut SessionStage,
+    duties: &mut SessionState,
+    came: &LinkInput<'_>,
+) -> Result<(), SessionError>
+    ensures turn { IsPoll end.now.role came.now feed.old (met_at stage.old) (met_at stage.new)
+        (B.Pass.receipts pass.old) (B.Pass.receipts pass.new) duties.old.out.items duties.new.out.items }
+    ensures whole { OnOk result (IsGoing stage.new → IsWholePoll end.now.role came.now feed.old feed.new
+        (met_at stage.old) (met_at stage.new) (B.Pass.receipts pass.old) (B.Pass.receipts pass.new)
+        duties.old.out.items duties.new.out.items) }
+{
+    handle_input(end, pass, feed, stage, duties, came)?;
+    match stage {
+        SessionStage::Joined { .. } => end.send_all(pass, duties),
+        SessionStage::Greeting | SessionStage::Refused | SessionStage::Ended { .. } => Ok(()),
+    }
+}
+
+impl FailoverSession {
+    /// The talk of a connection that begins.
+    pub fn new(alloc: Global) -> FailoverSession
+        ensures { result ≡ record { held = []; stage = Greeting; handed = [] } }
+    {
+        FailoverSession {
+            alloc,
+            feed: Feed::new(alloc),
+            stage: SessionStage::Greeting,
+            duties: SessionState::new(alloc),
+        }
+    }
+
+    /// Returns how far the two ends have come.
+    pub fn stage(&self) -> SessionStage
+        ensures { result ≡ self.now.stage }
+    {
+        self.stage
+    }
+
+    /// Says what the primary says first: the serial of the last message that it took. The secondary waits for it.
+    /// Where a growth is refused, nothing is said.
+    pub fn send_greeting<P: Receipts>(
+        &mut self,
+        pass: &P,
+        settings: &Settings,
+    ) -> Result<(), SessionError>
+        ensures stage { self.new.stage ≡ self.old.stage }
+        ensures held { self.new.held ≡ self.old.held }
+        ensures said { OnOk result (meanings_of self.new.handed
+            ≡ meanings_of self.old.handed ++ opening settings.now.role (P.receipts pass.now)) }
+        ensures nothing { OnErr result (self.new.handed ≡ self.old.handed) }
+        ensures memory { (e : Error) → IsErrOf result e → e ≡ Memory }
+    {
+        self.duties.told.catch_up(pass.receipts())?;
+        match settings.role() {
+            Role::Primary => {
+                let last = last_taken(pass.receipts());
+                self.duties
+                    .push_frames(&[OutboundFrame::greeting(Role::Primary, last)])?;
+                Ok(())
+            }
+            Role::Secondary => Ok(()),
+        }
+    }
+
+    /// Takes what came by a read, and hands out what follows from it: the frames that `take_frames` gives, in their order.
+    /// What was sent and taken it knows by the receipts of the pass, which is the same for each connection. However it
+    /// ends, the lines that were added take exactly those of the messages that were heard which are newer than all
+    /// before, and each is the next by its serial; and what they send is handed out, in order, behind what was sent
+    /// above the serial that the partner named.
+    ///
+    /// `Frame` where what came is no frame or not the one that comes there, its serial jumps, or the partner has lost
+    /// its journal;
+    /// `Serve` where the pass is a stranger to the book, or the book has no room for a message that came: were that
+    /// passed over, a later one would be taken in its place, and this one lost. `Memory` where a growth was refused.
+    /// Then the connection has to be ended, behind what was handed out. Any other refusal of the book is passed over.
+    pub fn poll<B: PairBook>(
+        &mut self,
+        book: &B,
+        pass: &mut B::Pass,
+        settings: &Settings,
+        now: Reading,
+        came: &LinkInput<'_>,
+    ) -> Result<(), SessionError>
+        ensures turn { IsPoll settings.now.role came.now self.old.held (met_at self.old.stage) (met_at self.new.stage)
+            (B.Pass.receipts pass.old) (B.Pass.receipts pass.new) self.old.handed self.new.handed }
+        ensures next { Goes (B.Pass.receipts pass.old) (B.Pass.receipts pass.new) }
+        ensures whole { OnOk result (IsGoing self.new.stage → IsWholePoll settings.now.role came.now self.old.held
+            self.new.held (met_at self.old.stage) (met_at self.new.stage) (B.Pass.receipts pass.old)
+            (B.Pass.receipts pass.new) self.old.handed self.new.handed) }
+    {
+        let end = LinkEndpoint {
+            alloc: self.alloc,
+            book,
+            role: settings.role(),
+            settings,
+            reading: now,
+        };
+        poll_session(
+            &end,
+            pass,
+            &mut self.feed,
+            &mut self.stage,
+            &mut self.duties,
+            came,
+        )
+    }
+
+    /// Gives the frames that are to be written, and keeps none of them.
+    pub fn take_frames(&mut self) -> Vec<OutboundFrame>
+        ensures given { result.items ≡ self.old.handed }
+        ensures none { self.new ≡ record self.old { handed = [] } }
+    {
+        mem::replace(&mut self.duties.out, Vec::new(self.alloc))
+    }
+}

@@ -1,6 +1,0 @@
-use Rattle.std.proofs.Common.{◌≡◌, take}
-use Rattle.link_talk.specs.Receipts.{last_taken}
-use Rattle.link_talk.proofs.memory.last_taken.Given as goal
-
-abbrev pub invariant-loop-index : goal.invariant-loop-index
-invariant-loop-index l = last_taken (take l.index l.receipts) ≡ last_taken l.receipts

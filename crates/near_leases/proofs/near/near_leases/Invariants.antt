@@ -1,7 +1,0 @@
-use Rattle.near_leases.specs.Near.{asked_of}
-use Rattle.near_leases.proofs.Listed.{AreNearSoFar}
-use Rattle.near_leases.proofs.near.near_leases.Given as goal
-
-abbrev pub invariant-loop-at : goal.invariant-loop-at
-invariant-loop-at g l = AreNearSoFar (g.S.Lines.journals l.source) l.query.prefix (asked_of l.query) l.at-items
-    l.leases.items l.at-index

@@ -1,0 +1,246 @@
+//! What the words of the command line ask.
+
+use crate::error::ArgsError;
+use clap::error::ErrorKind;
+use clap::{Arg, ArgAction, ArgMatches, Command as ClapCommand, Error as ClapError};
+use client_service::PartnerAvailability;
+use server_status::{ControlRequest, PARTNER_STOPPED, ShutdownMode, StatusFormat};
+use std::alloc::{AllocError, Global};
+use text_fields::number_of;
+
+/// The most datagrams of a run.
+const MOST_DATAGRAMS: u32 = 1_000_000;
+
+/// A command of the node.
+#[derive(Debug, Drop)]
+pub enum NodeCommand {
+    /// By the settings on standard input.
+    Once(TrialCommand),
+    /// Serve a directory until a person says to stop.
+    Serve(ServeCommand),
+    /// Ask the server of a directory.
+    Ask {
+        directory: String,
+        request: ControlRequest,
+    },
+}
+
+/// A command that takes its settings on standard input.
+#[derive(Clone, Copy, Debug, PartialEq, Eq)]
+pub enum TrialCommand {
+    /// Say what the settings are worth.
+    Check,
+    /// Serve so many datagrams, and write the journal.
+    Run {
+        count: u32,
+        partner: PartnerAvailability,
+    },
+}
+
+/// What is served: a directory, by the settings of a file, or of the directory's own where none is named.
+#[derive(Debug, Drop)]
+pub struct ServeCommand {
+    pub directory: String,
+    pub settings: Option<String>,
+}
+
+/// A command with one option more.
+fn with_option<'a>(
+    alloc: Global,
+    command: ClapCommand<'a>,
+    name: &'a str,
+    required: bool,
+    action: ArgAction,
+) -> Result<ClapCommand<'a>, AllocError> {
+    command.arg(
+        Arg::new(alloc, name)
+            .long(name)
+            .required(required)
+            .action(action),
+    )
+}
+
+/// `run --count N [--partner-down]`.
+fn run_command<'a>(alloc: Global) -> Result<ClapCommand<'a>, AllocError> {
+    let run = with_option(
+        alloc,
+        ClapCommand::new(alloc, "run"),
+        "count",
+        true,
+        ArgAction::Set,
+    )?;
+    with_option(alloc, run, "partner-down", false, ArgAction::SetTrue)
+}
+
+/// A command about a directory: `NAME --dir DIR`.
+fn directory_command<'a>(alloc: Global, name: &'a str) -> Result<ClapCommand<'a>, AllocError> {
+    with_option(
+        alloc,
+        ClapCommand::new(alloc, name),
+        "dir",
+        true,
+        ArgAction::Set,
+    )
+}
+
+/// `serve --dir DIR [--settings FILE]`.
+fn serve_command<'a>(alloc: Global) -> Result<ClapCommand<'a>, AllocError> {
+    let serve = directory_command(alloc, "serve")?;
+    with_option(alloc, serve, "settings", false, ArgAction::Set)
+}
+
+/// `status --dir DIR [--json] [--metrics]`.
+fn status_command<'a>(alloc: Global) -> Result<ClapCommand<'a>, AllocError> {
+    let status = directory_command(alloc, "status")?;
+    let status = with_option(alloc, status, "json", false, ArgAction::SetTrue)?;
+    with_option(alloc, status, "metrics", false, ArgAction::SetTrue)
+}
+
+/// `stop --dir DIR [--close]`.
+fn stop_command<'a>(alloc: Global) -> Result<ClapCommand<'a>, AllocError> {
+    let stop = directory_command(alloc, "stop")?;
+    with_option(alloc, stop, "close", false, ArgAction::SetTrue)
+}
+
+/// `partner-down --dir DIR WORDS`.
+fn partner_down_command<'a>(alloc: Global) -> Result<ClapCommand<'a>, AllocError> {
+    let down = directory_command(alloc, "partner-down")?;
+    down.arg(
+        Arg::new(alloc, "words")
+            .required(true)
+            .action(ArgAction::Set),
+    )
+}
+
+/// The commands that take their settings on standard input, and those about a directory.
+pub(crate) fn node_command<'a>(alloc: Global) -> Result<ClapCommand<'a>, AllocError> {
+    let run = run_command(alloc)?;
+    let serve = serve_command(alloc)?;
+    let status = status_command(alloc)?;
+    let stop = stop_command(alloc)?;
+    let roll = directory_command(alloc, "roll")?;
+    let down = partner_down_command(alloc)?;
+    let normal = directory_command(alloc, "partner-normal")?;
+    ClapCommand::new(alloc, "node_cli")
+        .subcommand_required(true)
+        .disable_help_subcommand(true)
+        .subcommand(ClapCommand::new(alloc, "check"))?
+        .subcommand(run)?
+        .subcommand(serve)?
+        .subcommand(status)?
+        .subcommand(stop)?
+        .subcommand(roll)?
+        .subcommand(down)?
+        .subcommand(normal)
+}
+
+/// Returns how many datagrams, 1 to 1,000,000, written as numbers are in a journal.
+pub(crate) fn count_given(options: &ArgMatches) -> Option<u32> {
+    let number = number_of(options.get_str("count")?.as_bytes())?;
+    let count = u32::try_from(number).ok()?;
+    if count == 0 || count > MOST_DATAGRAMS {
+        return None;
+    }
+    Some(count)
+}
+
+fn partner_given(options: &ArgMatches) -> PartnerAvailability {
+    if options.get_flag("partner-down") {
+        PartnerAvailability::Down
+    } else {
+        PartnerAvailability::Up
+    }
+}
+
+/// How a status is to be written; of both forms none.
+fn form_given(options: &ArgMatches) -> Option<StatusFormat> {
+    match (options.get_flag("json"), options.get_flag("metrics")) {
+        (false, false) => Some(StatusFormat::Lines),
+        (true, false) => Some(StatusFormat::Json),
+        (false, true) => Some(StatusFormat::Metrics),
+        (true, true) => None,
+    }
+}
+
+fn leave_given(options: &ArgMatches) -> ShutdownMode {
+    if options.get_flag("close") {
+        ShutdownMode::Closed
+    } else {
+        ShutdownMode::Open
+    }
+}
+
+/// The words of an option or an argument.
+fn text_given(alloc: Global, options: &ArgMatches, name: &str) -> Result<String, ArgsError> {
+    match options.get_str(name) {
+        Some(words) => Ok(String::from_str(alloc, words)?),
+        None => Err(ArgsError::Usage),
+    }
+}
+
+/// What is served.
+fn served_given(alloc: Global, options: &ArgMatches) -> Result<ServeCommand, ArgsError> {
+    let settings = match options.get_str("settings") {
+        Some(file) => Some(String::from_str(alloc, file)?),
+        None => None,
+    };
+    Ok(ServeCommand {
+        directory: text_given(alloc, options, "dir")?,
+        settings,
+    })
+}
+
+/// What is asked of a server by a command of this name.
+fn request_given(name: &str, options: &ArgMatches) -> Result<ControlRequest, ArgsError> {
+    match name {
+        "status" => match form_given(options) {
+            Some(form) => Ok(ControlRequest::Status(form)),
+            None => Err(ArgsError::Usage),
+        },
+        "stop" => Ok(ControlRequest::Stop(leave_given(options))),
+        "roll" => Ok(ControlRequest::Roll),
+        "partner-down" if options.get_str("words") == Some(PARTNER_STOPPED) => {
+            Ok(ControlRequest::PartnerDown)
+        }
+        "partner-down" => Err(ArgsError::NotVouched),
+        "partner-normal" => Ok(ControlRequest::PartnerNormal),
+        _ => Err(ArgsError::Usage),
+    }
+}
+
+fn command_in(alloc: Global, matches: &ArgMatches) -> Result<NodeCommand, ArgsError> {
+    let Some((name, options)) = matches.subcommand() else {
+        return Err(ArgsError::Usage);
+    };
+    match name {
+        "check" => Ok(NodeCommand::Once(TrialCommand::Check)),
+        "run" => match count_given(options) {
+            Some(count) => Ok(NodeCommand::Once(TrialCommand::Run {
+                count,
+                partner: partner_given(options),
+            })),
+            None => Err(ArgsError::Usage),
+        },
+        "serve" => Ok(NodeCommand::Serve(served_given(alloc, options)?)),
+        _ => Ok(NodeCommand::Ask {
+            request: request_given(name, options)?,
+            directory: text_given(alloc, options, "dir")?,
+        }),
+    }
+}
+
+fn usage_error(error: ClapError) -> ArgsError {
+    if error.kind() == ErrorKind::OutOfMemory {
+        ArgsError::Memory
+    } else {
+        ArgsError::Usage
+    }
+}
+
+/// The command that the words give, the first of which is the program's name.
+pub fn command_of(alloc: Global, words: &[String]) -> Result<NodeCommand, ArgsError> {
+    match node_command(alloc)?.try_get_matches_from(words) {
+        Ok(matches) => command_in(alloc, &matches),
+        Err(error) => Err(usage_error(error)),
+    }
+}

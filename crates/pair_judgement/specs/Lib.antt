@@ -1,0 +1,4 @@
+pub mod Judgements
+pub mod PairJudgements
+pub mod Clocked
+pub mod Ties

@@ -1,0 +1,43 @@
+//! What the desk rules on two journals before it looks at a certificate.
+//!
+//! `judge_pair` asks what `check_pair` of `auditor` asks, and then whether clocks within the stated skew can have
+//! written the two journals at all (K1): where a take reads more than twice the skew below its send, no run leaves
+//! them, and an answer over them would say nothing. A [`Judgement`] is a verdict or one of K1 to K3. `clock_pair` tells
+//! the least skew with which the two could have been written. `objection` tells whether the two are of one pair (K2) and
+//! whether the question allows for the skew and transit that they say themselves (K3), and `warnings` spells both as
+//! notes. specs/PairJudgements, specs/Clocked and specs/Ties say what is ruled, told and doubted, specs/Judgements how a ruling is
+//! spelled.
+//!
+//! ```text
+//! let merged = match judge_pair(alloc, &journal_a, &journal_b, skew)? {
+//!     PairJudgement::Fit(merged) => merged,
+//!     PairJudgement::Refused(ruling) => return judgement_line(alloc, &ruling), // refused K1 Clocks B3
+//! };
+//! ```
+//!
+//! What the desk rules on two journals, found by threads.
+//!
+//! `judge_pair_by` answers what `judge_pair` of `pair_judgement` answers. The rules of both journals, and the notes of their
+//! lines behind them, are found side by side; then one thread merges the two and looks for the first take that is early.
+//! The first refusal in the order of `judge_pair` counts, whatever the others came to.
+//!
+//! ```text
+//! let merged = match judge_pair_by(rt, alloc, &journal_a, &journal_b, skew)? {
+//!     PairJudgement::Fit(merged) => merged,
+//!     PairJudgement::Refused(ruling) => return judgement_line(alloc, &ruling), // refused K1 Clocks B3
+//! };
+//! ```
+#![tactic(auto)]
+
+mod clocks;
+mod finding;
+mod judging;
+mod pair;
+mod parallel_judgement;
+mod ties;
+
+pub use clocks::{ClockJudgement, clock_pair, least_text};
+pub use judging::{Judgement, judgement_line, judgements, status_of};
+pub use pair::{PairJudgement, judge_pair};
+pub use parallel_judgement::judge_pair_by;
+pub use ties::{objection, warnings};

@@ -1,4 +1,0 @@
-pub mod Ruling
-pub mod Ruled
-pub mod Clocked
-pub mod Ties

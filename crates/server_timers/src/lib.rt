@@ -1,0 +1,22 @@
+//! What a running server owes by now: a contact to its partner, a roll of its volume, a warning that its book is full.
+//!
+//! A server that wrote nothing for `heartbeat` seconds orders a contact, link or no link, so that its partner and its
+//! journal know that it lives. A volume rolls after so many lines behind its head lines, after so many hours, or when
+//! told, but only where the rules let: not while the partner is taken for down, and not before it has acknowledged each
+//! unit that was seized from it. A book that is full takes a close line alone: that is known an hour ahead, by the rate
+//! at which lines were written so far.
+//!
+//! ```text
+//! let growth = Growth { lines: work.lines, head_lines, opened, written };
+//! let owed = upkeep.owed(&growth, now, RollBlocked::of(work.down, work.mark), OperatorRequest::Nothing);
+//! if owed.contact { book.apply(now, &Order::SendContact)?; }
+//! ```
+#![tactic(auto)]
+
+mod due_actions;
+mod growth;
+mod schedule;
+
+pub use due_actions::{DueActions, OperatorRequest, RollBlocked, RollState, Room};
+pub use growth::Growth;
+pub use schedule::Timers;

@@ -1,0 +1,115 @@
+//! A server of the pair, and its end of the link.
+
+use client_service::{PartnerAvailability, answer_to};
+use dhcp6_pd::decode;
+use exclusive_book::{ExclusiveBook, ExclusivePairBook};
+use failover_message::encode;
+use failover_session::{FailoverSession, LinkInput};
+use lead_time::Reading;
+use server_book::{Book, Order, ReplyPolicy, Settings, read_settings};
+use std::alloc::Global;
+use std::test::Fail;
+
+/// A server's book, its end of the link, and the octets that are under way to it.
+#[derive(Drop)]
+pub(crate) struct Server {
+    pub own: ExclusiveBook,
+    settings: Settings,
+    talk: FailoverSession,
+    pub coming: Vec<u8>,
+}
+
+/// Appends the octets of the frames that a talk hands out.
+fn carry(alloc: Global, talk: &mut FailoverSession, wire: &mut Vec<u8>) -> Result<(), Fail> {
+    for handed in &talk.take_frames() {
+        let Ok(octets) = encode(alloc, &handed.frame) else {
+            return Err(Fail::from("out of memory"));
+        };
+        wire.extend_from_slice(octets.as_slice())?;
+    }
+    Ok(())
+}
+
+impl Server {
+    /// A server with a new book, whose end hasn't said anything.
+    pub fn open(alloc: Global, settings: &[u8], now: Reading) -> Result<Server, Fail> {
+        let settings = read_settings(alloc, settings)?;
+        let book = Book::open(alloc, now, &settings)?;
+        Ok(Server {
+            own: ExclusiveBook::new(alloc, book),
+            settings,
+            talk: FailoverSession::new(alloc),
+            coming: Vec::new(alloc),
+        })
+    }
+
+    /// Gives its book an order, which may be refused. Says whether it wasn't.
+    pub fn order(&mut self, now: Reading, order: &Order) -> bool {
+        self.own.book.apply(now, order).is_ok()
+    }
+
+    /// Answers a client's datagram, and says whether it gets these octets.
+    pub fn answers(
+        &mut self,
+        alloc: Global,
+        now: Reading,
+        datagram: &[u8],
+        answer: &[u8],
+    ) -> Result<bool, Fail> {
+        let own = self.settings.duid();
+        let message = decode(alloc, datagram, own)?;
+        let book = &mut self.own.book;
+        match answer_to(
+            alloc,
+            &client_service::ExclusiveService,
+            book,
+            own,
+            &ReplyPolicy::plain(alloc),
+            PartnerAvailability::Up,
+            &[],
+            now,
+            &message,
+            (),
+        ) {
+            Ok(told) => Ok(told.octets() == answer),
+            Err(_) => Ok(false),
+        }
+    }
+
+    /// Begins another connection; what was under way on the last one is lost.
+    pub fn connect(&mut self, alloc: Global, wire: &mut Vec<u8>) -> Result<(), Fail> {
+        self.talk = FailoverSession::new(alloc);
+        self.coming = Vec::new(alloc);
+        if self.talk.send_greeting(&self.own, &self.settings).is_err() {
+            return Err(Fail::from("out of memory"));
+        }
+        carry(alloc, &mut self.talk, wire)
+    }
+
+    /// One turn of its end, whose frames go on their way. Says whether the connection goes on.
+    pub fn turn(
+        &mut self,
+        alloc: Global,
+        now: Reading,
+        came: &LinkInput<'_>,
+        wire: &mut Vec<u8>,
+    ) -> Result<bool, Fail> {
+        let done = self.talk.poll(&ExclusivePairBook, &mut self.own, &self.settings, now, came);
+        carry(alloc, &mut self.talk, wire)?;
+        Ok(done.is_ok() && !self.talk.stage().has_ended())
+    }
+
+    /// A turn to which the first octets come that are under way, so many at most.
+    pub fn hear(
+        &mut self,
+        alloc: Global,
+        now: Reading,
+        most: usize,
+        wire: &mut Vec<u8>,
+    ) -> Result<bool, Fail> {
+        let (front, rest) = self.coming.split_at(most.min(self.coming.len()));
+        let front = front.to_vec(alloc)?;
+        self.coming = rest.to_vec(alloc)?;
+        self.turn(alloc, now, &LinkInput::Octets(&front), wire)
+    }
+}

@@ -1,6 +1,0 @@
-pub mod Doubts
-pub mod Keys
-pub mod Nearest
-pub mod Pools
-pub mod Refusing
-pub mod Wishes

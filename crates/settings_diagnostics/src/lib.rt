@@ -1,0 +1,31 @@
+//! Advice on a node's settings, in words for a person: why they are refused, and what in them is odd.
+//!
+//! [`reasons_of`] tells of each key that is missing, or whose value doesn't meet the wish there, and where all keys are
+//! as wanted, what the pools lack together: settings with no reason are read (specs/Refusing).
+//! [`suggested_key`] finds the known key that an unknown one was likely meant for; [`pool_warning`], [`lead_time_warning`] and
+//! [`link_warning`] doubt settings that are read.
+//!
+//! ```text
+//! for complaint in &reasons_of(alloc, &table)?.keys {
+//!     eprintln!(rt; "node: settings: {complaint}")?; // mclt: wants 1 to 31536000, has 0
+//! }
+//! ```
+#![tactic(auto)]
+
+mod key;
+mod key_diagnostic;
+mod key_rule;
+mod key_rules;
+mod lines;
+mod pools;
+mod refusing;
+mod spelling_hint;
+mod warnings;
+
+pub use key::{KEYS, Key, POOL_KEYS};
+pub use key_diagnostic::{KeyDiagnostic, KeyTable};
+pub use key_rule::{Expectation, KeyRule, Presence, TextFormat, ValueFault};
+pub use lines::line_ends;
+pub use refusing::{PoolConflict, RefusalReasons, reasons_of};
+pub use spelling_hint::suggested_key;
+pub use warnings::{SettingsWarning, lead_time_warning, link_warning, pool_warning};

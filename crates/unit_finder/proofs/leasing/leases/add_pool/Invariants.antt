@@ -1,6 +1,0 @@
-use Rattle.book_rules.specs.State.{state}
-use Rattle.unit_finder.proofs.LeaseSteps.{IsNotedTo}
-use Rattle.unit_finder.proofs.leasing.leases.add_pool.Given as goal
-
-abbrev pub invariant-loop-index : goal.invariant-loop-index
-invariant-loop-index l = IsNotedTo (state l.table) l.pool l.initial.leases l.leases l.index

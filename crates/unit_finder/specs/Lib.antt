@@ -1,9 +1,0 @@
-pub mod Units
-pub mod Queries
-pub mod Searching
-pub mod Subjects
-pub mod Kinds
-pub mod ChartForms
-pub mod Charts
-pub mod PoolCharts
-pub mod Leases

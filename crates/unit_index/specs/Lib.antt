@@ -1,0 +1,9 @@
+pub mod Units
+pub mod Queries
+pub mod Searching
+pub mod Subjects
+pub mod Kinds
+pub mod KindTreeForms
+pub mod KindTrees
+pub mod PoolTrees
+pub mod Leases
