@@ -4,12 +4,12 @@
 //! why it's passed over. Only where the edges don't tell, or two files have one volume, is a file read whole.
 //! [`shown_at`] chooses the pair of volumes that shows a moment, reads these two whole, and gives the two journals that
 //! they show, or says what is lacking; a file with another volume than its edges said is refused there. The contracts
-//! speak of octets that a file had when it was read (`had` of [`JournalFiles`]): a file that a server writes on may have
-//! others each time.
+//! speak of octets that a file had when it was read (`had` of [`JournalFiles`]): a file that a server writes on may
+//! have others each time.
 //!
 //! All volumes of one server begin with the same settings, and so do its partner's where the two are set up alike:
-//! where they differ the files are of two pairs (`FilesError::OtherPair`). [`SettingsScope`] says whether the partner's are
-//! asked.
+//! where they differ the files are of two pairs (`FilesError::OtherPair`). [`SettingsScope`] says whether the partner's
+//! are asked.
 //!
 //! Two files with one volume of a side count once where they are copies. Where their outlines differ (first and last
 //! reading, octets, and whether it's closed) nothing is answered: `ArchiveError::Differ`. Where these are the same both

@@ -1,4 +1,6 @@
-//! What an auditor's `accepted` means, and the proof that it is true.
+//! The definitions behind the headline theorem, and the theorem: runs of the pair, valid delegations, accepted
+//! certificates, the first refusal. Read this crate to know what `accepted` means. It has almost no code; `auditor`
+//! implements it.
 //!
 //! The definitions stand in specs/ and cite no code: a server's lines, volume by volume (`Volumes`; what a server may
 //! write is `book_rules`' `NextHead`), runs of the pair and who holds what in one (`Run`), what it takes to accept a

@@ -1,10 +1,10 @@
 //! The desk: a command line and standard input to one verdict line.
 //!
-//! `invocation_of` gives the [`Invocation`] of the words (`desk_args`), `run` carries out a command between a reader and a
-//! writer, and `judge` answers an input that is at hand. The input is journal A, journal B and the certificate, one
-//! after the other (`attribution_desk`). `search_pair`, `timeline_of`, `judge_journals` and `judge_certificates` answer
-//! over two journals that were read already, as one [`IndexedPair`]. specs/Answer says what is answered, specs/Judgements what is
-//! ruled on texts, specs/Find, Who and Clocks what searches answer.
+//! `invocation_of` gives the [`Invocation`] of the words (`desk_args`), `run` carries out a command between a reader
+//! and a writer, and `judge` answers an input that is at hand. The input is journal A, journal B and the certificate,
+//! one after the other (`attribution_desk`). `search_pair`, `timeline_of`, `judge_journals` and `judge_certificates`
+//! answer over two journals that were read already, as one [`IndexedPair`]. specs/Answer says what is answered,
+//! specs/Judgements what is ruled on texts, specs/Find, Who and Clocks what searches answer.
 //!
 //! ```text
 //! let outcome = run(rt, alloc, &command, &mut reader, &mut writer)?; // status 0: accepted
@@ -12,9 +12,10 @@
 //!
 //! What the desk reads: journal A, journal B and what follows, one after the other, in chunks that may end anywhere.
 //!
-//! The input is never held whole. `take_all` hands all that a [`Watched`] reader gives to what takes it ([`ChunkSink`]):
-//! an [`Intake`], which gives two journals and the octets behind them, or a [`PairIntake`], where journal B's text is
-//! all that follows A's. A reader that is well is never blamed ([`DeskError`]). specs/Input says where a text ends.
+//! The input is never held whole. `take_all` hands all that a [`Watched`] reader gives to what takes it
+//! ([`ChunkSink`]): an [`Intake`], which gives two journals and the octets behind them, or a [`PairIntake`], where
+//! journal B's text is all that follows A's. A reader that is well is never blamed ([`DeskError`]). specs/Input says
+//! where a text ends.
 //!
 //! ```text
 //! let intake = take_all(rt, alloc, &mut Watched::new(stdin), Intake::new(alloc))?;

@@ -1,4 +1,6 @@
-//! Judges a certificate over two journals: it accepts, or names the first condition that isn't met.
+//! The checker: it accepts a certificate over two journals, or returns the first condition that fails. `audit` works
+//! over any `LineSource`, `audit_bytes` over three texts. It trusts neither the certificate nor whoever made it, and
+//! it never searches for evidence.
 //!
 //! `audit` judges over any [`LineSource`], `audit_bytes` over three texts. Their clause `verdict` is the definition of
 //! the verdict, their clause `headline` the theorem: what is accepted is true in every run of the pair that leaves

@@ -1,4 +1,6 @@
-//! The rules of one delegable unit, and what the two servers of a pair tell each other.
+//! The state machine of one delegable unit, as each server of the pair keeps it. `take_update` and `take_reply` apply
+//! a binding update or reply of the partner and return the next state; `grantable` and `renewable` say who may
+//! delegate the unit. Messages are values here; `failover_message` has their octets and `line_words` their text.
 //!
 //! A [`Unit`] is what a server knows of one prefix that it may delegate. `take_update` is the binding table: what a
 //! server makes of its partner's update. `take_reply` settles its own due change, or the mark of a unit that it

@@ -1,4 +1,6 @@
-//! The twenty rules of a server's journal, as one machine for books, audits and worlds.
+//! The twenty rules of a journal as one state machine, shared by servers, the auditor and the model of the pair.
+//! `Table::check` returns the first rule that a line would break, `Table::enter` applies a line that breaks none, and
+//! `Table::replay` does both for a whole volume. It reads no text and no clock.
 //!
 //! A [`Table`] is the state of a server's book as its lines lead to it: settings, numbers, and each delegable unit.
 //! `check` tells which [`Rule`] a line would break first, and `enter` makes of the table what the line makes of the

@@ -1,4 +1,6 @@
-//! The state that a server's book is in, and what each line makes of it.
+//! The state of a server's book as plain definitions, and the effect of each journal line on it. `next` computes the
+//! numbers after a line, and a `Change` is the one unit that a line changes. It doesn't check whether the line is
+//! allowed: `book_rules` does.
 //!
 //! A state has numbers ([`StateNumbers`]), pools ([`Pool`]) and a unit for each prefix that these delegate ([`Units`],
 //! found by pool and offset). `next` gives the numbers behind a line; a [`Change`] is the one unit that a line changes;

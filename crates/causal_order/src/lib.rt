@@ -1,4 +1,6 @@
-//! What two journals say of the order of their lines.
+//! What two journals prove about the order of their lines. `is_chain` checks a chain of references, `latest_of` and
+//! `earliest_of` bound the true time of a line under a clock skew, and `precedes` decides whether one line was surely
+//! written before another. It also has the certificate as a value. It searches for nothing.
 //!
 //! A line was written after the lines before it in its journal, and after the partner's line that sent what it takes.
 //! `is_chain` follows these steps; `latest_of` and `earliest_of` bound the moment of a chain's first and last line;

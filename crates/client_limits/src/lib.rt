@@ -1,4 +1,6 @@
-//! How much one client, and the clients behind one relay port, may take of a server.
+//! Quotas and rate limits: how many units a client, and the clients behind one relay port, may hold, and how many
+//! messages a second they may send. It implements `Admission` for `client_service` and collects access records. It
+//! doesn't end leases: a client keeps what it has when a limit is lowered.
 //!
 //! Who has which units, where a holder is known by octets: a client's identifier, a relay's port.
 //!

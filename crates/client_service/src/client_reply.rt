@@ -115,9 +115,9 @@ fn written(
 /// By `permits` an IA_PD may be denied, each by its place: it is told NoPrefixAvail, and nothing is ordered for it.
 /// Those behind the end of the list may be ordered.
 ///
-/// There is no answer (`NoReplyReason`) where the message has no IA_PD, an order ends in what no client is told, nothing is
-/// known of a REBIND and the server's manner hides that, the answer is too long, or a growth is refused. The lines of
-/// IA_PDs that were served before stand.
+/// There is no answer (`NoReplyReason`) where the message has no IA_PD, an order ends in what no client is told,
+/// nothing is known of a REBIND and the server's manner hides that, the answer is too long, or a growth is refused. The
+/// lines of IA_PDs that were served before stand.
 pub fn answer_to<S: BookService, P: Drop>(
     alloc: Global,
     service: &S,

@@ -1,14 +1,17 @@
-//! One client's message, as a server answers it: its orders to a book, and the one answer to it.
+//! One DHCPv6 client message, from request to reply. `answer_to` turns each IA_PD into an order, applies it to any
+//! `BookService`, and encodes one `ClientReply`; `resend_lease` answers from the journal without writing a line where
+//! a recent lease may be repeated. It has no socket, clock or thread, and an `Admission` decides which IA_PDs may be
+//! served.
 //!
 //! [`answer_to`] gives a book the order of each IA_PD, and tells the client what came of it: it goes over any
-//! [`BookService`], which [`ExclusiveService`] is for a book that nobody else serves, and [`SharedService`] for one behind a lock. It has no
-//! input, clock or thread of its own.
+//! [`BookService`], which [`ExclusiveService`] is for a book that nobody else serves, and [`SharedService`] for one
+//! behind a lock. It has no input, clock or thread of its own.
 //!
-//! What is told stands in the journal. By the clause `told` of that call an [`ClientReply`]'s octets are the message which
-//! tells each IA_PD, in its order, what the receipt of its own line says: the prefix and the lifetime that it granted,
-//! or that it was released; or its first refusal; or of a SOLICIT what would be granted (specs/Telling for one IA_PD,
-//! specs/Answering for the message). An IA_PD that may not be ordered (`crate::permit::Permit`) is told that there is no
-//! prefix. By `silent` there is no answer but for a reason ([`NoReplyReason`]) that is so.
+//! What is told stands in the journal. By the clause `told` of that call a [`ClientReply`]'s octets are the message
+//! which tells each IA_PD, in its order, what the receipt of its own line says: the prefix and the lifetime that it
+//! granted, or that it was released; or its first refusal; or of a SOLICIT what would be granted (specs/Telling for one
+//! IA_PD, specs/Answering for the message). An IA_PD that may not be ordered (`crate::permit::Permit`) is told that
+//! there is no prefix. By `silent` there is no answer but for a reason ([`NoReplyReason`]) that is so.
 //!
 //! ```text
 //! let message = decode(alloc, datagram, &own)?;
@@ -33,12 +36,12 @@
 //! What a client has by a line of its server's journal, as it may be told again without another line.
 //!
 //! A client that asks again for what it was just given needs no new line: its grant stands in the journal, and it is
-//! told the seconds that remain of it. [`find_reusable_lease`] says of an order what its client has so, by [`ReuseTerms`]: how
-//! young the grant has to be, and by which margins the seconds are less. It looks at the unit of the prefix, which
-//! says when the last grant was written, and finds the line by a search of its reading.
+//! told the seconds that remain of it. [`find_reusable_lease`] says of an order what its client has so, by
+//! [`ReuseTerms`]: how young the grant has to be, and by which margins the seconds are less. It looks at the unit of
+//! the prefix, which says when the last grant was written, and finds the line by a search of its reading.
 //!
-//! The definitions stand in specs/ReusableLeases. That whoever is told again has no prefix a moment longer than the line
-//! gives it is a law (`reuse_is_within_its_line`).
+//! The definitions stand in specs/ReusableLeases. That whoever is told again has no prefix a moment longer than the
+//! line gives it is a law (`reuse_is_within_its_line`).
 //!
 //! ```text
 //! let terms = ReuseTerms { floor: 360, skew, transit, life: 3600 };

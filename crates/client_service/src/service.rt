@@ -13,8 +13,8 @@ use locked_book::{Receipt, ServeError};
 use order_book::Order;
 use prefix_range::Prefix;
 
-/// A server's book, that takes orders by a pass: [`ExclusiveService`](crate::ExclusiveService) is a book that nobody else serves, and
-/// [`SharedService`](crate::SharedService) one behind a lock.
+/// A server's book, that takes orders by a pass: [`ExclusiveService`](crate::ExclusiveService) is a book that nobody
+/// else serves, and [`SharedService`](crate::SharedService) one behind a lock.
 pub trait BookService {
     /// What orders are given by. It knows the receipts of those that were accepted.
     type Pass;

@@ -1,4 +1,6 @@
-//! Those whom a daemon hears and tells: clients, the partner, and the person at the control socket.
+//! The three parties that a daemon talks to, each over its socket: clients (`ClientEndpoint`), the partner
+//! (`PartnerEndpoint`) and the operator (`ControlServer`). They pass what arrives to `ServerCore` and send only what a
+//! commit released. They don't wait; the daemon's loop calls them in turn.
 //!
 //! Each party is heard in a turn, and told what was held back for it once the lines that this tells of are on the disk.
 //! They stand on devices that don't wait (`daemon_io`), and on a server that runs (`server_core`).

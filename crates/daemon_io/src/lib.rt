@@ -1,12 +1,13 @@
-//! What a daemon of one thread hears and says by, none of which waits: datagrams, the connection with the partner, the
-//! door by which it comes, and the control socket.
+//! Non-blocking sockets of the daemon, over mio: UDP datagrams, the partner's TCP connection, the control socket, and
+//! a poller that waits for any of them. Connections that aren't authenticated yet wait in `PendingPeers`, eight at
+//! most. It moves octets and knows nothing of books or leases.
 //!
 //! Each device has a trait, over which a loop is generic, so that a test may hold its own; and one of the system's
 //! sockets. A call gives what has come by now, or nothing. Where a turn of the loop found nothing anywhere, it rests
 //! ([`Poller`]) until a socket has something, or a time is up.
 //!
-//! Of the connections that come by the door nothing counts at first: they wait side by side ([`PendingPeers`]) until one
-//! is let in (`link_auth`), and has 5 s for that.
+//! Of the connections that come by the door nothing counts at first: they wait side by side ([`PendingPeers`]) until
+//! one is let in (`link_auth`), and has 5 s for that.
 //!
 //! What is written to a stream that takes no more now waits in [`SendBuffer`], and goes out at a later turn.
 //!

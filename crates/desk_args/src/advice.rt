@@ -111,8 +111,8 @@ fn advice_on_values(alloc: Global, matches: &ArgMatches) -> Result<String, Alloc
     }
 }
 
-/// Why [`invocation_of`](crate::invocation_of) finds no order in these words, the first of which is the program's name: a sentence
-/// or some lines for standard error, without the last line feed. `AllocError` where a growth was refused.
+/// Why [`invocation_of`](crate::invocation_of) finds no order in these words, the first of which is the program's name:
+/// a sentence or some lines for standard error, without the last line feed. `AllocError` where a growth was refused.
 pub fn advice_of(alloc: Global, words: &[String]) -> Result<String, AllocError> {
     let command = desk_command(alloc)?;
     match command.try_get_matches_from(words) {

@@ -1,8 +1,9 @@
 //! The words of the desk's command line.
 //!
-//! `invocation_of` gives the [`DeskRequest`] that clap finds in the words and where its texts come from ([`InputSource`]), or says
-//! why there is none: `Usage` where they ask nothing. specs/Words is the command line that clap is told of, specs/Given
-//! what each of its words means, specs/Requests what they ask and in which form, specs/Sources what its paths do.
+//! `invocation_of` gives the [`DeskRequest`] that clap finds in the words and where its texts come from
+//! ([`InputSource`]), or says why there is none: `Usage` where they ask nothing. specs/Words is the command line that
+//! clap is told of, specs/Given what each of its words means, specs/Requests what they ask and in which form,
+//! specs/Sources what its paths do.
 //!
 //! ```text
 //! let order = invocation_of(alloc, &words)?; // DeskRequest::Answer(Command::Timeline, _) and InputSource::Input of `desk timeline`

@@ -1,4 +1,6 @@
-//! DHCPv6 messages with prefix delegation (RFC 8415): what clients send, by relays or not, and a server's answers.
+//! A codec for DHCPv6 messages with prefix delegation (RFC 8415). `decode` turns a datagram into a `ClientMessage`
+//! addressed to this server, or returns the first fault; `encode` turns a `ServerMessage` into the octets that go back
+//! through the same relays. It keeps no state and makes no decision about leases.
 //!
 //! `decode` takes a datagram to a `ClientMessage` for this server, or names the first fault from the front;
 //! `decode_information` takes one to a request for options alone; `encode` takes a `ServerMessage` to the octets that

@@ -1,4 +1,6 @@
-//! Finds the evidence that a client held a prefix.
+//! An untrusted search for a certificate: who held a prefix, and from when to when. What it finds counts only because
+//! `auditor` accepts it, which it asks before it returns anything. It may miss evidence that exists; it can't return
+//! evidence that doesn't hold.
 //!
 //! An abuse desk has a prefix and a time, not a certificate. [`find_certificate`] searches two journals for the grants
 //! of the holder that carry the interval, end to end, for the reason why each other client's delegation stays out of
@@ -17,10 +19,11 @@
 //!
 //! What chains through both servers' messages show of who held a prefix, where single lines don't.
 //!
-//! A message leads from the line that sends it to the line that takes it, in the partner's journal: [`DeliveredMessages`] has
-//! those ways. `bounds` has the best chain from a line and to a line, `linking` how chains order two lines.
-//! [`linked_pieces`] and [`linked_foreign`] then go as `plain_search` does, by these. What they give is a proposal,
-//! which is audited before it is given out: that they find evidence, no clause says. specs/ is for bodies only.
+//! A message leads from the line that sends it to the line that takes it, in the partner's journal:
+//! [`DeliveredMessages`] has those ways. `bounds` has the best chain from a line and to a line, `linking` how chains
+//! order two lines. [`linked_pieces`] and [`linked_foreign`] then go as `plain_search` does, by these. What they give
+//! is a proposal, which is audited before it is given out: that they find evidence, no clause says. specs/ is for
+//! bodies only.
 //!
 //! ```text
 //! let messages = DeliveredMessages::between(alloc, source)?;

@@ -1,4 +1,6 @@
-//! What the two servers of a pair say to each other, as octets on the link between them.
+//! A codec for the failover link: frames to octets and back. `encode` and `decode` handle one whole frame; a `Feed`
+//! reassembles frames from a byte stream that arrives in chunks of any length. It doesn't decide what a frame means or
+//! when one is sent.
 //!
 //! `encode` writes a `Frame`, `decode` takes one apart, and a `Feed` gives the frames of a stream that comes in
 //! chunks of any length. A `Frame` says one thing, its `FrameKind`; octets that are none have a `LinkError`.

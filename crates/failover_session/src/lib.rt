@@ -1,10 +1,12 @@
-//! What one end of the partners' link makes of what came, without a wire, a clock or a thread.
+//! One failover connection as a state machine without I/O. `poll` takes what a read brought and a clock reading, gives
+//! orders to a `PairBook`, and queues outbound frames, each with the number of the journal line that it sends. It
+//! opens no socket, reads no clock, and leaves reconnecting to its caller.
 //!
-//! A [`FailoverSession`] is one connection. At each turn it takes what came by a read, at a reading of the clock: it gives orders
-//! to the book, and hands out frames, each frame of a message with the number of the line that sends it. It joins the
-//! two ends, takes the partner's messages, ends leases that have ended, shares units, and sends replies and updates; a
-//! turn costs what there is to do. The book stands behind the trait [`PairBook`], which [`LockedBook`] is by a shared
-//! book.
+//! A [`FailoverSession`] is one connection. At each turn it takes what came by a read, at a reading of the clock: it
+//! gives orders to the book, and hands out frames, each frame of a message with the number of the line that sends it.
+//! It joins the two ends, takes the partner's messages, ends leases that have ended, shares units, and sends replies
+//! and updates; a turn costs what there is to do. The book stands behind the trait [`PairBook`], which [`LockedBook`]
+//! is by a shared book.
 //!
 //! The definitions stand in specs/: which messages the lines take and which frames are handed out (Receipts, Handed,
 //! Talking), and both of one turn (Turning). So **each message that was handed out stands in the journal, by the number

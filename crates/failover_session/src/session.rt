@@ -150,11 +150,11 @@ impl FailoverSession {
         }
     }
 
-    /// Takes what came by a read, and hands out what follows from it: the frames that `take_frames` gives, in their order.
-    /// What was sent and taken it knows by the receipts of the pass, which is the same for each connection. However it
-    /// ends, the lines that were added take exactly those of the messages that were heard which are newer than all
-    /// before, and each is the next by its serial; and what they send is handed out, in order, behind what was sent
-    /// above the serial that the partner named.
+    /// Takes what came by a read, and hands out what follows from it: the frames that `take_frames` gives, in their
+    /// order. What was sent and taken it knows by the receipts of the pass, which is the same for each connection.
+    /// However it ends, the lines that were added take exactly those of the messages that were heard which are newer
+    /// than all before, and each is the next by its serial; and what they send is handed out, in order, behind what was
+    /// sent above the serial that the partner named.
     ///
     /// `Frame` where what came is no frame or not the one that comes there, its serial jumps, or the partner has lost
     /// its journal;

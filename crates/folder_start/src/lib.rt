@@ -1,4 +1,5 @@
-//! A server's start over the folder of its volumes.
+//! Start of a server from its directory: it reads the last volumes, applies the decision of `server_start`, repairs
+//! the torn end of the last file, and returns a running `ServerCore`. It opens no socket.
 //!
 //! [`start`] reads the last files of a folder, and goes on with what they lead to (`volume_store`), if a server of
 //! these settings may (`server_start`): with a first volume, the last one, or the one that follows it. Of the volumes

@@ -114,8 +114,8 @@ pub struct PathError {
 }
 
 impl<'a> JournalPaths<'a> {
-    /// The files that these words name, in the order of the words, and of a directory's in that of their names. The first
-    /// word that names nothing, or what can't be looked at.
+    /// The files that these words name, in the order of the words, and of a directory's in that of their names. The
+    /// first word that names nothing, or what can't be looked at.
     pub fn at(
         rt: &'a HostRuntime,
         net: &impl Net,

@@ -1,12 +1,15 @@
-//! The partner's link, authenticated: records that nobody else makes, and who is let in.
+//! Authentication of the failover link by a shared key: a challenge-response handshake with HMAC-SHA-256, then
+//! authenticated records. `KeyHandshake` proves that both ends have the key, `RecordWriter` and `RecordReader` protect
+//! the stream afterwards, and `PeerEntry` decides when a connection counts as the partner. It doesn't encrypt, and
+//! does no I/O.
 //!
 //! A link that takes nobody but the partner: two ends that share a key, and records that nobody else can make.
 //!
 //! Each end of a connection sends 32 octets that were drawn for it alone (its nonce), then a proof: a code by the key
-//! over both nonces and its own side. Who has heard the other's proof goes on with records ([`KeyHandshake`], [`HandshakeProgress`]):
-//! what [`RecordWriter`] makes of octets, [`RecordReader`] gives back, however the stream was cut into chunks. Each direction of
-//! each connection has a key of its own, and each record a number, which its code is over too. A code is half of
-//! HMAC-SHA-256 (RFC 2104). Nothing is hidden: who sees the stream can read it.
+//! over both nonces and its own side. Who has heard the other's proof goes on with records ([`KeyHandshake`],
+//! [`HandshakeProgress`]): what [`RecordWriter`] makes of octets, [`RecordReader`] gives back, however the stream was
+//! cut into chunks. Each direction of each connection has a key of its own, and each record a number, which its code is
+//! over too. A code is half of HMAC-SHA-256 (RFC 2104). Nothing is hidden: who sees the stream can read it.
 //!
 //! What is promised stands at these calls and at the laws (specs/Laws.antt): a stream is read in one way, and what was
 //! written is read. **What is read is a beginning of what the other end wrote**, where nobody else can make a code: no
@@ -28,10 +31,10 @@
 //!
 //! Who is let in as the partner, and how octets go over its connection.
 //!
-//! Each connection waits first ([`PeerEntry`]): with a key until its other end has proved that it has it, and without one
-//! until it has said the partner's first frame, CONNECT. Until then nothing that it says counts, and whatever else
-//! comes refuses it alone ([`EntryFault`]). Who was let in ([`AuthenticatedPeer`]) goes on by a [`SecureChannel`]: octets as they are,
-//! or in records that only who has the key can make (`link_auth`).
+//! Each connection waits first ([`PeerEntry`]): with a key until its other end has proved that it has it, and without
+//! one until it has said the partner's first frame, CONNECT. Until then nothing that it says counts, and whatever else
+//! comes refuses it alone ([`EntryFault`]). Who was let in ([`AuthenticatedPeer`]) goes on by a [`SecureChannel`]:
+//! octets as they are, or in records that only who has the key can make (`link_auth`).
 //!
 //! ```text
 //! let mut waiting = keeper.begin(alloc, nonce);

@@ -1,5 +1,6 @@
-//! A server's book that many workers share. Each serves through a pass of its own, and at the end the journal is the
-//! opening and one line for each receipt of the passes: nothing is lost, doubled or changed under way.
+//! A book behind a mutex, shared by 1 to 64 workers. Each worker serves orders through its own `Pass`, which keeps a
+//! receipt for each line that it added; `close` returns the book and proves that the journal is the opening lines plus
+//! one line for each receipt. It holds the lock for one order at a time and does no I/O.
 //!
 //! A [`SharedBook`] is a book behind a lock. `open` makes it, with the passes to it; `serve` does one order and gives
 //! the pass its [`Receipt`]; `look`, `work` and `offer` read; `close` gives the book back. The lock is held for one

@@ -1,4 +1,6 @@
-//! A server of a pair as a daemon of one thread.
+//! The main loop of `node serve`: receive, run what is due, commit, send, wait. It is generic over sockets, clock and
+//! disk, so that its contract covers every send: no reply leaves before its line is synced. It has one thread and
+//! holds no lock.
 //!
 //! A [`Daemon`] runs a server (`server_core`) over devices that don't wait (`daemon_io`), a turn after another: it
 //! hears clients, the partner and the control socket (`daemon_endpoints`), does what is owed, puts all new lines to the

@@ -1,5 +1,6 @@
-//! What the threads of a node do: workers that answer clients' datagrams out of one shared book, and one end of the
-//! link to its partner.
+//! The threads of `node run`, for trials: workers that answer datagrams out of one `locked_book`, and one end of the
+//! failover link. Sockets and clock are traits, so tests supply their own. It doesn't persist the journal: `node
+//! serve` does.
 //!
 //! [`serve_datagrams`] is a worker: it takes a turn, receives a datagram, reads it, takes the time, has
 //! `client_service`

@@ -1,4 +1,6 @@
-//! A server's book: its journal, and what it answers to each order.
+//! A server's book: its journal, and the commands that append to it. `apply` takes an `Order`, appends exactly one
+//! line and returns a `Reply`, or refuses and leaves the book unchanged; `offer` only computes what a request would
+//! get. It is a single-threaded value without I/O; `locked_book` shares it.
 //!
 //! A [`Book`] is all that a server knows of its delegations. `apply` does what it is ordered to: it appends the one
 //! line that the order gets and replies, or refuses and leaves the book as it was. `offer` says what a Request would be

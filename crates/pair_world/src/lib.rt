@@ -1,4 +1,6 @@
-//! The pair of servers as one world in true time, and the proof that no address is ever held by two clients.
+//! A model of the whole pair: two books, two clocks, and a link that loses, repeats and reorders messages, driven by a
+//! list of events. Its theorem is pair safety: no address is ever held by two clients. It is a specification and a
+//! test bed; no program uses it.
 //!
 //! A [`World`] has the books of the two servers, and all that happened to them. `step` lets an [`Event`] happen: a
 //! server is ordered something, a message that its partner ever sent reaches it (late, again, in any order, or never),

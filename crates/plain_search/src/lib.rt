@@ -6,8 +6,8 @@
 //! are ordered by their journal, or by clocks that are further apart than both skews. Where they find nothing, no
 //! certificate that is made of such lines is accepted (specs/Plain), which `evidence_search` proves.
 //!
-//! [`ReleaseCache`] keeps the releases that were asked for last, so that each delegation's are collected once. What a search
-//! through messages needs of single lines is exported too. specs/Search and specs/Collected are for bodies only.
+//! [`ReleaseCache`] keeps the releases that were asked for last, so that each delegation's are collected once. What a
+//! search through messages needs of single lines is exported too. specs/Search and specs/Collected are for bodies only.
 //!
 //! ```text
 //! let foreign = foreign_entries(alloc, source, query)?;

@@ -1,11 +1,11 @@
 //! A report on a ruling, in words.
 //!
 //! [`document_of`] tells of a ruling, and of what a certificate shows over two journals, as a [`Document`]: headings,
-//! paragraphs, items and cited lines, each of which is a list of [`ReportWord`]s. A word is prose, or a value of the report:
-//! a line, a reading, a moment, a client. A writer spells them, and adds no number of its own. The contracts say, block
-//! by block, which values stand there and in which order, with each sum; specs/Telling and the files beside it have
-//! them. The prose is what nothing but a reader judges. [`push_block`] and [`push_sum`] append sentences of one's own, and
-//! [`with_both`] is how a sum ends that adds the skew and the transit.
+//! paragraphs, items and cited lines, each of which is a list of [`ReportWord`]s. A word is prose, or a value of the
+//! report: a line, a reading, a moment, a client. A writer spells them, and adds no number of its own. The contracts
+//! say, block by block, which values stand there and in which order, with each sum; specs/Telling and the files beside
+//! it have them. The prose is what nothing but a reader judges. [`push_block`] and [`push_sum`] append sentences of
+//! one's own, and [`with_both`] is how a sum ends that adds the skew and the transit.
 //!
 //! ```text
 //! let explanation = Explanation { ruling, report: Some(report), failure };

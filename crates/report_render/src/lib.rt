@@ -2,10 +2,10 @@
 //!
 //! A report on a ruling, as a text.
 //!
-//! [`spelled`] spells a document: its first line is the ruling's, and each block becomes a [`TextBlock`] of octets, each
-//! value of it spelled by its type. Moments are told in a zone's local time too, where one is given. [`text_of`] is the
-//! text of that, a line for each passage; a page is made of the same passages. specs/Spelling says how values are
-//! spelled, specs/Text the text.
+//! [`spelled`] spells a document: its first line is the ruling's, and each block becomes a [`TextBlock`] of octets,
+//! each value of it spelled by its type. Moments are told in a zone's local time too, where one is given. [`text_of`]
+//! is the text of that, a line for each passage; a page is made of the same passages. specs/Spelling says how values
+//! are spelled, specs/Text the text.
 //!
 //! ```text
 //! let spelling = spelled(alloc, &document, None)?;
@@ -14,10 +14,10 @@
 //!
 //! A report on a ruling, as one page.
 //!
-//! [`page_of`] makes a page of HTML 5 of a report that is spelled (`report_render`), a picture, and where both come from:
-//! it has no script and asks for nothing outside of itself. Each word goes in escaped, so that none can close a tag or
-//! an attribute, whatever octets it has (law [`escaped_is_harmless`]). specs/Page is the page, specs/Escaping what
-//! escaping is.
+//! [`page_of`] makes a page of HTML 5 of a report that is spelled (`report_render`), a picture, and where both come
+//! from: it has no script and asks for nothing outside of itself. Each word goes in escaped, so that none can close a
+//! tag or an attribute, whatever octets it has (law [`escaped_is_harmless`]). specs/Page is the page, specs/Escaping
+//! what escaping is.
 //!
 //! ```text
 //! let page = page_of(alloc, &Page { spelling: &spelling, picture: &svg, origin: &origin })?;

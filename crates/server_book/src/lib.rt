@@ -1,10 +1,9 @@
 //! A server's book as its clients use it: what a message of theirs orders, and the message that answers it.
 //!
 //! `order_of` takes the order of each IA_PD out of a client's message, and `answer_of` makes the message that answers
-//! it in a server's [`ReplyPolicy`], of what became of each (specs/Messages, specs/ReplyPolicy); `information_answer` answers a
-//! request for options alone. The book that does what is ordered is that of `order_book`, its
-//! settings are those of `server_settings`: this crate hands their items on, so that who serves
-//! clients names one crate.
+//! it in a server's [`ReplyPolicy`], of what became of each (specs/Messages, specs/ReplyPolicy); `information_answer`
+//! answers a request for options alone. The book that does what is ordered is that of `order_book`, its settings are
+//! those of `server_settings`: this crate hands their items on, so that who serves clients names one crate.
 //!
 //! ```text
 //! let mut book = Book::open(alloc, now, &read_settings(alloc, text)?)?;

@@ -14,8 +14,8 @@ pub struct HeldAnswer<P> {
     pub read: Reading,
 }
 
-/// What may leave, since all lines of the book are on the disk. Only [`ServerCore::commit`](crate::ServerCore::commit) makes
-/// one.
+/// What may leave, since all lines of the book are on the disk. Only [`ServerCore::commit`](crate::ServerCore::commit)
+/// makes one.
 #[derive(Drop)]
 pub struct CommittedOutput<P> {
     answers: Vec<HeldAnswer<P>>,

@@ -1,4 +1,6 @@
-//! A server that runs: what it hears, what it holds back, and that its volumes are one server's.
+//! A running server without I/O for the network: its book, the file of its open volume, and everything that waits for
+//! the disk. `handle_datagram` and `handle_input` append lines and hold their replies back; `commit` writes and syncs
+//! the new lines and only then returns the replies and frames that may leave. Nothing else returns anything to send.
 //!
 //! A server's book with a receipt for each of its lines, as its one thread serves clients and its partner by it.
 //!
@@ -16,10 +18,10 @@
 //!
 //! A server that runs, without sockets, clocks or threads: what it hears, what it holds back, and what may leave.
 //!
-//! A [`ServerCore`] server owns its book, the file of the open volume and the folder. Datagrams and the partner's octets
-//! are heard one after the other; their answers and frames are held back. [`ServerCore::commit`] puts all new lines to the
-//! file by one write and one sync, and only then gives what may leave. So whatever was ever told stands in what any
-//! loss of power leaves.
+//! A [`ServerCore`] server owns its book, the file of the open volume and the folder. Datagrams and the partner's
+//! octets are heard one after the other; their answers and frames are held back. [`ServerCore::commit`] puts all new
+//! lines to the file by one write and one sync, and only then gives what may leave. So whatever was ever told stands in
+//! what any loss of power leaves.
 //!
 //! That the volumes of a server that runs are one server's, whatever it does and at whatever moment the power goes.
 //!

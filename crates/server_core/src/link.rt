@@ -67,8 +67,8 @@ where
     }
 
     /// Takes what came over the connection, does what follows from it, and holds back what is to be said
-    /// (`failover_session::FailoverSession::poll`). Where there is no connection, nothing is done. After an error the connection has to
-    /// be ended, once what was held back has left.
+    /// (`failover_session::FailoverSession::poll`). Where there is no connection, nothing is done. After an error the
+    /// connection has to be ended, once what was held back has left.
     pub fn handle_input(
         &mut self,
         settings: &Settings,

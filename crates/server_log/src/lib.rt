@@ -1,4 +1,5 @@
-//! What a person is told while a server runs: a line each on standard error, with a level that journald knows.
+//! The log of a running server: each `LogEvent` with its syslog level and its wording, and a rate limit for events
+//! that may repeat. It writes lines to any printer. It decides nothing.
 //!
 //! A [`LogEvent`] is told by a [`Log`]: each time, or, where it may happen often, at once and then a count a minute.
 //! Of what lasts a [`StateWatch`] tells each change.

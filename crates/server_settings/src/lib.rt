@@ -1,4 +1,6 @@
-//! A server's settings: what it is and delegates, within all limits.
+//! A server's settings as a validated value, and their TOML form. `read_settings` parses a document, `Settings::new`
+//! checks limits and that no two pools overlap. It doesn't read files, and says only *that* settings are invalid:
+//! `settings_diagnostics` says why.
 //!
 //! [`Settings`] are made by `new`, of parts that are within their limits (`AreWithin` of specs/Settings) and of pools
 //! that have no address in common. `opening` there is the journal that a server of such settings begins with.

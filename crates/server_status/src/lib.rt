@@ -1,7 +1,8 @@
-//! What a running server says of itself.
+//! The control protocol of a running server: parsing a `ControlRequest`, formatting a `ControlReply`, and the server's
+//! status as text, JSON and OpenMetrics. It doesn't touch the socket, and it doesn't carry the request out.
 //!
-//! A [`ServerStatus`] is filled in by the server, and written in a form that a person asks for: lines to read, JSON, or the
-//! text of OpenMetrics that a monitor scrapes. [`UnitCounts`], [`Traffic`] and [`SyncTimes`] count what it says.
+//! A [`ServerStatus`] is filled in by the server, and written in a form that a person asks for: lines to read, JSON, or
+//! the text of OpenMetrics that a monitor scrapes. [`UnitCounts`], [`Traffic`] and [`SyncTimes`] count what it says.
 //!
 //! ```text
 //! status.text(alloc, StatusFormat::Json)
@@ -9,8 +10,8 @@
 //!
 //! The words by which a person tells a running server something, and what it answers.
 //!
-//! Over the control socket a [`ControlRequest`] is one line, and an [`ControlReply`] is a line, `ok` or `refused` with its reason,
-//! and then a text up to the end: both sides read and write them here (specs/Words).
+//! Over the control socket a [`ControlRequest`] is one line, and a [`ControlReply`] is a line, `ok` or `refused` with
+//! its reason, and then a text up to the end: both sides read and write them here (specs/Words).
 //!
 //! ```text
 //! let Some(request) = ControlRequest::read(line) else { .. };

@@ -1,4 +1,6 @@
-//! What a running server owes by now: a contact to its partner, a roll of its volume, a warning that its book is full.
+//! What a running server has to do by time: send a heartbeat to its partner, roll its volume over, warn that the
+//! volume is nearly full. `due_actions` computes it from the settings, the clock and the volume's size. It does none
+//! of it and keeps no state.
 //!
 //! A server that wrote nothing for `heartbeat` seconds orders a contact, link or no link, so that its partner and its
 //! journal know that it lives. A volume rolls after so many lines behind its head lines, after so many hours, or when

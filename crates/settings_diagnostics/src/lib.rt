@@ -1,9 +1,11 @@
-//! Advice on a node's settings, in words for a person: why they are refused, and what in them is odd.
+//! Error messages and warnings about a settings document. Given the parsed TOML table it returns one diagnostic for
+//! each key that is missing or has a wrong value, the key that a misspelled one was probably meant to be, and warnings
+//! about settings that are valid but unusual. It prints nothing and changes nothing.
 //!
 //! [`reasons_of`] tells of each key that is missing, or whose value doesn't meet the wish there, and where all keys are
-//! as wanted, what the pools lack together: settings with no reason are read (specs/Refusing).
-//! [`suggested_key`] finds the known key that an unknown one was likely meant for; [`pool_warning`], [`lead_time_warning`] and
-//! [`link_warning`] doubt settings that are read.
+//! as wanted, what the pools lack together: settings with no reason are read (specs/Refusing). [`suggested_key`] finds
+//! the known key that an unknown one was likely meant for; [`pool_warning`], [`lead_time_warning`] and [`link_warning`]
+//! doubt settings that are read.
 //!
 //! ```text
 //! for complaint in &reasons_of(alloc, &table)?.keys {

@@ -2,10 +2,10 @@
 //!
 //! A file in memory that can lose power, and a folder of such files, for tests.
 //!
-//! A [`TestFile`] is a [`disk_model::Device`] that keeps what the model of a disk keeps: what is written, how much of it
-//! is on the disk for certain, and what lay there before the last cut. So many of its calls are answered, and the next
-//! one fails. [`TestFile::left`] draws what a loss of power leaves, and its contract says that the model allows it.
-//! Octets are drawn in runs: as written, as they were before a cut, or zero.
+//! A [`TestFile`] is a [`disk_model::Device`] that keeps what the model of a disk keeps: what is written, how much of
+//! it is on the disk for certain, and what lay there before the last cut. So many of its calls are answered, and the
+//! next one fails. [`TestFile::left`] draws what a loss of power leaves, and its contract says that the model allows
+//! it. Octets are drawn in runs: as written, as they were before a cut, or zero.
 //!
 //! A [`TestFolder`] is a [`disk_model::Folder`] of `TestFile`s, which count their calls together with it:
 //! so any call of all may be the first that fails. [`TestFolder::left`] draws which of the names in doubt are there and

@@ -1,8 +1,10 @@
-//! What finds units of a book: those of a kind, and those that a client has.
+//! An index over the units of a book: the lowest unit in a given state, and the units of a client. A segment tree over
+//! each pool and an ordered set of leases answer in logarithmic time; `enter` updates both for one journal line. It
+//! never decides which unit to use: callers ask, by a `UnitQuery`.
 //!
 //! A [`UnitIndex`] is a book's table with what finds its units. `lowest` and `lowest_from` answer the lowest unit that
-//! is [`UnitQuery`]: over the units of each pool stands a tree of kinds, each of which says what one of the units below it
-//! may be, so that one is found in few steps. `lowest_bound` answers the lowest unit that a client has under an
+//! is [`UnitQuery`]: over the units of each pool stands a tree of kinds, each of which says what one of the units below
+//! it may be, so that one is found in few steps. `lowest_bound` answers the lowest unit that a client has under an
 //! identity association, out of a set in that order, and `first_end` when the first lease ends. `enter` follows a line
 //! of the journal: a line changes at most one unit, and the kinds over it.
 //!
