@@ -107,6 +107,6 @@ const BEFORE_SKEW: &str =
     named input. Each of these must print the line that this page begins with; the second is by other hands, in \
     another language:</p>\n<pre>./desk audit";
 
-const BEFORE_SECOND: &str = " &lt; input\npython3 second/desk audit";
+const BEFORE_SECOND: &str = " &lt; input\npython3 reference/desk audit";
 
 const TAIL: &str = " &lt; input</pre>\n</body>\n</html>\n";
