@@ -15,8 +15,8 @@ CODE = re.compile(r"`[^`\n]*`")
 LINK = re.compile(r"\]\(([^()\s]+)\)")
 HEADING = re.compile(r"^#{1,6} (.*)$", re.MULTILINE)
 NAMED = re.compile(r"(?<![\w./-])docs/[\w/.-]+\.(?:md|png)\b")
-PAGES = ["*.md", *(f"{folder}/**/*.md" for folder in ("docs", "second", "bench", "hostile", "examples"))]
-TEXTS = [*PAGES, "docs/*", "man/*", "completion/*", "install", "desk", "node", ".ci/*", "second/**/*.py"]
+PAGES = ["*.md", *(f"{folder}/**/*.md" for folder in ("docs", "reference", "tests", "bench", "examples"))]
+TEXTS = [*PAGES, "docs/*", "packaging/man/*", "packaging/completion/*", "install", "desk", "node", ".ci/*", "reference/**/*.py", "tests/**/*"]
 TEXTS += ["crates/*/src/**/*.rt", "crates/*/specs/**/*.antt"]
 
 

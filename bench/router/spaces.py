@@ -10,7 +10,7 @@ import subprocess
 
 from clients import KINDS, RELAYS, SERVER
 
-FILTER = pathlib.Path(__file__).resolve().parent.parent.parent / "nftables" / "multicast.nft"
+FILTER = pathlib.Path(__file__).resolve().parents[2] / "packaging" / "nftables" / "multicast.nft"
 SERVER_SPACE, SERVER_FOR_RELAYS = "fengtuyas-server", "2001:db8:fffd::1"
 # Of these folders under /var/lib, and of /etc, each client has its own.
 KEPT = ("dhcp", "dhcpcd", "dhcpv6", "dibbler")

@@ -15,7 +15,7 @@ import time
 
 HERE = pathlib.Path(__file__).resolve().parent
 ROOT = HERE.parent.parent
-sys.path.insert(0, str(ROOT / "second"))
+sys.path.insert(0, str(ROOT / "reference"))
 
 from server import journal  # noqa: E402
 from server.book import Book  # noqa: E402

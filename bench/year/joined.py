@@ -3,7 +3,7 @@
 
 At drawn moments of the year the volumes of so many days up to then are put together, of each server as one journal (`desk join`), and
 questions of the last day's moments are asked over these two journals, and over the directories as they are. Each answer is held against
-what clients were told, as in run.py. With --by second/desk another program joins. Ends with status 1 where an answer is wrong.
+what clients were told, as in run.py. With --by reference/desk another program joins. Ends with status 1 where an answer is wrong.
 """
 import argparse
 import pathlib
