@@ -2,6 +2,7 @@
 
 use crate::texts::TEXT;
 use access_records::{access_lines, read};
+use std::alloc::Global;
 use std::test::Fail;
 
 const ANSWER: &[u8] = b"holder 00030001020000000001
@@ -22,14 +23,20 @@ const SAID: &[u8] = b"access B12 - - -
 access B7 2001:0db8:0000:0000:0000:0000:0000:0001 empty -
 ";
 
+/// Answers, and what is said of each by the records of the secondary.
+const ANSWERS: [(&[u8], &[u8]); 2] = [(ANSWER, SAID), (b"none\n", b"")];
+
+/// What is said of an answer's pieces.
+fn said(alloc: Global, answer: &[u8]) -> Result<Vec<u8>, Fail> {
+    let secondary = read(alloc, TEXT)?.records;
+    Ok(access_lines(alloc, answer, &[], &secondary)?)
+}
+
 #[test]
 fn are_said_with_their_ports(rt: HostRuntime) -> Result<(), Fail> {
-    let secondary = read(rt.alloc(), TEXT)?.records;
-    let said = access_lines(rt.alloc(), ANSWER, &[], &secondary)?;
-    assert!(rt; said.as_slice() == SAID);
-    assert_eq!(rt;
-        access_lines(rt.alloc(), b"none\n", &[], &secondary)?.len(),
-        0
-    );
+    for (answer, lines) in &ANSWERS {
+        let said = said(rt.alloc(), answer)?;
+        assert!(rt; said.as_slice() == *lines);
+    }
     Ok(())
 }

@@ -1,13 +1,10 @@
 //! Any number of workers gives the verdicts of one, over either source of lines.
 
-use crate::parallel_inputs::{PRIMARY, SECONDARY, SKEW, in_turn};
+use crate::pairs::{index_of, pair_of, plain_of};
+use crate::parallel_inputs::{Asked, PRIMARY, SECONDARY, SKEW, audited};
 use attribution::{Verdict, verdict_line};
-use auditor::{LineSource, PlainSource};
-use journal_merge::merge;
-use journal_text::{read, written_is_closed};
-use lead_time::{Skew, Transit};
-use line_index::LineIndex;
-use parallel_check::{CheckError, OpenGate, audit_all};
+use auditor::LineSource;
+use parallel_check::{CheckError, OpenGate};
 use std::alloc::Global;
 use std::process::Abort;
 use std::sync::Wait;
@@ -34,92 +31,88 @@ fn check_workers<S: LineSource + Sync>(
     source: &S,
     workers: usize,
 ) -> Result<(), Fail> {
-    let skew = Skew::new(SKEW)?;
     for count in [0, 1, 65] {
-        let certificates = in_turn(alloc, count)?;
-        let verdicts = audit_all(
-            rt,
-            alloc,
-            source,
-            &certificates,
-            skew,
-            Transit::ZERO,
+        let asked = Asked {
+            count,
+            skew: SKEW,
+            transit: 0,
             workers,
-            &OpenGate,
-        )?;
+        };
+        let verdicts = audited(rt, alloc, source, &OpenGate, &asked)??;
         assert_eq!(rt; verdicts.len(), count);
         check_in_turn(rt, alloc, &verdicts)?;
     }
     Ok(())
 }
 
-#[test]
-fn any_number_of_workers_gives_the_same(rt: HostRuntime) -> Result<(), Fail> {
-    written_is_closed();
-    let a = read(rt.alloc(), PRIMARY.as_bytes())?;
-    let b = read(rt.alloc(), SECONDARY.as_bytes())?;
-    let plain = PlainSource::new(&a, &b);
-    let merged = merge(rt.alloc(), &a, &b)?;
-    let index = LineIndex::build(&rt, rt.alloc(), &a, &b, &merged)?;
+/// That any number of workers gives the same over a source.
+fn check_source<S: LineSource + Sync>(
+    rt: &(impl Abort + Threads + Wait + Sync),
+    alloc: Global,
+    source: &S,
+) -> Result<(), Fail> {
     for workers in [1, 2, 3, 63, 64] {
-        check_workers(&rt, rt.alloc(), &plain, workers)?;
-        check_workers(&rt, rt.alloc(), &index, workers)?;
+        check_workers(rt, alloc, source, workers)?;
     }
     Ok(())
 }
+
+#[test]
+fn any_number_of_workers_gives_the_same(rt: HostRuntime) -> Result<(), Fail> {
+    let pair = pair_of(rt.alloc(), PRIMARY.as_bytes(), SECONDARY.as_bytes())?;
+    check_source(&rt, rt.alloc(), &plain_of(&pair))?;
+    let index = index_of(&rt, rt.alloc(), &pair)?;
+    check_source(&rt, rt.alloc(), &index)
+}
+
+/// How many certificates and workers: none, and too many.
+const REFUSED: [(usize, usize); 6] = [
+    (0, 0),
+    (0, 65),
+    (0, usize::MAX),
+    (2, 0),
+    (2, 65),
+    (2, usize::MAX),
+];
 
 #[test]
 fn no_workers_and_too_many_are_refused(rt: HostRuntime) -> Result<(), Fail> {
-    written_is_closed();
-    let a = read(rt.alloc(), PRIMARY.as_bytes())?;
-    let b = read(rt.alloc(), SECONDARY.as_bytes())?;
-    let source = PlainSource::new(&a, &b);
-    let skew = Skew::new(SKEW)?;
-    for count in [0, 2] {
-        let certificates = in_turn(rt.alloc(), count)?;
-        for workers in [0, 65, usize::MAX] {
-            let verdicts = audit_all(
-                &rt,
-                rt.alloc(),
-                &source,
-                &certificates,
-                skew,
-                Transit::ZERO,
-                workers,
-                &OpenGate,
-            );
-            assert!(rt; matches!(&verdicts, Err(CheckError::Workers)));
-        }
+    let pair = pair_of(rt.alloc(), PRIMARY.as_bytes(), SECONDARY.as_bytes())?;
+    let source = plain_of(&pair);
+    for (count, workers) in &REFUSED {
+        let asked = Asked {
+            count: *count,
+            skew: SKEW,
+            transit: 0,
+            workers: *workers,
+        };
+        let verdicts = audited(&rt, rt.alloc(), &source, &OpenGate, &asked)?;
+        assert!(rt; matches!(&verdicts, Err(CheckError::Workers)));
     }
     Ok(())
 }
 
-// An answer that may be half a second under way: the lease may have begun too late for the whole hour.
+/// The skew, the transit and the verdict. An answer that may be half a second under way: the lease may have begun too
+/// late for the whole hour.
+const BY_TRANSIT: [(u64, u64, Verdict); 3] = [
+    (SKEW, 0, Verdict::Accepted),
+    (SKEW, 500, Verdict::PieceGrant(1)),
+    (SKEW + 1, 0, Verdict::PieceGrant(1)),
+];
+
 #[test]
 fn the_transit_is_asked(rt: HostRuntime) -> Result<(), Fail> {
-    written_is_closed();
-    let a = read(rt.alloc(), PRIMARY.as_bytes())?;
-    let b = read(rt.alloc(), SECONDARY.as_bytes())?;
-    let source = PlainSource::new(&a, &b);
-    let certificates = in_turn(rt.alloc(), 1)?;
-    for (skew, transit, verdict) in [
-        (SKEW, 0, Verdict::Accepted),
-        (SKEW, 500, Verdict::PieceGrant(1)),
-        (SKEW + 1, 0, Verdict::PieceGrant(1)),
-    ] {
-        let skew = Skew::new(skew)?;
-        let transit = Transit::new(transit)?;
-        let verdicts = audit_all(
-            &rt,
-            rt.alloc(),
-            &source,
-            &certificates,
-            skew,
-            transit,
-            2,
-            &OpenGate,
-        )?;
-        assert!(rt; verdicts.as_slice() == [verdict].as_slice());
+    let pair = pair_of(rt.alloc(), PRIMARY.as_bytes(), SECONDARY.as_bytes())?;
+    let source = plain_of(&pair);
+    for (skew, transit, verdict) in &BY_TRANSIT {
+        let asked = Asked {
+            count: 1,
+            skew: *skew,
+            transit: *transit,
+            workers: 2,
+        };
+        let verdicts = audited(&rt, rt.alloc(), &source, &OpenGate, &asked)??;
+        assert!(rt; verdicts.as_slice() == [*verdict].as_slice());
     }
     Ok(())
 }

@@ -1,17 +1,14 @@
 //! Accepted inputs with one part changed, and what the audit of their lines answers then.
 
-ghost use Rattle.std.specs.Prelude.{◌^◌, ◌<◌, length, IfOk, IfSome};
-ghost use Rattle.causal_order.specs.Journals.{journals_of};
-ghost use Rattle.journal_merge.specs.Interleaving.{IsInterleaving};
+ghost use Rattle.journal_text.specs.Closed.{IsClosed};
 
+use crate::pairs::{Pair, index_if_merged, pair_of, plain_of};
 use crate::three_texts::cut;
 use attribution::{Verdict, verdict_line};
-use auditor::{PlainSource, audit};
+use auditor::audit;
+use causal_order::Certificate;
 use certificate::CertificateError;
-use journal_merge::{MergeError, Merged, merge};
-use journal_text::{Journal, read, written_is_closed};
 use lead_time::{Skew, Transit};
-use line_index::LineIndex;
 use std::alloc::{AllocError, Global};
 use std::process::Abort;
 use std::test::Fail;
@@ -45,42 +42,36 @@ pub type Several = (
     &'static str,
 );
 
-/// The journals' lines in one order, where they have one.
-fn merged(alloc: Global, primary: &Journal, secondary: &Journal) -> Result<Option<Merged>, Fail>
-    requires few_primary { length primary.now.lines < 2 ^ 32 }
-    requires few_secondary { length secondary.now.lines < 2 ^ 32 }
-    ensures { IfOk result
-        (λ found. IfSome found (λ m. IsInterleaving (journals_of primary.now secondary.now) m.refs)) }
+/// The verdict on a certificate over the lines of a pair, whatever rules these break: by a walk over them and, where
+/// their messages fit one another, by their index.
+fn verdict_over(
+    rt: &(impl Abort + Threads + Sync),
+    alloc: Global,
+    pair: &Pair,
+    claim: &Certificate,
+    skew: Skew,
+) -> Result<Verdict, Fail>
+    requires primary_closed { IsClosed pair.now.primary.lines }
+    requires secondary_closed { IsClosed pair.now.secondary.lines }
 {
-    match merge(alloc, primary, secondary) {
-        Ok(merged) => Ok(Some(merged)),
-        Err(MergeError::Memory) => Err(AllocError)?,
-        Err(_) => Ok(None),
+    let verdict = audit(&plain_of(pair), claim, skew, Transit::ZERO);
+    if let Some(index) = index_if_merged(rt, alloc, pair)? {
+        assert_eq!(rt; audit(&index, claim, skew, Transit::ZERO), verdict);
     }
+    Ok(verdict)
 }
 
-/// The verdict on an input's certificate over the lines of its journals, whatever rules these break: by a walk over
-/// them and, where their messages fit one another, by their index.
+/// The verdict on an input's certificate over its journals.
 fn verdict_on(
     rt: &(impl Abort + Threads + Sync),
     alloc: Global,
     input: &str,
     skew: Skew,
 ) -> Result<Verdict, Fail> {
-    written_is_closed();
-    let texts = cut(alloc, input)?;
-    let primary = read(alloc, texts.primary.as_bytes())?;
-    let secondary = read(alloc, texts.secondary.as_bytes())?;
-    match certificate::read(alloc, texts.certificate.as_bytes()) {
-        Ok(claim) => {
-            let source = PlainSource::new(&primary, &secondary);
-            let verdict = audit(&source, &claim, skew, Transit::ZERO);
-            if let Some(merged) = merged(alloc, &primary, &secondary)? {
-                let index = LineIndex::build(rt, alloc, &primary, &secondary, &merged)?;
-                assert_eq!(rt; audit(&index, &claim, skew, Transit::ZERO), verdict);
-            }
-            Ok(verdict)
-        }
+    let texts = cut(input)?;
+    let pair = pair_of(alloc, texts.primary, texts.secondary)?;
+    match certificate::read(alloc, texts.certificate) {
+        Ok(claim) => verdict_over(rt, alloc, &pair, &claim, skew),
         Err(CertificateError::Fault(fault)) => Ok(Verdict::Certificate(fault)),
         Err(CertificateError::Memory) => Err(AllocError)?,
     }

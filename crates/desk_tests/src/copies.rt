@@ -6,17 +6,26 @@ use archive_files::{
     FileContent, FileEnd, FilesError, JournalFiles, SettingsScope, ShownJournals, Unreadable,
     catalogue_of, shown_at,
 };
-use journal_archive::ArchiveError;
+use journal_archive::{Archive, ArchiveError, PairJournals};
 use journal_lines::Journal;
 use journal_text::write;
 use lead_time::{Skew, Transit};
 use std::alloc::Global;
+use std::process::Abort;
 use std::test::Fail;
 
 /// Files that are texts in memory.
 #[derive(Drop)]
 struct Texts<'a> {
     texts: &'a [&'a str],
+}
+
+impl Texts<'_> {
+    /// All octets of a file.
+    fn octets(&self, alloc: Global, file: usize) -> Result<Vec<u8>, Unreadable> {
+        let text = self.texts.get(file).ok_or(Unreadable::Device)?;
+        Vec::from_slice(alloc, text.as_bytes()).map_err(|_| Unreadable::Memory)
+    }
 }
 
 impl JournalFiles for Texts<'_> {
@@ -29,20 +38,17 @@ impl JournalFiles for Texts<'_> {
     }
 
     fn read(&self, alloc: Global, file: usize) -> Result<Vec<u8>, Unreadable> {
-        let text = self.texts.get(file).ok_or(Unreadable::Device)?;
-        Vec::from_slice(alloc, text.as_bytes()).map_err(|_| Unreadable::Memory)
+        self.octets(alloc, file)
     }
 
     #[tactic(auto, using(archive_files::proofs::AnyParts::any_beginning))]
     fn beginning(&self, alloc: Global, file: usize, _octets: u32) -> Result<Vec<u8>, Unreadable> {
-        let text = self.texts.get(file).ok_or(Unreadable::Device)?;
-        Vec::from_slice(alloc, text.as_bytes()).map_err(|_| Unreadable::Memory)
+        self.octets(alloc, file)
     }
 
     #[tactic(auto, using(archive_files::proofs::AnyParts::any_end))]
     fn end(&self, alloc: Global, file: usize, _octets: u32) -> Result<FileEnd, Unreadable> {
-        let text = self.texts.get(file).ok_or(Unreadable::Device)?;
-        let octets = Vec::from_slice(alloc, text.as_bytes()).map_err(|_| Unreadable::Memory)?;
+        let octets = self.octets(alloc, file)?;
         let size = octets.len() as u64;
         Ok(FileEnd { size, octets })
     }
@@ -90,9 +96,20 @@ pd-journal 1 B
 end 3
 ";
 
-fn text_of(alloc: Global, journal: &Journal) -> Result<Vec<u8>, Fail> {
-    let text = write(alloc, journal.role, journal.head, journal.lines.as_slice())?;
-    Ok(text)
+/// The journals that the copies show of 5000.
+fn shown_of(alloc: Global, texts: &Texts<'_>, archive: &Archive) -> Result<PairJournals, Fail> {
+    let skew = Skew::new(500)?;
+    match shown_at(alloc, texts, archive, 5000, skew, Transit::ZERO)? {
+        ShownJournals::Journals(_pair, shown) => Ok(shown),
+        ShownJournals::Lacking(..) => Err(Fail::from("no pair shows it")),
+    }
+}
+
+/// That a journal has this text.
+fn check_text(rt: &impl Abort, alloc: Global, journal: &Journal, text: &str) -> Result<(), Fail> {
+    let written = write(alloc, journal.role, journal.head, journal.lines.as_slice())?;
+    assert_eq!(rt; written.as_slice(), text.as_bytes());
+    Ok(())
 }
 
 #[test]
@@ -100,30 +117,12 @@ fn shows_two_copies_as_far_as_each_bears_out_the_other(rt: HostRuntime) -> Resul
     let texts = Texts {
         texts: &["", SECONDARY, "no journal\n", PRIMARY],
     };
-    let skew = Skew::new(500)?;
     let catalogue = catalogue_of(rt.alloc(), &texts, SettingsScope::OfBoth)?;
     assert_eq!(rt; catalogue.passed_over.len(), 2);
     assert!(rt; matches!(catalogue.passed_over[1].found, FileContent::NoJournal));
-    let shown = shown_at(
-        rt.alloc(),
-        &texts,
-        &catalogue.archive,
-        5000,
-        skew,
-        Transit::ZERO,
-    )?;
-    let ShownJournals::Journals(_pair, shown) = shown else {
-        panic!(rt; "no pair shows it");
-    };
-    assert_eq!(rt;
-        text_of(rt.alloc(), &shown.primary)?.as_slice(),
-        PRIMARY_SHOWN.as_bytes()
-    );
-    assert_eq!(rt;
-        text_of(rt.alloc(), &shown.secondary)?.as_slice(),
-        SECONDARY_SHOWN.as_bytes()
-    );
-    Ok(())
+    let shown = shown_of(rt.alloc(), &texts, &catalogue.archive)?;
+    check_text(&rt, rt.alloc(), &shown.primary, PRIMARY_SHOWN)?;
+    check_text(&rt, rt.alloc(), &shown.secondary, SECONDARY_SHOWN)
 }
 
 #[test]

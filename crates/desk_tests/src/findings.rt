@@ -1,26 +1,27 @@
 //! What a search finds: the certificates of the examples, from their journals and what they claim.
 
+ghost use Rattle.journal_text.specs.Closed.{IsClosed};
+
 use crate::changes::SKEW;
 use crate::inputs::{
     AT_THE_PARTNER, BEGAN_LATE, END_TO_END, ENDED_EARLY, GIVEN_BACK, GIVEN_BACK_BY_ANOTHER,
     WHOLE_HOUR,
 };
-use crate::three_texts::cut;
+use crate::pairs::{Pair, index_of, pair_of, plain_of};
+use crate::three_texts::{ThreeTexts, cut};
 use crate::volume_inputs::{CARRIED, GRANTED_LATER, GRANTED_WHEN_TOLD, RENEWED};
 use attribution::Verdict;
-use auditor::{LineSource, PlainSource, audit};
+use auditor::{LineSource, audit};
 use causal_order::Certificate;
 use evidence_search::{FindError, find_certificate};
-use journal_merge::merge;
-use journal_text::{read, written_is_closed};
 use lead_time::{Skew, Transit};
-use line_index::LineIndex;
 use std::alloc::{AllocError, Global};
 use std::process::Abort;
 use std::test::Fail;
 use std::thread::Threads;
 
-const NONE: &str = "none\n";
+/// What is told where nothing is found.
+const NONE: &[u8] = b"none\n";
 
 /// Searches for what another certificate claims.
 fn search<S: LineSource>(
@@ -44,29 +45,33 @@ fn search<S: LineSource>(
     )
 }
 
+/// The text of what a search finds.
+fn told(alloc: Global, found: Result<Certificate, FindError>) -> Result<Vec<u8>, Fail> {
+    match found {
+        Ok(found) => Ok(certificate::write(alloc, &found)?),
+        Err(FindError::NoneFound) => Ok(NONE.to_vec(alloc)?),
+        Err(FindError::TooLong) => Err(Fail::from("too long")),
+        Err(FindError::Memory) => Err(AllocError)?,
+    }
+}
+
+/// The text of what a search over the journals finds for what the certificate claims.
+fn text_found(alloc: Global, texts: &ThreeTexts<'_>, transit: u64) -> Result<Vec<u8>, Fail> {
+    let pair = pair_of(alloc, texts.primary, texts.secondary)?;
+    let claim = certificate::read(alloc, texts.certificate)?;
+    told(alloc, search(alloc, &plain_of(&pair), &claim, transit))
+}
+
 /// That a search for what an input claims over its journals gives this text.
 fn check_found(
     rt: &impl Abort,
     alloc: Global,
     input: &str,
     transit: u64,
-    text: &str,
+    text: &[u8],
 ) -> Result<(), Fail> {
-    written_is_closed();
-    let texts = cut(alloc, input)?;
-    let primary = read(alloc, texts.primary.as_bytes())?;
-    let secondary = read(alloc, texts.secondary.as_bytes())?;
-    let claim = certificate::read(alloc, texts.certificate.as_bytes())?;
-    let source = PlainSource::new(&primary, &secondary);
-    match search(alloc, &source, &claim, transit) {
-        Ok(found) => {
-            let found = certificate::write(alloc, &found)?;
-            assert_eq!(rt; found.as_slice(), text.as_bytes());
-        }
-        Err(FindError::NoneFound) => assert_eq!(rt; text, NONE),
-        Err(FindError::TooLong) => return Err(Fail::from("too long")),
-        Err(FindError::Memory) => Err(AllocError)?,
-    }
+    let found = text_found(alloc, &cut(input)?, transit)?;
+    assert_eq!(rt; found.as_slice(), text);
     Ok(())
 }
 
@@ -77,8 +82,38 @@ fn check_found_itself(
     input: &str,
     transit: u64,
 ) -> Result<(), Fail> {
-    let texts = cut(alloc, input)?;
-    check_found(rt, alloc, input, transit, texts.certificate.as_str())
+    let texts = cut(input)?;
+    check_found(rt, alloc, input, transit, texts.certificate)
+}
+
+/// What a search over an index of a pair finds for what a certificate claims.
+fn found_in_index(
+    rt: &(impl Threads + Sync),
+    alloc: Global,
+    pair: &Pair,
+    claim: &Certificate,
+) -> Result<Certificate, Fail>
+    requires primary_closed { IsClosed pair.now.primary.lines }
+    requires secondary_closed { IsClosed pair.now.secondary.lines }
+{
+    let index = index_of(rt, alloc, pair)?;
+    let found = search(alloc, &index, claim, 0)?;
+    Ok(found)
+}
+
+/// The verdict by a walk over a pair on what a search over its index finds.
+fn verdict_on_found(
+    rt: &(impl Threads + Sync),
+    alloc: Global,
+    pair: &Pair,
+    claim: &Certificate,
+) -> Result<Verdict, Fail>
+    requires primary_closed { IsClosed pair.now.primary.lines }
+    requires secondary_closed { IsClosed pair.now.secondary.lines }
+{
+    let skew = Skew::new(SKEW)?;
+    let found = found_in_index(rt, alloc, pair, claim)?;
+    Ok(audit(&plain_of(pair), &found, skew, Transit::ZERO))
 }
 
 /// That a search over an index of an input's journals gives what a walk over them accepts.
@@ -87,17 +122,10 @@ fn check_found_in_index(
     alloc: Global,
     input: &str,
 ) -> Result<(), Fail> {
-    written_is_closed();
-    let texts = cut(alloc, input)?;
-    let primary = read(alloc, texts.primary.as_bytes())?;
-    let secondary = read(alloc, texts.secondary.as_bytes())?;
-    let claim = certificate::read(alloc, texts.certificate.as_bytes())?;
-    let merged = merge(alloc, &primary, &secondary)?;
-    let index = LineIndex::build(rt, alloc, &primary, &secondary, &merged)?;
-    let found = search(alloc, &index, &claim, 0)?;
-    let source = PlainSource::new(&primary, &secondary);
-    let verdict = audit(&source, &found, Skew::new(SKEW)?, Transit::ZERO);
-    assert!(rt; verdict == Verdict::Accepted);
+    let texts = cut(input)?;
+    let pair = pair_of(alloc, texts.primary, texts.secondary)?;
+    let claim = certificate::read(alloc, texts.certificate)?;
+    assert!(rt; verdict_on_found(rt, alloc, &pair, &claim)? == Verdict::Accepted);
     Ok(())
 }
 
@@ -116,7 +144,7 @@ const EXAMPLES: [&str; 10] = [
 ];
 
 /// Two pieces, each of the grant that reaches farthest, with all releases in the order of the journals.
-const TWO_PIECES: &str = "pd-certificate 1
+const TWO_PIECES: &[u8] = b"pd-certificate 1
 holder 00030001020000000001
 prefix 2001:0db8:0000:0000:0000:0000:0000:0000/56
 interval 12000 23000
@@ -180,20 +208,42 @@ const UNDER_WAY: [(&str, u64, bool); 3] = [
     (" 12500 ", 501, false),
 ];
 
+/// That a search finds nothing for an input with a part of it changed.
+fn check_unshown(
+    rt: &impl Abort,
+    alloc: Global,
+    input: &str,
+    old: &'static str,
+    new: &'static str,
+) -> Result<(), Fail> {
+    let changed = input.replacen(alloc, old, new, 1)?;
+    assert_ne!(rt; changed.as_str(), input);
+    check_found(rt, alloc, changed.as_str(), 0, NONE)
+}
+
+/// That the whole hour, claimed from here on, is found as it stands or not at all.
+fn check_under_way(
+    rt: &impl Abort,
+    alloc: Global,
+    from: &'static str,
+    transit: u64,
+    is_shown: bool,
+) -> Result<(), Fail> {
+    let later = WHOLE_HOUR.replacen(alloc, " 12000 ", from, 2)?;
+    if is_shown {
+        check_found_itself(rt, alloc, later.as_str(), transit)
+    } else {
+        check_found(rt, alloc, later.as_str(), transit, NONE)
+    }
+}
+
 #[test]
 fn finds_only_what_is_shown(rt: HostRuntime) -> Result<(), Fail> {
     for (input, old, new) in &UNSHOWN {
-        let changed = input.replacen(rt.alloc(), *old, *new, 1)?;
-        assert_ne!(rt; changed.as_str(), *input);
-        check_found(&rt, rt.alloc(), changed.as_str(), 0, NONE)?;
+        check_unshown(&rt, rt.alloc(), input, *old, *new)?;
     }
     for (from, transit, is_shown) in &UNDER_WAY {
-        let later = WHOLE_HOUR.replacen(rt.alloc(), " 12000 ", *from, 2)?;
-        if *is_shown {
-            check_found_itself(&rt, rt.alloc(), later.as_str(), *transit)?;
-        } else {
-            check_found(&rt, rt.alloc(), later.as_str(), *transit, NONE)?;
-        }
+        check_under_way(&rt, rt.alloc(), *from, *transit, *is_shown)?;
     }
     Ok(())
 }

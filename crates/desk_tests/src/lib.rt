@@ -25,6 +25,8 @@ mod inputs;
 #[cfg(test)]
 mod judging;
 #[cfg(test)]
+mod pairs;
+#[cfg(test)]
 mod parallel_inputs;
 #[cfg(test)]
 mod pieces;

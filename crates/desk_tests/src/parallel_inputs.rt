@@ -1,8 +1,14 @@
 //! Two journals of one lease of an hour, and certificates over them.
 
+use attribution::Verdict;
+use auditor::LineSource;
 use causal_order::Certificate;
+use lead_time::{Skew, Transit};
+use parallel_check::{CheckError, Gate, audit_all};
 use std::alloc::Global;
+use std::sync::Wait;
 use std::test::Fail;
+use std::thread::Threads;
 
 pub const SKEW: u64 = 2000;
 
@@ -40,7 +46,7 @@ end
 ";
 
 /// So many certificates: the whole hour at even indexes, too early at odd ones.
-pub fn in_turn(alloc: Global, count: usize) -> Result<Vec<Certificate>, Fail> {
+fn in_turn(alloc: Global, count: usize) -> Result<Vec<Certificate>, Fail> {
     let mut certificates = Vec::new(alloc);
     for index in 0..count {
         let text = if index % 2 == 0 {
@@ -51,4 +57,37 @@ pub fn in_turn(alloc: Global, count: usize) -> Result<Vec<Certificate>, Fail> {
         certificates.push(certificate::read(alloc, text.as_bytes())?)?;
     }
     Ok(certificates)
+}
+
+/// How many certificates are audited, how far the clocks may be from true time and how long an answer may be under way,
+/// in milliseconds, and how many workers audit.
+#[derive(Drop)]
+pub struct Asked {
+    pub count: usize,
+    pub skew: u64,
+    pub transit: u64,
+    pub workers: usize,
+}
+
+/// The verdicts on so many certificates, by so many workers, or why there are none.
+pub fn audited<S: LineSource + Sync, G: Gate>(
+    rt: &(impl Threads + Wait + Sync),
+    alloc: Global,
+    source: &S,
+    gate: &G,
+    asked: &Asked,
+) -> Result<Result<Vec<Verdict>, CheckError>, Fail> {
+    let skew = Skew::new(asked.skew)?;
+    let transit = Transit::new(asked.transit)?;
+    let certificates = in_turn(alloc, asked.count)?;
+    Ok(audit_all(
+        rt,
+        alloc,
+        source,
+        &certificates,
+        skew,
+        transit,
+        asked.workers,
+        gate,
+    ))
 }

@@ -1,7 +1,7 @@
 //! Reasons of foreign grants at the millisecond where each begins and ends to hold.
 
-use auditor::{LineSource, PlainSource, reason_holds};
-use journal_text::{read, written_is_closed};
+use crate::pairs::{pair_of, plain_of};
+use auditor::{LineSource, reason_holds};
 use lead_time::{Reading, Skew, Transit};
 use std::alloc::{AllocError, Global};
 use std::process::Abort;
@@ -73,16 +73,26 @@ fn only_reason_holds<S: LineSource>(
     }
 }
 
+/// That a reason holds over a source as said.
+fn check_reason<S: LineSource>(
+    rt: &impl Abort,
+    alloc: Global,
+    source: &S,
+    reason: &Reasoned,
+) -> Result<(), Fail> {
+    let (foreign, from, to, transit, holds) = reason;
+    let claim = claim(alloc, foreign, *from, *to)?;
+    let found = only_reason_holds(alloc, source, claim.as_str(), *transit)?;
+    assert_eq!(rt; found, Some(*holds));
+    Ok(())
+}
+
 /// That each reason holds over this journal of the primary's as said.
 fn check(rt: &impl Abort, alloc: Global, journal: &str, reasons: &[Reasoned]) -> Result<(), Fail> {
-    written_is_closed();
-    let primary = read(alloc, journal.as_bytes())?;
-    let secondary = read(alloc, PARTNER)?;
-    let source = PlainSource::new(&primary, &secondary);
-    for (foreign, from, to, transit, holds) in reasons {
-        let claim = claim(alloc, foreign, *from, *to)?;
-        let found = only_reason_holds(alloc, &source, claim.as_str(), *transit)?;
-        assert_eq!(rt; found, Some(*holds));
+    let pair = pair_of(alloc, journal.as_bytes(), PARTNER)?;
+    let source = plain_of(&pair);
+    for reason in reasons {
+        check_reason(rt, alloc, &source, reason)?;
     }
     Ok(())
 }
@@ -152,20 +162,21 @@ const CARRIED: &[Reasoned] = &[
     ),
 ];
 
+/// For how long is granted, when it is given back, and what holds then. The grant by 12000 and the release from 12000
+/// on may be one moment; from 12001 on they are not.
+const GRANTED: [(u32, u64, &[Reasoned]); 5] = [
+    (u32::MAX, 3_600_000, FOR_EVER),
+    (100, 3_600_000, FOR_A_WHILE),
+    (3600, 20_000, GIVEN_BACK),
+    (3600, 14_000, &[(BY_THE_CLOCK, 22_000, LAST, 0, false)]),
+    (3600, 14_001, &[(BY_THE_CLOCK, 22_000, LAST, 0, true)]),
+];
+
 #[test]
 fn holds_to_the_millisecond(rt: HostRuntime) -> Result<(), Fail> {
-    let alloc = rt.alloc();
-    // The grant by 12000 and the release from 12000 on may be one moment; from 12001 on they are not.
-    let cases: [(u32, u64, &[Reasoned]); 5] = [
-        (u32::MAX, 3_600_000, FOR_EVER),
-        (100, 3_600_000, FOR_A_WHILE),
-        (3600, 20_000, GIVEN_BACK),
-        (3600, 14_000, &[(BY_THE_CLOCK, 22_000, LAST, 0, false)]),
-        (3600, 14_001, &[(BY_THE_CLOCK, 22_000, LAST, 0, true)]),
-    ];
-    for (valid, given_back, reasons) in &cases {
-        let journal = journal_of_a(alloc, *valid, *given_back)?;
-        check(&rt, alloc, &journal, reasons)?;
+    for (valid, given_back, reasons) in &GRANTED {
+        let journal = journal_of_a(rt.alloc(), *valid, *given_back)?;
+        check(&rt, rt.alloc(), &journal, reasons)?;
     }
-    check(&rt, alloc, SECOND_VOLUME, CARRIED)
+    check(&rt, rt.alloc(), SECOND_VOLUME, CARRIED)
 }

@@ -1,12 +1,10 @@
 //! Each source gives the same releases of a delegation.
 
+use crate::pairs::{index_of, pair_of, plain_of};
 use attribution::{Delegation, Lasting};
-use auditor::{LineSource, PlainSource};
+use auditor::LineSource;
 use causal_order::Ref;
 use client_id::{Duid, Iaid};
-use journal_merge::merge;
-use journal_text::{read, written_is_closed};
-use line_index::LineIndex;
 use prefix_range::read_canonical;
 use std::alloc::{AllocError, Global};
 use std::test::Fail;
@@ -72,7 +70,9 @@ end 4
 const UNIT: &str = "2001:0db8:0000:0100:0000:0000:0000:0000/56";
 
 /// A client, its identity association and a prefix, and how many lines give that back.
-const ASKED: [(&str, u32, &str, usize); 6] = [
+type Asked = (&'static str, u32, &'static str, usize);
+
+const ASKED: [Asked; 6] = [
     ("000300", 1, UNIT, 3),
     ("000301", 0, UNIT, 2),
     ("000300", 65_536, UNIT, 1),
@@ -81,18 +81,26 @@ const ASKED: [(&str, u32, &str, usize); 6] = [
     ("000300", 1, "2001:0db8:0000:0000:0000:0000:0000:0000/48", 0),
 ];
 
+/// Returns whether two sources give the same lines for what is asked, as many as said.
+fn are_found<P: LineSource, I: LineSource>(
+    alloc: Global,
+    plain: &P,
+    index: &I,
+    asked: &Asked,
+) -> Result<bool, Fail> {
+    let (client, iaid, prefix, count) = asked;
+    let delegation = delegation_of(client, *iaid, prefix)?;
+    let _lasting = delegation.lasting;
+    Ok(are_same(alloc, plain, index, &delegation, *count)?)
+}
+
 #[test]
 fn finds_the_releases(rt: HostRuntime) -> Result<(), Fail> {
-    written_is_closed();
-    let a = read(rt.alloc(), PRIMARY.as_bytes())?;
-    let b = read(rt.alloc(), SECONDARY.as_bytes())?;
-    let merged = merge(rt.alloc(), &a, &b)?;
-    let index = LineIndex::build(&rt, rt.alloc(), &a, &b, &merged)?;
-    let plain = PlainSource::new(&a, &b);
-    for (client, iaid, prefix, count) in &ASKED {
-        let delegation = delegation_of(client, *iaid, prefix)?;
-        let _lasting = delegation.lasting;
-        assert!(rt; are_same(rt.alloc(), &plain, &index, &delegation, *count)?);
+    let pair = pair_of(rt.alloc(), PRIMARY.as_bytes(), SECONDARY.as_bytes())?;
+    let index = index_of(&rt, rt.alloc(), &pair)?;
+    let plain = plain_of(&pair);
+    for asked in &ASKED {
+        assert!(rt; are_found(rt.alloc(), &plain, &index, asked)?);
     }
     Ok(())
 }

@@ -1,13 +1,12 @@
 //! The index of two journals gives the lines that a walk over them gives.
 
-ghost use Rattle.std.specs.Prelude.{◌<◌};
+ghost use Rattle.std.specs.Prelude.{◌<◌, IfOk};
+ghost use Rattle.journal_text.specs.Closed.{IsClosed};
 
-use auditor::{LineSource, PlainSource};
+use crate::pairs::{Pair, index_of, pair_of, plain_of};
+use auditor::LineSource;
 use binding_rules::Role;
 use causal_order::Ref;
-use journal_merge::merge;
-use journal_text::{read, written_is_closed};
-use line_index::LineIndex;
 use prefix_range::{Prefix, push_prefix, read_canonical};
 use std::alloc::{AllocError, Global};
 use std::process::Abort;
@@ -101,18 +100,20 @@ fn given_text<S: LineSource>(alloc: Global, source: &S, prefix: &str) -> Result<
     Ok(spelled(alloc, &refs)?)
 }
 
-#[test]
-fn finds_what_overlaps(rt: HostRuntime) -> Result<(), Fail> {
-    written_is_closed();
-    let a = read(rt.alloc(), PRIMARY.as_bytes())?;
-    let b = read(rt.alloc(), SECONDARY.as_bytes())?;
-    let merged = merge(rt.alloc(), &a, &b)?;
-    let index = LineIndex::build(&rt, rt.alloc(), &a, &b, &merged)?;
+/// That a source gives the lines that concern each prefix, in their order.
+fn check_asked<S: LineSource>(rt: &impl Abort, alloc: Global, source: &S) -> Result<(), Fail> {
     for (prefix, lines) in &ASKED {
-        let text = given_text(rt.alloc(), &index, prefix)?;
+        let text = given_text(alloc, source, prefix)?;
         assert_eq!(rt; text.as_slice(), lines.as_bytes());
     }
     Ok(())
+}
+
+#[test]
+fn finds_what_overlaps(rt: HostRuntime) -> Result<(), Fail> {
+    let pair = pair_of(rt.alloc(), PRIMARY.as_bytes(), SECONDARY.as_bytes())?;
+    let index = index_of(&rt, rt.alloc(), &pair)?;
+    check_asked(&rt, rt.alloc(), &index)
 }
 
 /// Numbers that look random, the same in each run.
@@ -149,28 +150,44 @@ impl Numbers {
     }
 }
 
-/// A journal of so many lines that speak of prefixes, under this head line.
+/// What stands before the prefix and behind it in a line that grants, gives back or carries it.
+const KINDS: [(&str, &str); 3] = [
+    (" 5 grant 000300 00000001 ", " 7\n"),
+    (" 5 release 000300 00000001 ", "\n"),
+    (" 5 carry 000300 00000001 ", " 7\n"),
+];
+
+/// Adds a line of this number that speaks of a prefix.
+fn push_line(text: &mut Vec<u8>, numbers: &mut Numbers, number: u64) -> Result<(), Fail> {
+    let (before, behind) = KINDS[numbers.below(3) as usize];
+    let prefix = numbers.prefix()?;
+    push_number(text, number)?;
+    text.extend_from_slice(before.as_bytes())?;
+    push_prefix(text, &prefix)?;
+    text.extend_from_slice(behind.as_bytes())?;
+    Ok(())
+}
+
+/// The text of a journal of so many lines that speak of prefixes, under this head line.
 fn journal(alloc: Global, numbers: &mut Numbers, head: &str, count: u64) -> Result<Vec<u8>, Fail> {
+    let last = count.saturating_add(1);
+    let end = format!(in alloc; "{last} 5 close\nend {last}\n")?;
     let mut text = head.as_bytes().to_vec(alloc)?;
     for number in 1..=count {
-        push_number(&mut text, number)?;
-        let kind = numbers.below(3);
-        text.extend_from_slice(match kind {
-            0 => b" 5 grant 000300 00000001 ".as_slice(),
-            1 => b" 5 release 000300 00000001 ".as_slice(),
-            _ => b" 5 carry 000300 00000001 ".as_slice(),
-        })?;
-        push_prefix(&mut text, &numbers.prefix()?)?;
-        text.extend_from_slice(match kind {
-            1 => b"\n".as_slice(),
-            _ => b" 7\n".as_slice(),
-        })?;
+        push_line(&mut text, numbers, number)?;
     }
-    push_number(&mut text, count.saturating_add(1))?;
-    text.extend_from_slice(b" 5 close\nend ")?;
-    push_number(&mut text, count.saturating_add(1))?;
-    text.push(b'\n')?;
+    text.extend_from_slice(end.as_bytes())?;
     Ok(text)
+}
+
+/// A pair of journals of so many lines each.
+fn random_pair(alloc: Global, numbers: &mut Numbers, first: u64, second: u64) -> Result<Pair, Fail>
+    ensures primary_closed { IfOk result (λ pair. IsClosed pair.primary.lines) }
+    ensures secondary_closed { IfOk result (λ pair. IsClosed pair.secondary.lines) }
+{
+    let primary = journal(alloc, numbers, "pd-journal 1 A\n", first)?;
+    let secondary = journal(alloc, numbers, "pd-journal 2 B 2\n", second)?;
+    pair_of(alloc, &primary, &secondary)
 }
 
 /// Returns whether two sources give the same lines for a prefix.
@@ -185,34 +202,42 @@ fn are_same<P: LineSource, I: LineSource>(
     Ok(walked.len() == found.len() && walked.iter().all(|at| found.contains(at)))
 }
 
-/// That both give the same lines for prefixes of every length.
-fn check_same(
-    rt: &(impl Abort + Threads + Sync),
+/// That two sources give the same lines for prefixes of every length.
+fn check_prefixes<P: LineSource, I: LineSource>(
+    rt: &impl Abort,
     alloc: Global,
     numbers: &mut Numbers,
-    primary: &[u8],
-    secondary: &[u8],
+    plain: &P,
+    index: &I,
 ) -> Result<(), Fail> {
-    written_is_closed();
-    let a = read(alloc, primary)?;
-    let b = read(alloc, secondary)?;
-    let plain = PlainSource::new(&a, &b);
-    let merged = merge(alloc, &a, &b)?;
-    let index = LineIndex::build(rt, alloc, &a, &b, &merged)?;
     for _ in 0..200 {
         let prefix = numbers.prefix()?;
-        assert!(rt; are_same(alloc, &plain, &index, &prefix)?);
+        assert!(rt; are_same(alloc, plain, index, &prefix)?);
     }
     Ok(())
 }
 
+/// That the index of two journals of so many lines gives what a walk over them gives.
+fn check_same(
+    rt: &(impl Abort + Threads + Sync),
+    alloc: Global,
+    numbers: &mut Numbers,
+    first: u64,
+    second: u64,
+) -> Result<(), Fail> {
+    let pair = random_pair(alloc, numbers, first, second)?;
+    let index = index_of(rt, alloc, &pair)?;
+    check_prefixes(rt, alloc, numbers, &plain_of(&pair), &index)
+}
+
+/// How many lines each side has.
+const LINES: [(u64, u64); 5] = [(0, 0), (1, 0), (0, 3), (40, 60), (150, 120)];
+
 #[test]
 fn gives_what_a_walk_gives(rt: HostRuntime) -> Result<(), Fail> {
     let mut numbers = Numbers { state: 19 };
-    for (first, second) in &[(0, 0), (1, 0), (0, 3), (40, 60), (150, 120)] {
-        let primary = journal(rt.alloc(), &mut numbers, "pd-journal 1 A\n", *first)?;
-        let secondary = journal(rt.alloc(), &mut numbers, "pd-journal 2 B 2\n", *second)?;
-        check_same(&rt, rt.alloc(), &mut numbers, &primary, &secondary)?;
+    for (first, second) in &LINES {
+        check_same(&rt, rt.alloc(), &mut numbers, *first, *second)?;
     }
     Ok(())
 }

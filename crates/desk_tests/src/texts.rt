@@ -67,29 +67,37 @@ const NO_LINES: [&[u8]; 10] = [
     b"7 - - - -\r",
 ];
 
+/// What stands before each of these.
+const BEFORE: &[u8] = b"pd-access 1 A 12\n1 - - - -\n";
+
 #[test]
 fn takes_no_other_spelling(rt: HostRuntime) -> Result<(), Fail> {
-    for line in NO_LINES {
-        let mut text = Vec::new(rt.alloc());
-        text.extend_from_slice(b"pd-access 1 A 12\n1 - - - -\n")?;
-        text.extend_from_slice(line)?;
-        text.push(b'\n')?;
+    for line in &NO_LINES {
+        let text = [BEFORE, *line, b"\n".as_slice()].concat(rt.alloc())?;
         assert!(rt; matches!(read(rt.alloc(), &text), Err(AccessError::Line { line: 2 })));
     }
     Ok(())
 }
 
+/// Texts whose head line is torn or another.
+const NO_HEADS: [&[u8]; 4] = [
+    b"",
+    b"pd-access 1 A 12",
+    b"pd-access 2 A 12\n",
+    b"pd-journal 1 A\n",
+];
+
+/// How many records a text has.
+fn count_of(alloc: Global, text: &[u8]) -> Result<usize, AccessError> {
+    Ok(read(alloc, text)?.records.len())
+}
+
 #[test]
 fn leaves_out_what_was_torn(rt: HostRuntime) -> Result<(), Fail> {
     let whole = TEXT.len() - 1;
-    assert_eq!(rt; read(rt.alloc(), &TEXT[..whole])?.records.len(), 3);
-    assert_eq!(rt; read(rt.alloc(), b"pd-access 1 A 12\n")?.records.len(), 0);
-    for text in [
-        b"".as_slice(),
-        b"pd-access 1 A 12",
-        b"pd-access 2 A 12\n",
-        b"pd-journal 1 A\n",
-    ] {
+    assert_eq!(rt; count_of(rt.alloc(), &TEXT[..whole])?, 3);
+    assert_eq!(rt; count_of(rt.alloc(), b"pd-access 1 A 12\n")?, 0);
+    for text in &NO_HEADS {
         assert!(rt; matches!(read(rt.alloc(), text), Err(AccessError::Head)));
     }
     Ok(())

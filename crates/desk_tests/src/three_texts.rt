@@ -1,36 +1,32 @@
 //! An input of the desk, cut into its three texts.
 
-use std::alloc::Global;
 use std::test::Fail;
 
-/// What stands before each text but the first, without the line feed.
+/// What each text but the first begins with.
 const JOURNAL: &str = "pd-journal ";
 
 const CERTIFICATE: &str = "pd-certificate ";
 
 /// Journal A, journal B and the certificate.
 #[derive(Drop)]
-pub struct ThreeTexts {
-    pub primary: String,
-    pub secondary: String,
-    pub certificate: String,
+pub struct ThreeTexts<'a> {
+    pub primary: &'a [u8],
+    pub secondary: &'a [u8],
+    pub certificate: &'a [u8],
 }
 
-/// The text with what it begins with before it again.
-fn begun(alloc: Global, start: &str, rest: &str) -> Result<String, Fail> {
-    let mut whole = String::from_str(alloc, start)?;
-    whole.push_str(rest)?;
-    Ok(whole)
+/// What stands before the last place of a word, and the text from there on.
+fn cut_before<'a>(text: &'a str, word: &str) -> Option<(&'a str, &'a str)> {
+    text.split_at_checked(text.rfind(word)?)
 }
 
 /// The three texts of an input that holds them.
-pub fn cut(alloc: Global, input: &str) -> Result<ThreeTexts, Fail> {
-    let journals = input.strip_prefix(JOURNAL).ok_or("no journal")?;
-    let (primary, others) = journals.split_once(JOURNAL).ok_or("no second journal")?;
-    let (secondary, certificate) = others.split_once(CERTIFICATE).ok_or("no certificate")?;
+pub fn cut(input: &str) -> Result<ThreeTexts<'_>, Fail> {
+    let (journals, certificate) = cut_before(input, CERTIFICATE).ok_or("no certificate")?;
+    let (primary, secondary) = cut_before(journals, JOURNAL).ok_or("no second journal")?;
     Ok(ThreeTexts {
-        primary: begun(alloc, JOURNAL, primary)?,
-        secondary: begun(alloc, JOURNAL, secondary)?,
-        certificate: begun(alloc, CERTIFICATE, certificate)?,
+        primary: primary.as_bytes(),
+        secondary: secondary.as_bytes(),
+        certificate: certificate.as_bytes(),
     })
 }

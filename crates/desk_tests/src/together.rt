@@ -1,17 +1,31 @@
 //! Two workers audit at a time, and no worker has a share of its own.
 
 use crate::gates::Holding;
-use crate::parallel_inputs::{PRIMARY, SECONDARY, SKEW, in_turn};
+use crate::pairs::{pair_of, plain_of};
+use crate::parallel_inputs::{Asked, PRIMARY, SECONDARY, SKEW, audited};
 use attribution::Verdict;
-use auditor::PlainSource;
-use journal_text::{read, written_is_closed};
-use lead_time::{Skew, Transit};
-use parallel_check::audit_all;
 use std::alloc::Global;
 use std::process::Abort;
 use std::sync::Wait;
 use std::test::Fail;
 use std::thread::Threads;
+
+/// The verdicts of two workers on so many certificates, who pass a gate.
+fn verdicts_at(
+    rt: &(impl Threads + Wait + Sync),
+    alloc: Global,
+    gate: &Holding,
+    count: usize,
+) -> Result<Vec<Verdict>, Fail> {
+    let pair = pair_of(alloc, PRIMARY.as_bytes(), SECONDARY.as_bytes())?;
+    let asked = Asked {
+        count,
+        skew: SKEW,
+        transit: 0,
+        workers: 2,
+    };
+    Ok(audited(rt, alloc, &plain_of(&pair), gate, &asked)??)
+}
 
 /// That one of two workers, held at index 0, sees that the audit of another index is over.
 fn check_held(
@@ -20,22 +34,8 @@ fn check_held(
     count: usize,
     until: usize,
 ) -> Result<(), Fail> {
-    written_is_closed();
-    let a = read(alloc, PRIMARY.as_bytes())?;
-    let b = read(alloc, SECONDARY.as_bytes())?;
-    let source = PlainSource::new(&a, &b);
-    let certificates = in_turn(alloc, count)?;
     let gate = Holding::new(until);
-    let verdicts = audit_all(
-        rt,
-        alloc,
-        &source,
-        &certificates,
-        Skew::new(SKEW)?,
-        Transit::ZERO,
-        2,
-        &gate,
-    )?;
+    let verdicts = verdicts_at(rt, alloc, &gate, count)?;
     assert!(rt; gate.saw_it());
     assert_eq!(rt; verdicts.len(), count);
     for (index, verdict) in verdicts.iter().enumerate() {
