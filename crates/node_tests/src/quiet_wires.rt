@@ -3,7 +3,7 @@
 ghost use Rattle.std.specs.Prelude.{◌≡◌, length};
 
 use crate::noted::{Counts, NONE, Noted};
-use crate::servers::{CONNECT, NOW, UPDATE_1, octets, opened, settings_of};
+use crate::notice_books::{CONNECT, NOW, UPDATE_1, octets, opened, settings_of};
 use binding_rules::Role;
 use lead_time::Reading;
 use locked_book::{BookName, SharedBook};

@@ -1,6 +1,6 @@
 //! Two servers and what is under way between them.
 
-use crate::servers::Server;
+use crate::pair_servers::Server;
 use binding_rules::Role;
 use failover_session::LinkInput;
 use lead_time::Reading;

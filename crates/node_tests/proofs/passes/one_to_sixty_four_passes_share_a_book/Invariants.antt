@@ -1,5 +1,5 @@
 use Rattle.std.proofs.Common.{length}
-use Rattle.lock_tests.proofs.passes.one_to_sixty_four_passes_share_a_book.Given as goal
+use Rattle.node_tests.proofs.passes.one_to_sixty_four_passes_share_a_book.Given as goal
 
 abbrev pub ghosts-refused-N-Ledger : goal.ghosts-refused-N-Ledger
 ghosts-refused-N-Ledger g a = record { name = a.blank.name; parts = a.blank.parts }

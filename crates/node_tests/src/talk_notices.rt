@@ -1,7 +1,7 @@
 //! What a talk's orders show of the partner's settings, and of a journal that is full.
 
 use crate::noted::{Counts, NONE, Noted};
-use crate::servers::{
+use crate::notice_books::{
     ACCEPT_1, CONNECT, CONNECT_REPLY, FULL, NOW, OF_NO_UNIT_1, REJECT_1, UPDATE_1, UPDATE_2, fill,
     octets, opened, settings_of,
 };

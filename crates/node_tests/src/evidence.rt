@@ -1,7 +1,7 @@
 //! What the desk makes of the journals of a pair.
 
+use crate::pair_servers::Server;
 use crate::pairs::Pair;
-use crate::servers::Server;
 use attribution::Verdict;
 use auditor::{PlainSource, audit_bytes};
 use binding_rules::Role;

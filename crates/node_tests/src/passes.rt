@@ -2,7 +2,7 @@
 
 ghost use Rattle.std.specs.Prelude.{◌≡◌, length};
 
-use crate::books::{at, opened, request};
+use crate::requests::{at, opened, request};
 use lead_time::Reading;
 use locked_book::{BookName, CloseError, CloseFault, LockError, LockFault, SharedBook};
 use server_book::Book;

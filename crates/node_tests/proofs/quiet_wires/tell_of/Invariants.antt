@@ -1,5 +1,5 @@
 use Rattle.std.proofs.Common.{length}
-use Rattle.notice_tests.proofs.wires.tell_of.Given as goal
+use Rattle.node_tests.proofs.quiet_wires.tell_of.Given as goal
 
 abbrev pub ghosts-hears-N-Ledger : goal.ghosts-hears-N-Ledger
 ghosts-hears-N-Ledger g a = record { name = a.blank.name; parts = a.blank.parts }

@@ -1,7 +1,7 @@
 //! A head that leaves no room for a further line. It takes some 5 seconds and 1.3 GB as the gate builds it, and
 //! `rt try --test` needs more than its minute.
 
-use crate::books::{at, request};
+use crate::requests::{at, request};
 use client_id::Iaid;
 use journal_lines::{Carried, Event, Line};
 use journal_text::read;

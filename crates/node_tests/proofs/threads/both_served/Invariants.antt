@@ -1,5 +1,5 @@
 use Rattle.std.proofs.Common.{length}
-use Rattle.lock_tests.proofs.threads.both_served.Given as goal
+use Rattle.node_tests.proofs.threads.both_served.Given as goal
 
 abbrev pub ghosts-by_two-N-Ledger : goal.ghosts-by_two-N-Ledger
 ghosts-by_two-N-Ledger g a = record { name = a.blank.name; parts = a.blank.parts }

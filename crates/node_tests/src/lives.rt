@@ -1,8 +1,8 @@
 //! Stories of a pair, whose wire is cut behind each octet in turn.
 
 use crate::evidence::check_shown;
+use crate::pair_servers::Server;
 use crate::pairs::{Pair, Turn};
-use crate::servers::Server;
 use crate::stories::{ENDED, Event, RENEWED, RETURNED, Story};
 use binding_rules::{Role, ServerState, UnitStatus};
 use lead_time::Reading;

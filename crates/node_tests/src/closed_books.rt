@@ -1,6 +1,6 @@
 //! What the desk says of a book that two threads served out of.
 
-use crate::books::at;
+use crate::requests::at;
 use crate::threads::both_served;
 use attribution::Verdict;
 use auditor::audit_bytes;

@@ -3,8 +3,8 @@
 ghost use Rattle.std.specs.Prelude.{IfOk, OnErr};
 
 use crate::noted::{Counts, NONE, Noted};
-use crate::servers::{FULL, NOW, fill, octets, opened, settings_of};
-use crate::wires::Still;
+use crate::notice_books::{FULL, NOW, fill, octets, opened, settings_of};
+use crate::quiet_wires::Still;
 use binding_rules::Role;
 use client_service::ClientReply;
 use lead_time::Reading;

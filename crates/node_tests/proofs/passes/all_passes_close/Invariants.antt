@@ -1,5 +1,5 @@
 use Rattle.std.proofs.Common.{length}
-use Rattle.lock_tests.proofs.passes.all_passes_close.Given as goal
+use Rattle.node_tests.proofs.passes.all_passes_close.Given as goal
 
 abbrev pub ghosts-with_one_missing-N-Ledger : goal.ghosts-with_one_missing-N-Ledger
 ghosts-with_one_missing-N-Ledger g a = record { name = a.blank.name; parts = a.blank.parts }

@@ -1,5 +1,5 @@
 use Rattle.std.proofs.Common.{length}
-use Rattle.notice_tests.proofs.full_books.told.Given as goal
+use Rattle.node_tests.proofs.full_books.told.Given as goal
 
 abbrev pub ghosts-serve_all-N-Ledger : goal.ghosts-serve_all-N-Ledger
 ghosts-serve_all-N-Ledger g a = record { name = a.blank.name; parts = a.blank.parts }
