@@ -24,8 +24,13 @@ prefix = \"2001:db8::/48\"
 unit = 56
 ";
 
-/// The timers of the document with some keys more, or why it is refused.
-fn timers(alloc: Global, keys: &str) -> Result<Result<Timers, ServeSettingsError>, AllocError> {
+const LINK: &str = "link = \"[2001:db8::b]:647\"\nlink_key = \"link.key\"\n";
+
+/// The same without a key.
+const OPEN_LINK: &str = "link = \"[2001:db8::b]:647\"\n";
+
+/// The limits of the document with some keys more, or why it is refused.
+fn limits(alloc: Global, keys: &str) -> Result<Result<Timers, ServeSettingsError>, AllocError> {
     let text = format!(in alloc; "{NODE}{keys}{POOL}")?;
     Ok(match ServeSettings::read(alloc, text.as_bytes()) {
         Ok(settings) => Ok(settings.upkeep),
@@ -51,58 +56,8 @@ fn quotas(alloc: Global, keys: &str) -> Result<Option<Limits>, AllocError> {
     })
 }
 
-/// Keys of documents that say nothing of timers.
-const WITHOUT_TIMERS: [&str; 2] = [
-    "alone = true\n",
-    "link = \"[2001:db8::b]:647\"\nlink_key = \"link.key\"\n",
-];
-
-/// Keys of documents, and what they say: the seconds of a heartbeat, the lines and the hours of a volume.
-const WITH_TIMERS: [(&str, (u32, u32, u32)); 2] = [
-    (
-        "alone = true\nheartbeat = 31536000\nvolume_lines = 1048575\nvolume_hours = 8760\n",
-        (31_536_000, 1_048_575, 8_760),
-    ),
-    (
-        "alone = true\nheartbeat = 1\nvolume_lines = 1\nvolume_hours = 1\n",
-        (1, 1, 1),
-    ),
-];
-
-/// Keys of documents of a server that is alone, and from which age on it tells no grant again.
-const FLOORS: [(&str, u32); 3] = [
-    ("", 360),
-    ("renew_floor = 0\n", 0),
-    ("renew_floor = 31536000\n", 31_536_000),
-];
-
-/// How much clients may take where nothing is said.
-const UNSAID: Limits = Limits {
-    ias_per_message: 4,
-    units_per_client: 8,
-    units_per_port: 64,
-    client_rate: 20,
-    ports: PortRule::Free,
-};
-
-/// Keys of documents of a server that is alone, and how much its clients may take.
-const QUOTAS: [(&str, Limits); 3] = [
-    ("", UNSAID),
-    (
-        "ias_per_message = 0\nunits_per_client = 0\nunits_per_port = 0\nclient_rate = 0\n",
-        Limits::NONE,
-    ),
-    (
-        "bind_to_port = true\n",
-        Limits {
-            ports: PortRule::Bound,
-            ..UNSAID
-        },
-    ),
-];
-
 /// Keys of documents that are refused, and by what.
-const REFUSED: [(&str, ServeSettingsError); 26] = [
+const REFUSED: [(&str, ServeSettingsError); 22] = [
     ("", ServeSettingsError::NoPartner),
     (
         "lnik = \"[2001:db8::b]:647\"\n",
@@ -179,51 +134,71 @@ const REFUSED: [(&str, ServeSettingsError); 26] = [
         "alone = true\nalone = true\n",
         ServeSettingsError::Node(OpenError::Settings),
     ),
-    (
-        "link = \"[2001:db8::b]:647\"\n",
-        ServeSettingsError::NoLinkKey,
-    ),
-    (
-        "link = \"[2001:db8::b]:647\"\nlink_key = \"\"\n",
-        ServeSettingsError::LinkKey,
-    ),
-    (
-        "alone = true\nlink = \"[2001:db8::b]:647\"\nlink_key = \"link.key\"\n",
-        ServeSettingsError::PartnerOfAlone,
-    ),
-    (
-        "alone = true\n[[pool]]\nprefix = \"2001:db8::/52\"\nunit = 56\n",
-        ServeSettingsError::Node(OpenError::Overlap),
-    ),
 ];
 
 #[test]
 fn reads_what_a_server_runs_by(rt: HostRuntime) -> Result<(), Fail> {
-    for keys in &WITHOUT_TIMERS {
-        assert_eq!(rt; timers(rt.alloc(), keys)?, Ok(Timers::DEFAULT), "{keys}");
-    }
-    for (keys, (heartbeat, lines, hours)) in &WITH_TIMERS {
-        let said = Timers::new(*heartbeat, *lines, *hours).ok_or("each is at least 1")?;
-        assert_eq!(rt; timers(rt.alloc(), keys)?, Ok(said), "{keys}");
-    }
-    for (keys, seconds) in &FLOORS {
-        assert_eq!(rt; floor(rt.alloc(), keys)?, Some(*seconds), "{keys}");
-    }
+    let alloc = rt.alloc();
+    assert_eq!(rt; limits(alloc, "alone = true\n")?, Ok(Timers::DEFAULT));
+    assert_eq!(rt; limits(alloc, LINK)?, Ok(Timers::DEFAULT));
+    let greatest =
+        "alone = true\nheartbeat = 31536000\nvolume_lines = 1048575\nvolume_hours = 8760\n";
+    let Some(upkeep) = Timers::new(31_536_000, 1_048_575, 8_760) else {
+        panic!(rt; "each is at least 1");
+    };
+    assert_eq!(rt; limits(alloc, greatest)?, Ok(upkeep));
+    let least = "alone = true\nheartbeat = 1\nvolume_lines = 1\nvolume_hours = 1\n";
+    let Some(upkeep) = Timers::new(1, 1, 1) else {
+        panic!(rt; "each is at least 1");
+    };
+    assert_eq!(rt; limits(alloc, least)?, Ok(upkeep));
+    assert_eq!(rt; floor(alloc, "")?, Some(360));
+    assert_eq!(rt; floor(alloc, "renew_floor = 0\n")?, Some(0));
+    assert_eq!(rt; floor(alloc, "renew_floor = 31536000\n")?, Some(31_536_000));
     Ok(())
 }
 
 #[test]
 fn reads_how_much_clients_may_take(rt: HostRuntime) -> Result<(), Fail> {
-    for (keys, limits) in &QUOTAS {
-        assert_eq!(rt; quotas(rt.alloc(), keys)?, Some(*limits), "{keys}");
-    }
+    let alloc = rt.alloc();
+    let unsaid = Limits {
+        ias_per_message: 4,
+        units_per_client: 8,
+        units_per_port: 64,
+        client_rate: 20,
+        ports: PortRule::Free,
+    };
+    assert_eq!(rt; quotas(alloc, "")?, Some(unsaid));
+    let none = "ias_per_message = 0\nunits_per_client = 0\nunits_per_port = 0\nclient_rate = 0\n";
+    assert_eq!(rt; quotas(alloc, none)?, Some(Limits::NONE));
+    let bound = Limits {
+        ports: PortRule::Bound,
+        ..unsaid
+    };
+    assert_eq!(rt; quotas(alloc, "bind_to_port = true\n")?, Some(bound));
     Ok(())
 }
 
 #[test]
 fn refuses_each_fault_by_its_name(rt: HostRuntime) -> Result<(), Fail> {
-    for (keys, error) in &REFUSED {
-        assert_eq!(rt; timers(rt.alloc(), keys)?, Err(*error), "{keys}");
+    let alloc = rt.alloc();
+    for (keys, error) in REFUSED {
+        assert_eq!(rt; limits(alloc, keys)?, Err(error));
     }
+    let open = ServeSettingsError::NoLinkKey;
+    assert_eq!(rt; limits(alloc, OPEN_LINK)?, Err(open));
+    let empty = format!(in alloc; "{OPEN_LINK}link_key = \"\"\n")?;
+    assert_eq!(rt;
+        limits(alloc, empty.as_str())?,
+        Err(ServeSettingsError::LinkKey)
+    );
+    let both = format!(in alloc; "alone = true\n{LINK}")?;
+    assert_eq!(rt;
+        limits(alloc, both.as_str())?,
+        Err(ServeSettingsError::PartnerOfAlone)
+    );
+    let overlapping = "alone = true\n[[pool]]\nprefix = \"2001:db8::/52\"\nunit = 56\n";
+    let error = ServeSettingsError::Node(OpenError::Overlap);
+    assert_eq!(rt; limits(alloc, overlapping)?, Err(error));
     Ok(())
 }

@@ -1,9 +1,7 @@
 //! What is written of a status.
 
 use crate::statuses::{serving, waiting};
-use server_status::{ServerStatus, StatusFormat};
-use std::alloc::Global;
-use std::process::Abort;
+use server_status::StatusFormat;
 use std::test::Fail;
 
 const SERVING_LINES: &str = "\
@@ -206,54 +204,52 @@ fengtuyas_sync_seconds{quantile=\"1.0\"} 1.012000
 # EOF
 ";
 
-/// That a status is written so in a form.
-fn check_written(
-    rt: &impl Abort,
-    alloc: Global,
-    status: &ServerStatus,
-    format: StatusFormat,
-    wanted: &str,
-) -> Result<(), Fail> {
-    let text = status.text(alloc, format)?;
-    assert_eq!(rt; text.as_str(), wanted);
+#[test]
+fn writes_lines_for_a_person(rt: HostRuntime) -> Result<(), Fail> {
+    let Ok(status) = serving() else {
+        panic!(rt; "its readings are small");
+    };
+    assert_eq!(rt;
+        status.text(rt.alloc(), StatusFormat::Lines)?.as_str(),
+        SERVING_LINES
+    );
+    let Ok(status) = waiting() else {
+        panic!(rt; "its readings are small");
+    };
+    assert_eq!(rt;
+        status.text(rt.alloc(), StatusFormat::Lines)?.as_str(),
+        WAITING_LINES
+    );
     Ok(())
 }
 
 #[test]
-fn writes_lines_for_a_person(rt: HostRuntime) -> Result<(), Fail> {
-    let alloc = rt.alloc();
-    check_written(&rt, alloc, &serving()?, StatusFormat::Lines, SERVING_LINES)?;
-    check_written(&rt, alloc, &waiting()?, StatusFormat::Lines, WAITING_LINES)
-}
-
-#[test]
 fn writes_one_object_of_json(rt: HostRuntime) -> Result<(), Fail> {
-    check_written(
-        &rt,
-        rt.alloc(),
-        &serving()?,
-        StatusFormat::Json,
-        SERVING_JSON,
-    )
-}
-
-/// That the text of a server that waits has each of its lines, as OpenMetrics has them.
-fn check_waiting_lines(rt: &impl Abort, alloc: Global) -> Result<(), Fail> {
-    let text = waiting()?.text(alloc, StatusFormat::Metrics)?;
-    for line in &WAITING_METRICS {
-        assert!(rt; text.as_str().contains(*line));
-    }
+    let Ok(status) = serving() else {
+        panic!(rt; "its readings are small");
+    };
+    assert_eq!(rt;
+        status.text(rt.alloc(), StatusFormat::Json)?.as_str(),
+        SERVING_JSON
+    );
     Ok(())
 }
 
 #[test]
 fn writes_the_text_of_openmetrics(rt: HostRuntime) -> Result<(), Fail> {
-    check_written(
-        &rt,
-        rt.alloc(),
-        &serving()?,
-        StatusFormat::Metrics,
-        SERVING_METRICS,
-    )?;
-    check_waiting_lines(&rt, rt.alloc())
+    let Ok(status) = serving() else {
+        panic!(rt; "its readings are small");
+    };
+    assert_eq!(rt;
+        status.text(rt.alloc(), StatusFormat::Metrics)?.as_str(),
+        SERVING_METRICS
+    );
+    let Ok(status) = waiting() else {
+        panic!(rt; "its readings are small");
+    };
+    let text = status.text(rt.alloc(), StatusFormat::Metrics)?;
+    for line in WAITING_METRICS {
+        assert!(rt; text.as_str().contains(line));
+    }
+    Ok(())
 }

@@ -8,87 +8,61 @@ use server_status::{
 };
 use server_timers::{RollBlocked, RollState, Room};
 
-/// The units of a server that has served for a while.
-const SERVED_UNITS: UnitCounts = UnitCounts {
-    own: 100,
-    partners: 50,
-    delegated: 90,
-    expired: 12,
-    released: 4,
-    due: 7,
-    marked: 1,
-};
-
-/// What it heard and answered.
-fn served_traffic() -> Traffic {
-    Traffic {
-        messages: MessageCounts {
-            solicit: 31,
-            request: 30,
-            renew: 400,
-            rebind: 2,
-            release: 5,
-        },
-        faults: FaultCounts {
-            short: 1,
-            not_ours: 9,
-            ..Traffic::NONE.faults
-        },
-        answers: AnswerCounts {
-            advertise: 31,
-            reply: 435,
-        },
-        unanswered: 2,
-        late: 3,
-        held: 6,
-    }
-}
-
-/// Its third volume.
-fn third_volume() -> Result<VolumeStatus, LeadTimeError> {
-    Ok(VolumeStatus {
-        number: 3,
-        lines: 1042,
-        synced: 1040,
-        opened: Reading::new(1_795_460_400_000)?,
-        written: Reading::new(1_795_460_504_420)?,
-        roll: RollState::Blocked(RollBlocked::UnitMarked),
-        room: Room::Enough,
-    })
-}
-
 /// A server that has served for a while.
 pub(crate) fn serving() -> Result<ServerStatus, LeadTimeError> {
     Ok(ServerStatus {
         role: Role::Primary,
         reading: Reading::new(1_795_460_505_623)?,
         clock: ClockState::Right,
-        volume: third_volume()?,
-        units: SERVED_UNITS,
+        volume: VolumeStatus {
+            number: 3,
+            lines: 1042,
+            synced: 1040,
+            opened: Reading::new(1_795_460_400_000)?,
+            written: Reading::new(1_795_460_504_420)?,
+            roll: RollState::Blocked(RollBlocked::UnitMarked),
+            room: Room::Enough,
+        },
+        units: UnitCounts {
+            own: 100,
+            partners: 50,
+            delegated: 90,
+            expired: 12,
+            released: 4,
+            due: 7,
+            marked: 1,
+        },
         standing: PartnerState::Normal,
         link: LinkState::Connected {
             since: Reading::new(1_795_460_500_000)?,
         },
         heard: Some(Reading::new(1_795_460_504_419)?),
-        traffic: served_traffic(),
+        traffic: Traffic {
+            messages: MessageCounts {
+                solicit: 31,
+                request: 30,
+                renew: 400,
+                rebind: 2,
+                release: 5,
+            },
+            faults: FaultCounts {
+                short: 1,
+                not_ours: 9,
+                ..Traffic::NONE.faults
+            },
+            answers: AnswerCounts {
+                advertise: 31,
+                reply: 435,
+            },
+            unanswered: 2,
+            late: 3,
+            held: 6,
+        },
         syncs: Some(SyncSummary {
             count: 61,
             median: 420,
             worst: 1_012_000,
         }),
-    })
-}
-
-/// The volume that a server has just begun.
-fn first_volume() -> Result<VolumeStatus, LeadTimeError> {
-    Ok(VolumeStatus {
-        number: 1,
-        lines: 2,
-        synced: 2,
-        opened: Reading::new(1_795_460_400_000)?,
-        written: Reading::new(1_795_460_505_623)?,
-        roll: RollState::NotDue,
-        room: Room::Full,
     })
 }
 
@@ -98,7 +72,15 @@ pub(crate) fn waiting() -> Result<ServerStatus, LeadTimeError> {
         role: Role::Secondary,
         reading: Reading::new(1_795_460_400_000)?,
         clock: ClockState::Behind,
-        volume: first_volume()?,
+        volume: VolumeStatus {
+            number: 1,
+            lines: 2,
+            synced: 2,
+            opened: Reading::new(1_795_460_400_000)?,
+            written: Reading::new(1_795_460_505_623)?,
+            roll: RollState::NotDue,
+            room: Room::Full,
+        },
         units: UnitCounts::NONE,
         standing: PartnerState::Waiting {
             since: Reading::new(1_795_460_400_000)?,

@@ -1,8 +1,6 @@
 //! What goes over a control socket.
 
 use server_status::{ControlReply, ControlRequest, ControlVerdict, ShutdownMode, StatusFormat};
-use std::alloc::Global;
-use std::process::Abort;
 use std::test::Fail;
 
 const REQUESTS: [(&str, ControlRequest); 8] = [
@@ -34,69 +32,43 @@ const NO_REQUESTS: [&str; 7] = [
 
 #[test]
 fn reads_each_request_as_it_is_written(rt: HostRuntime) -> Result<(), Fail> {
-    for (line, request) in &REQUESTS {
-        assert_eq!(rt; request.words(), *line);
-        assert_eq!(rt; ControlRequest::read(line), Some(*request));
+    for (line, request) in REQUESTS {
+        assert_eq!(rt; request.words(), line);
+        assert_eq!(rt; ControlRequest::read(line), Some(request));
     }
-    for line in &NO_REQUESTS {
+    for line in NO_REQUESTS {
         assert_eq!(rt; ControlRequest::read(line), None);
     }
     Ok(())
 }
 
-const ANSWERS: [(&str, ControlReply<'static>); 4] = [
-    (
-        "ok\n",
-        ControlReply {
-            verdict: ControlVerdict::Done,
-            text: "",
-        },
-    ),
+const ANSWERS: [(&str, ControlVerdict<'static>, &str); 4] = [
+    ("ok\n", ControlVerdict::Done, ""),
     (
         "ok\nrole: primary\n",
-        ControlReply {
-            verdict: ControlVerdict::Done,
-            text: "role: primary\n",
-        },
+        ControlVerdict::Done,
+        "role: primary\n",
     ),
     (
         "refused its partner is down\n",
-        ControlReply {
-            verdict: ControlVerdict::Refused("its partner is down"),
-            text: "",
-        },
+        ControlVerdict::Refused("its partner is down"),
+        "",
     ),
-    (
-        "refused \n",
-        ControlReply {
-            verdict: ControlVerdict::Refused(""),
-            text: "",
-        },
-    ),
+    ("refused \n", ControlVerdict::Refused(""), ""),
 ];
 
 const NO_ANSWERS: [&str; 5] = ["", "ok", "ok \n", "refused\n", "Refused why\n"];
 
-/// That an answer is written so, and read as it is written.
-fn check_answer(
-    rt: &impl Abort,
-    alloc: Global,
-    words: &str,
-    answer: &ControlReply<'_>,
-) -> Result<(), Fail> {
-    let mut written = String::new(alloc);
-    answer.push(&mut written)?;
-    assert_eq!(rt; written.as_str(), words);
-    assert_eq!(rt; ControlReply::read(words), Some(*answer));
-    Ok(())
-}
-
 #[test]
 fn reads_each_answer_as_it_is_written(rt: HostRuntime) -> Result<(), Fail> {
-    for (words, answer) in &ANSWERS {
-        check_answer(&rt, rt.alloc(), words, answer)?;
+    for (words, verdict, text) in ANSWERS {
+        let answer = ControlReply { verdict, text };
+        let mut out = String::new(rt.alloc());
+        answer.push(&mut out)?;
+        assert_eq!(rt; out.as_str(), words);
+        assert_eq!(rt; ControlReply::read(words), Some(answer));
     }
-    for words in &NO_ANSWERS {
+    for words in NO_ANSWERS {
         assert_eq!(rt; ControlReply::read(words), None);
     }
     Ok(())
