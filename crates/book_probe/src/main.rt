@@ -89,6 +89,7 @@ impl Probe {
         match words.next() {
             "order" => orders::add_ordered(alloc, &mut self.shelf, words, out),
             "offer" => orders::add_offered(alloc, &self.shelf, words, out),
+            "again" => orders::add_again(alloc, &self.shelf, words, out),
             "tell" => orders::add_told(alloc, &mut self.shelf, words, out),
             "ask" => questions::add_answer(alloc, &self.shelf, words, out),
             "datagram" => datagrams::add_answered(alloc, &mut self.shelf, words, out),

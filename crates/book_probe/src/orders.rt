@@ -1,4 +1,5 @@
-//! Orders to a book: `order A READING ORDER`, `offer A READING DUID IAID HINT`, `send_update B A READING ORDER`.
+//! Orders to a book: `order A READING ORDER`, `offer A READING DUID IAID HINT`, `tell B A READING ORDER`, `again A
+//! READING FLOOR SKEW TRANSIT ORDER`.
 //!
 //! ORDER is `request DUID IAID HINT`, `renew ..`, `release ..`, where HINT is a prefix or `-`; `expire PREFIX`, `backup
 //! ..`, `reclaim ..`, `seize ..`, `send-update ..`, `send-reply ..`; `contact`, `take TERM SERIAL BODY`, `down`,
@@ -9,8 +10,10 @@ use crate::replies::{add_granted, add_refusal, add_reply};
 use crate::shelf::Shelf;
 use crate::words::Words;
 use binding_rules::{PartnerMessage, ServerState};
+use client_service::{ReusableLease, ReuseTerms, find_reusable_lease};
 use journal_lines::Event;
-use lead_time::Reading;
+use lead_time::{Reading, Skew, Transit};
+use line_words::{add_number, add_word};
 use prefix_range::{Prefix, read_canonical};
 use server_book::{Book, BookError, LeaseRequest, Order, Reply};
 use std::alloc::Global;
@@ -154,7 +157,7 @@ fn sent(book: &mut Book, now: Reading, order: &Order) -> Result<Order, BookError
     }
 }
 
-/// `send_update B A READING ORDER`: what B makes of what A sends by the order.
+/// `tell B A READING ORDER`: what B makes of what A sends by the order.
 pub fn add_told(
     alloc: Global,
     shelf: &mut Shelf,
@@ -170,6 +173,45 @@ pub fn add_told(
     };
     match &sent(shelf.book_mut(from)?, now, &order) {
         Ok(message) => add_applied(alloc, out, shelf.book_mut(to)?, now, message),
+        Err(error) => Ok(add_refusal(alloc, out, error)?),
+    }
+}
+
+/// By what a grant is told again: its floor in seconds, the skew and the transit in milliseconds.
+fn terms_in(words: &mut Words<'_>) -> Result<ReuseTerms, Fault> {
+    let floor = words.seconds()?;
+    let skew = Skew::new(words.number()?).map_err(|_| Fault::Words)?;
+    let transit = Transit::new(words.number()?).map_err(|_| Fault::Words)?;
+    Ok(ReuseTerms {
+        floor,
+        skew,
+        transit,
+    })
+}
+
+/// Appends what a client has by a line.
+fn add_reusable(out: &mut Vec<u8>, found: &Option<ReusableLease>) -> Result<(), Fault> {
+    let Some(lease) = found else {
+        return Ok(add_word(out, b"none")?);
+    };
+    add_granted(out, &lease.prefix, lease.valid)?;
+    add_word(out, b"by")?;
+    Ok(add_number(out, u64::from(lease.number))?)
+}
+
+/// `again A READING FLOOR SKEW TRANSIT ORDER`: what the order's client has that it is told again, and by which line.
+pub fn add_again(
+    alloc: Global,
+    shelf: &Shelf,
+    words: &mut Words<'_>,
+    out: &mut Vec<u8>,
+) -> Result<(), Fault> {
+    let book = shelf.book(words.letter()?)?;
+    let now = words.reading()?;
+    let terms = terms_in(words)?;
+    let order = order_in(alloc, words)?;
+    match &find_reusable_lease(book, &terms, now, &order) {
+        Ok(found) => add_reusable(out, found),
         Err(error) => Ok(add_refusal(alloc, out, error)?),
     }
 }

@@ -42,6 +42,14 @@ impl<'a> Words<'a> {
         number_of(self.next().as_bytes()).ok_or(Fault::Words)
     }
 
+    /// A number of seconds.
+    pub fn seconds(&mut self) -> Result<u32, Fault> {
+        match self.number()?.try_into() {
+            Ok(seconds) => Ok(seconds),
+            Err(_) => Err(Fault::Words),
+        }
+    }
+
     /// A number that an octet holds.
     pub fn octet(&mut self) -> Result<u8, Fault> {
         match self.number()?.try_into() {

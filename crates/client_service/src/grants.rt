@@ -1,7 +1,7 @@
 //! The line of a grant.
 
 ghost use Rattle.std.specs.Prelude.{◌≡◌, ◌↔◌, IsTrue, IfSome};
-ghost use Rattle.client_service.specs.ReusableLeases.{IsGranted, IsGrantedBy};
+ghost use Rattle.client_service.specs.ReusableLeases.{IsGrantedBy};
 
 use journal_lines::{Event, Lease, Line};
 use lead_time::Reading;
@@ -22,7 +22,7 @@ fn is_same(one: &Lease, other: &Lease) -> bool
 }
 
 /// What a line grants a lease's client, if it grants it this prefix.
-fn granted_by(line: &Line, lease: &Lease) -> Option<GrantLine>
+pub(crate) fn granted_by(line: &Line, lease: &Lease) -> Option<GrantLine>
     ensures { IfSome result (λ g. IsGrantedBy line.now lease.now g.number g.reading g.valid) }
 {
     match &line.event {
@@ -33,21 +33,4 @@ fn granted_by(line: &Line, lease: &Lease) -> Option<GrantLine>
         }),
         _ => None,
     }
-}
-
-/// A line at this reading, in milliseconds, by which a lease's client has its prefix. The lines' readings don't fall,
-/// so that a search finds it.
-pub(crate) fn granted_at(lines: &[Line], milliseconds: u64, lease: &Lease) -> Option<GrantLine>
-    ensures { IfSome result (λ g. IsGranted lines.now lease.now g.number g.reading g.valid) }
-{
-    let first = lines.partition_point(|line| line.reading.milliseconds() < milliseconds);
-    for index in first..lines.len() {
-        if lines[index].reading.milliseconds() > milliseconds {
-            return None;
-        }
-        if let Some(granted) = granted_by(&lines[index], lease) {
-            return Some(granted);
-        }
-    }
-    None
 }

@@ -1,9 +1,11 @@
 //! Laws over the definitions in specs/ alone.
 
-ghost use Rattle.client_service.specs.LeaseLaws.{ReuseIsWithin};
+ghost use Rattle.client_service.specs.LeaseLaws.{ReuseIsWithin, ReuseEndsBefore};
 
-/// What is told again ends no later than its line's lifetime, counted from the moment at which the line was written:
-/// whatever the clock did within the skew, and however long the answer was under way within the transit.
+/// What is told again ends no later than its line's lifetime, counted from the moment at which the line was written, and
+/// at least the skew before its unit's end: whatever the clock did within the skew, and however long the answer was
+/// under way within the transit.
 pub fn reuse_is_within_its_line()
-    ensures { ReuseIsWithin }
+    ensures line { ReuseIsWithin }
+    ensures unit { ReuseEndsBefore }
 {}

@@ -37,14 +37,14 @@
 //!
 //! A client that asks again for what it was just given needs no new line: its grant stands in the journal, and it is
 //! told the seconds that remain of it. [`find_reusable_lease`] says of an order what its client has so, by
-//! [`ReuseTerms`]: how young the grant has to be, and by which margins the seconds are less. It looks at the unit of
-//! the prefix, which says when the last grant was written, and finds the line by a search of its reading.
+//! [`ReuseTerms`]: how young the grant has to be, and by which margins the seconds are less. It is the last grant line of
+//! the unit, and no line after it ended the lease (`Book::last_grant`).
 //!
 //! The definitions stand in specs/ReusableLeases. That whoever is told again has no prefix a moment longer than the
-//! line gives it is a law (`reuse_is_within_its_line`).
+//! line gives it, and none past the end that the book has for it, is a law (`reuse_is_within_its_line`).
 //!
 //! ```text
-//! let terms = ReuseTerms { floor: 360, skew, transit, life: 3600 };
+//! let terms = ReuseTerms { floor: 360, skew, transit };
 //! match find_reusable_lease(&book, &terms, now, &order)? {
 //!     Some(standing) => tell(standing.prefix, standing.valid), // once line `reusable_lease.number` is on the disk
 //!     None => book.apply(now, &order)?,

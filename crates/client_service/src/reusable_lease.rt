@@ -4,14 +4,14 @@ ghost use Rattle.std.specs.Prelude.{◌≡◌, ◌↔◌, IsTrue, IfOk, IfErr, I
 ghost use Rattle.binding_rules.specs.declared.unit.UnitStatus.TheVariants.{Active};
 ghost use Rattle.order_book.specs.Answer.{IsFirstRefusal};
 ghost use Rattle.order_book.specs.Replayed.{state_of};
-ghost use Rattle.client_service.specs.ReusableLeases.{IsGranted, IsTheirs, IsReusableFor, IsReusable};
+ghost use Rattle.client_service.specs.ReusableLeases.{IsLatest, IsTheirs, IsReusableFor, IsReusable};
 
-use crate::grants::{GrantLine, granted_at};
+use crate::grants::{GrantLine, granted_by};
 use crate::remaining::reuse_lifetime;
 use crate::terms::ReuseTerms;
 use binding_rules::{Binding, UnitStatus};
 use journal_lines::{Event, Lease};
-use lead_time::Reading;
+use lead_time::{End, Reading};
 use order_book::{Book, BookError, Order};
 use prefix_range::Prefix;
 
@@ -35,23 +35,28 @@ fn is_theirs(status: &UnitStatus, lease: &Lease) -> bool
         })
 }
 
-/// The line by which a lease's client has the prefix, where the unit is its own still. The unit says when its last
-/// grant was written: the partner was told twice the desired lifetime from then on.
-fn last_grant(book: &Book, life: u32, lease: &Lease) -> Option<GrantLine>
-    ensures line { IfSome result (λ g. IsGranted book.now.lines lease.now g.number g.reading g.valid) }
-    ensures theirs { IfSome result (λ g. IsTheirs book.now lease.now) }
+/// The last grant line of a lease's unit, where it is of the lease's client and no later line ended what it grants.
+fn last_grant(book: &Book, lease: &Lease) -> Option<GrantLine>
+    ensures { IfSome result (λ g. IsLatest book.now lease.now g.number g.reading g.valid) }
 {
-    let Some(unit) = book.unit(lease.prefix) else {
+    let Some(place) = book.last_grant(&lease.prefix) else {
         return None;
     };
-    if !is_theirs(&unit.status, lease) {
-        return None;
+    match book.journal().get(place) {
+        Some(line) => granted_by(line, lease),
+        None => None,
     }
-    let told = unit.out_end.milliseconds();
-    let Some(written) = told.checked_sub(2000 * u64::from(life)) else {
-        return None;
-    };
-    granted_at(book.journal(), written, lease)
+}
+
+/// When a lease's unit ends for the server, where it is the lease's client's.
+fn own_end(book: &Book, lease: &Lease) -> Option<End>
+    ensures theirs { IfSome result (λ _. IsTheirs book.now lease.now) }
+    ensures end { IfSome result (λ end. end ≡ ((state_of book.now).units lease.now.prefix).own_end) }
+{
+    match book.unit(lease.prefix) {
+        Some(unit) if is_theirs(&unit.status, lease) => Some(unit.own_end),
+        _ => None,
+    }
 }
 
 /// What the client has of a lease that it would be given by a line at this reading.
@@ -63,10 +68,13 @@ fn reusable_lease_for(
 ) -> Option<ReusableLease>
     ensures { IfSome result (IsReusableFor book.now terms.now now lease.now) }
 {
-    let Some(granted) = last_grant(book, terms.life, lease) else {
+    let Some(end) = own_end(book, lease) else {
         return None;
     };
-    let Some(valid) = reuse_lifetime(terms, &granted, now, lease.valid) else {
+    let Some(granted) = last_grant(book, lease) else {
+        return None;
+    };
+    let Some(valid) = reuse_lifetime(terms, &granted, end, now, lease.valid) else {
         return None;
     };
     Some(ReusableLease {

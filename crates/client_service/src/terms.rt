@@ -11,6 +11,4 @@ pub struct ReuseTerms {
     pub skew: Skew,
     /// The most by which an answer may be under way.
     pub transit: Transit,
-    /// The desired lifetime in seconds, of which the partner was told twice by each grant.
-    pub life: u32,
 }

@@ -12,3 +12,4 @@ pub mod Counts
 pub mod Rolls
 pub mod NextBooks
 pub mod Expiry
+pub mod Latest

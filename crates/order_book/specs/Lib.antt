@@ -1,4 +1,6 @@
 pub mod Replayed
+pub mod LatestGrants
+pub mod LatestPlaces
 pub mod Bindings
 pub mod Named
 pub mod Answer

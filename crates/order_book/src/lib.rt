@@ -20,6 +20,7 @@
 
 mod book;
 mod error;
+mod latest_grants;
 mod laws;
 mod opening;
 mod order;

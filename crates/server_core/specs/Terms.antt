@@ -5,4 +5,4 @@ use Rattle.client_service.specs.declared.terms.ReuseTerms.{ReuseTerms}
 
 -- by its settings, and the age in seconds from which on a grant isn't told again
 abbrev pub terms_of : ServerSettings → ℕ → ReuseTerms
-terms_of s floor = record { floor = floor; skew = s.skew; transit = s.transit; life = s.life }
+terms_of s floor = record { floor = floor; skew = s.skew; transit = s.transit }

@@ -50,7 +50,6 @@ fn terms_of(settings: &Settings, renew_floor: u32) -> ReuseTerms
         floor: renew_floor,
         skew: settings.skew(),
         transit: settings.transit(),
-        life: settings.life(),
     }
 }
 

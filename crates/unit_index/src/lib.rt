@@ -27,4 +27,5 @@ mod unit_kinds;
 
 pub use ending::first_end;
 pub use searching::{UnitQuery, lowest, lowest_from};
+pub use subject::subject_of;
 pub use unit_index::UnitIndex;

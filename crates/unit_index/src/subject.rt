@@ -29,7 +29,7 @@ fn subject_taken(body: &Body) -> Option<Prefix>
 }
 
 /// The unit that a line is about: it changes no other.
-pub(crate) fn subject_of(event: &Event) -> Option<Prefix>
+pub fn subject_of(event: &Event) -> Option<Prefix>
     ensures { result ≡ subject_of event.now }
 {
     match event {
