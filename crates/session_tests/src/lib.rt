@@ -16,4 +16,6 @@ mod pairs;
 #[cfg(test)]
 mod stories;
 #[cfg(test)]
+mod told_leases;
+#[cfg(test)]
 mod walks;

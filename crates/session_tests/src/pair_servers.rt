@@ -1,12 +1,13 @@
 //! A server of the pair, and its end of the link.
 
-use client_service::{PartnerAvailability, answer_to};
+use client_service::{PartnerAvailability, ReuseTerms, answer_to, find_reusable_lease};
 use dhcp6_pd::decode;
 use exclusive_book::{ExclusiveBook, ExclusivePairBook};
 use failover_message::encode;
 use failover_session::{FailoverSession, LinkInput};
 use lead_time::Reading;
-use server_book::{Book, Order, ReplyPolicy, Settings, read_settings};
+use prefix_range::Prefix;
+use server_book::{Book, Order, Reply, ReplyPolicy, Settings, read_settings};
 use std::alloc::Global;
 use std::test::Fail;
 
@@ -18,6 +19,9 @@ pub(crate) struct Server {
     talk: FailoverSession,
     pub coming: Vec<u8>,
 }
+
+/// A grant that is younger, in seconds, is told again.
+const FLOOR: u32 = 360;
 
 /// Appends the octets of the frames that a talk hands out.
 fn carry(alloc: Global, talk: &mut FailoverSession, wire: &mut Vec<u8>) -> Result<(), Fail> {
@@ -46,6 +50,27 @@ impl Server {
     /// Gives its book an order, which may be refused. Says whether it wasn't.
     pub fn order(&mut self, now: Reading, order: &Order) -> bool {
         self.own.book.apply(now, order).is_ok()
+    }
+
+    /// What a client is told again that it has, by an earlier line: a prefix for so many seconds.
+    pub fn told_again(&self, now: Reading, order: &Order) -> Option<(Prefix, u32)> {
+        let terms = ReuseTerms {
+            floor: FLOOR,
+            skew: self.settings.skew(),
+            transit: self.settings.transit(),
+        };
+        match find_reusable_lease(&self.own.book, &terms, now, order) {
+            Ok(Some(lease)) => Some((lease.prefix, lease.valid)),
+            _ => None,
+        }
+    }
+
+    /// What its book grants by an order, if it grants anything: a prefix for so many seconds.
+    pub fn granted(&mut self, now: Reading, order: &Order) -> Option<(Prefix, u32)> {
+        match self.own.book.apply(now, order) {
+            Ok(Reply::Granted { prefix, valid }) => Some((prefix, valid)),
+            _ => None,
+        }
     }
 
     /// Answers a client's datagram, and says whether it gets these octets.

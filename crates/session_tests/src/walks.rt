@@ -2,6 +2,7 @@
 
 use crate::dice::Dice;
 use crate::pairs::{Pair, Turn};
+use crate::told_leases::{ToldLease, ToldLeases};
 use auditor::{Checked, check_pair};
 use binding_rules::{Role, Unit, UnitStatus};
 use client_id::{Duid, Iaid};
@@ -15,7 +16,7 @@ use std::test::Fail;
 const PRIMARY: &[u8] = b"role = \"primary\"
 duid = \"00030001020000000009\"
 skew_ms = 2000
-mclt = 3600
+mclt = 600
 life = 3600
 [[pool]]
 prefix = \"2001:db8::/53\"
@@ -25,7 +26,7 @@ unit = 56
 const SECONDARY: &[u8] = b"role = \"secondary\"
 duid = \"0003000102000000000a\"
 skew_ms = 2000
-mclt = 3600
+mclt = 600
 life = 3600
 [[pool]]
 prefix = \"2001:db8::/53\"
@@ -40,25 +41,68 @@ const WALKS: u64 = 50;
 
 const EVENTS: u64 = 20_000;
 
-/// Two servers, the dice, and true time in milliseconds.
+/// By how many milliseconds each clock is ahead or behind, at most: within the skew.
+const MOST_OFF: u64 = 1_500;
+
+/// How many requests and releases were answered, how many requests without a line, and how many connections there were.
+#[derive(Clone, Copy, Default)]
+struct Counts {
+    answered: u64,
+    again: u64,
+    connections: u64,
+}
+
+/// A client. One that keeps to a server is told again what it has; one that roams has a line for each request: what it
+/// gave back to one server the other would tell it again before it hears of that.
+#[derive(Clone, Copy)]
+struct Client {
+    last_octet: u8,
+    keeps_to: Option<Role>,
+}
+
+impl Client {
+    fn keeping(last_octet: u8, role: Role) -> Client {
+        Client {
+            last_octet,
+            keeps_to: Some(role),
+        }
+    }
+
+    fn roaming(last_octet: u8) -> Client {
+        Client {
+            last_octet,
+            keeps_to: None,
+        }
+    }
+
+    fn duid(&self) -> Result<Duid, Fail> {
+        Ok(Duid::from_bytes(&[0, 3, 0, 1, 2, 0, 0, 0, 0, self.last_octet])?)
+    }
+}
+
+/// Two servers, what their clients were told, the dice, and true time in milliseconds.
 #[derive(Drop)]
 struct Walker {
     pair: Pair,
+    told: ToldLeases,
     dice: Dice,
     moment: u64,
-    /// How many requests and releases were answered, and how many connections there were.
-    answered: u64,
-    connections: u64,
+    /// By how much each server's clock is over the slowest that it may be.
+    primary_over: u64,
+    secondary_over: u64,
+    counts: Counts,
 }
 
 impl Walker {
     fn new(alloc: Global, seed: u64) -> Result<Walker, Fail> {
         Ok(Walker {
             pair: Pair::open(alloc, PRIMARY, SECONDARY, Reading::new(10_000)?)?,
+            told: ToldLeases::new(alloc),
             dice: Dice::new(seed),
             moment: 10_000,
-            answered: 0,
-            connections: 0,
+            primary_over: MOST_OFF,
+            secondary_over: 2 * MOST_OFF,
+            counts: Counts::default(),
         })
     }
 
@@ -69,38 +113,112 @@ impl Walker {
         }
     }
 
-    /// A server's clock: the secondary's is ahead.
+    /// What a server's clock shows.
     fn clock(&self, role: Role) -> Result<Reading, Fail> {
-        match role {
-            Role::Primary => Ok(Reading::new(self.moment)?),
-            Role::Secondary => Ok(Reading::new(self.moment.saturating_add(1_500))?),
+        let over = match role {
+            Role::Primary => self.primary_over,
+            Role::Secondary => self.secondary_over,
+        };
+        let shown = self.moment.saturating_add(over).saturating_sub(MOST_OFF);
+        Ok(Reading::new(shown)?)
+    }
+
+    /// Sets a server's clock, within the skew.
+    fn step_clock(&mut self) {
+        let over = self.dice.below(2 * MOST_OFF + 1);
+        match self.role() {
+            Role::Primary => self.primary_over = over,
+            Role::Secondary => self.secondary_over = over,
         }
     }
 
     /// Both ends begin another connection.
     fn connect(&mut self, alloc: Global) -> Result<(), Fail> {
-        self.connections = self.connections.saturating_add(1);
+        self.counts.connections = self.counts.connections.saturating_add(1);
         self.pair.connect(alloc)
     }
 
-    /// A client of five asks one of the servers for a unit, or gives it back.
-    fn ask(&mut self, releases: bool) -> Result<(), Fail> {
-        let role = self.role();
-        let last = u8::try_from(self.dice.below(5)).unwrap_or(0);
-        let octets = [0, 3, 0, 1, 2, 0, 0, 0, 0, last];
-        let asked = LeaseRequest {
-            client: Duid::from_bytes(&octets)?,
+    /// One client of five.
+    fn client(&mut self) -> Client {
+        match self.dice.below(5) {
+            0 => Client::keeping(0, Role::Primary),
+            1 => Client::keeping(1, Role::Secondary),
+            last => Client::roaming(u8::try_from(last).unwrap_or(2)),
+        }
+    }
+
+    /// The server that a client asks.
+    fn asked_by(&mut self, client: Client) -> Role {
+        match client.keeps_to {
+            Some(role) => role,
+            None => self.role(),
+        }
+    }
+
+    /// A client asks a server for a unit, and is told no prefix that another client has.
+    fn request(&mut self) -> Result<(), Fail> {
+        let client = self.client();
+        let role = self.asked_by(client);
+        let now = self.clock(role)?;
+        let duid = client.duid()?;
+        let order = Order::Request(LeaseRequest {
+            client: duid,
             iaid: Iaid(1),
             hint: None,
+        });
+        if let Some((prefix, valid)) = self.told_again(client, now, &order) {
+            return self.tell(duid, prefix, valid);
+        }
+        match self.pair.server(role).granted(now, &order) {
+            Some((prefix, valid)) => self.tell(duid, prefix, valid),
+            None => Ok(()),
+        }
+    }
+
+    /// What a client that keeps to one server is told again by it.
+    fn told_again(&mut self, client: Client, now: Reading, order: &Order) -> Option<(Prefix, u32)> {
+        let Some(role) = client.keeps_to else {
+            return None;
         };
-        let order = if releases {
-            Order::Release(asked)
-        } else {
-            Order::Request(asked)
+        let again = self.pair.server(role).told_again(now, order);
+        if again.is_some() {
+            self.counts.again = self.counts.again.saturating_add(1);
+        }
+        again
+    }
+
+    /// A client is told that it has a prefix for so many seconds.
+    fn tell(&mut self, client: Duid, prefix: Prefix, valid: u32) -> Result<(), Fail> {
+        self.counts.answered = self.counts.answered.saturating_add(1);
+        let until = self.moment.saturating_add(1_000 * u64::from(valid));
+        let lease = ToldLease {
+            client,
+            prefix,
+            until,
         };
+        if self.told.tell(self.moment, lease)? {
+            return Ok(());
+        }
+        Err(Fail::from("a client is told that it has what another has"))
+    }
+
+    /// A client gives back to a server what it was told last.
+    fn release(&mut self) -> Result<(), Fail> {
+        let client = self.client();
+        let role = self.asked_by(client);
         let now = self.clock(role)?;
+        let duid = client.duid()?;
+        let Some(prefix) = self.told.last_of(&duid) else {
+            return Ok(());
+        };
+        let order = Order::Release(LeaseRequest {
+            client: duid,
+            iaid: Iaid(1),
+            hint: Some(prefix),
+        });
         if self.pair.server(role).order(now, &order) {
-            self.answered = self.answered.saturating_add(1);
+            self.counts.answered = self.counts.answered.saturating_add(1);
+            self.told.forget(&duid, &prefix);
         }
         Ok(())
     }
@@ -124,14 +242,18 @@ impl Walker {
     /// Lets the next event happen.
     fn happen(&mut self, alloc: Global) -> Result<(), Fail> {
         match self.dice.below(100) {
-            0..12 => self.ask(false),
-            12..18 => self.ask(true),
-            18..24 => {
+            0..12 => self.request(),
+            12..18 => self.release(),
+            18..22 => {
                 let later = self.dice.below(600_000);
                 self.moment = self.moment.saturating_add(later);
                 Ok(())
             }
-            24..32 => self.talk(alloc, true),
+            22..26 => {
+                self.step_clock();
+                Ok(())
+            }
+            26..32 => self.talk(alloc, true),
             32 if self.dice.below(4) == 0 => self.connect(alloc),
             _ => self.talk(alloc, false),
         }
@@ -203,20 +325,20 @@ fn closed(alloc: Global, book: &Book, now: Reading) -> Result<Journal, Fail> {
     })
 }
 
-/// Walks so many events from a seed: no unit is two clients' at any of them, and the journals keep the rules and could
-/// both be true. Returns how many requests and releases were answered, and how many connections there were.
-fn walk(alloc: Global, seed: u64, events: u64) -> Result<(u64, u64), Fail> {
+/// Walks so many events from a seed: no unit is two clients' at any of them, no client is told what another has, and
+/// the journals keep the rules and could both be true.
+fn walk(alloc: Global, seed: u64, events: u64) -> Result<Counts, Fail> {
     let mut walker = Walker::new(alloc, seed)?;
     walker.go(alloc, events)?;
     walker.judge(alloc)?;
-    Ok((walker.answered, walker.connections))
+    Ok(walker.counts)
 }
 
 #[test]
 fn no_unit_is_two_clients_over_a_wire_that_breaks(rt: HostRuntime) -> Result<(), Fail> {
     for seed in 0..WALKS {
-        let (answered, connections) = walk(rt.alloc(), seed, EVENTS)?;
-        assert!(rt; answered > 1_000 && connections > 10);
+        let counts = walk(rt.alloc(), seed, EVENTS)?;
+        assert!(rt; counts.answered > 1_000 && counts.again > 50 && counts.connections > 10);
     }
     Ok(())
 }
