@@ -6,20 +6,20 @@ from .book import BookRefusal
 KINDS = (messages.REQUEST, messages.RENEW, messages.REBIND)
 
 
-def standing_line(book, unit):
-    """The grant that the unit's client has it by; None where it is no line of this volume."""
-    granted = unit.out_end - 2000 * book.life
-    for line in reversed(book.lines):
-        if line.reading < granted:
-            return None
-        if line.reading == granted and line.event[:4] == ("grant", unit.client, unit.identifier, unit.prefix):
-            return line
-    return None
+def standing_line(unit, client, identifier):
+    """The line by which the client is told again that it has the unit: the unit's last grant line of this volume, where
+    that grants it this binding and no later line ended the lease; else None."""
+    line = unit.standing
+    if line is None or not unit.holds(client, identifier):
+        return None
+    return line if line.event[:4] == ("grant", client, identifier, unit.prefix) else None
 
 
-def remaining(book, line, reading):
-    """The seconds that may be told again: the line's, less its age, twice the skew and the transit."""
-    return (line.reading + 1000 * line.event[4] - reading - 2 * book.skew - book.transit) // 1000
+def remaining(book, unit, line, reading):
+    """The seconds that may be told again: those that are left to the end of the line, or to the unit's own where that
+    is earlier, less four times the skew and twice the transit."""
+    end = min(line.reading + 1000 * line.event[4] + 2 * book.skew + book.transit, unit.own_end)
+    return (end - reading - 4 * book.skew - 2 * book.transit) // 1000
 
 
 def told_without_line(book, floor, order, reading):
@@ -29,11 +29,11 @@ def told_without_line(book, floor, order, reading):
         unit, valid = book.given(reading, order)
     except BookRefusal as refusal:
         return answers.ANSWER_OF_REFUSAL[refusal.name]
-    line = standing_line(book, unit) if unit.holds(*order[1:3]) else None
+    line = standing_line(unit, *order[1:3])
     if line is None or reading - line.reading >= 1000 * floor:
         return None
-    left = remaining(book, line, reading)
-    return ("given", unit.prefix, left) if 2 * left >= valid else None
+    left = remaining(book, unit, line, reading)
+    return ("given", unit.prefix, left) if left > 0 and 2 * left >= valid else None
 
 
 def all_told_again(book, floor, message, reading, denied=()):

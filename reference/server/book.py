@@ -80,6 +80,8 @@ class Book:
             raise BookRefusal("Rule", rule)
         made = getattr(self, "_" + line.event[0])(line.reading, *line.event[1:])
         self.lines.append(line)
+        if line.event[0] == "grant":
+            self.table.get(line.event[3]).standing = line
         return made
 
     def _open(self, _reading, skew, mclt, life):

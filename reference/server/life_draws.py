@@ -72,20 +72,21 @@ class LifeDraws(Draws):
             self.moments.pop()
         if not self.moments or self.moments[-1][0] > now() + NEAR:
             return None
-        _, self.asking, identifier, (address, length) = self.random.choice(self.moments[-2:])
-        kind = self.random.choice((REQUEST, RENEW, REBIND))
-        prefix = option(IA_PREFIX, bytes(8) + bytes([length]) + address.to_bytes(16, "big"))
-        parts = [option(CLIENT_IDENTIFIER, self.asking)]
-        parts.append(option(IA_PD, identifier.to_bytes(4, "big") + bytes(8) + prefix))
+        _, self.asking, identifier, prefix = self.random.choice(self.moments[-2:])
+        return self.message(self.random.choice((REQUEST, RENEW, REBIND)), self.asking, [(identifier, prefix)])
+
+    def message(self, kind, client, wanted):
+        """A client's message with these IA_PDs, pairs of an identifier and a prefix, or None where none is named."""
+        parts = [option(CLIENT_IDENTIFIER, client)]
+        parts += [option(IA_PD, identifier.to_bytes(4, "big") + bytes(8) + prefix_named(prefix))
+                  for identifier, prefix in wanted]
         if kind != REBIND:
             parts.append(option(SERVER_IDENTIFIER, self.own))
         return bytes([kind]) + self.transaction() + b"".join(parts)
 
     def asked(self, kind, client, identifiers, port):
         """What a client asks for these identity associations, behind a port."""
-        parts = [option(CLIENT_IDENTIFIER, client), option(SERVER_IDENTIFIER, self.own)]
-        parts += [option(IA_PD, identifier.to_bytes(4, "big") + bytes(8)) for identifier in identifiers]
-        octets = bytes([kind]) + self.transaction() + b"".join(parts)
+        octets = self.message(kind, client, [(identifier, None) for identifier in identifiers])
         return octets if port is None else behind(port, 0, bytes(16), octets, [], self.random)
 
     def up_to_usual_limits(self):
@@ -117,6 +118,14 @@ class LifeDraws(Draws):
         if self.amiss(0.5):
             octets, name = self.mutated(octets), "mutated"
         return octets[:self.largest], name
+
+
+def prefix_named(prefix):
+    """The option by which a client names a prefix; nothing where it names none."""
+    if prefix is None:
+        return b""
+    address, length = prefix
+    return option(IA_PREFIX, bytes(8) + bytes([length]) + address.to_bytes(16, "big"))
 
 
 def drawn_times(source, shortest=241, longest=3601):
@@ -204,15 +213,15 @@ def write_past(source, book, draws, readings):
         book.append(Line(len(book.lines) + 1, reading, ("grant", client, identifier, prefix, valid)))
 
 
-def drawn_life(source, settings, begun, *crowd):
-    """The host, the book with its opening at a reading, and the draws; `crowd` has how many clients there may be, and
-    how many identity associations of each."""
+def drawn_life(source, settings, begun, *crowd, kind=LifeDraws):
+    """The host, the book with its opening at a reading, and the draws, of that kind; `crowd` has how many clients there
+    may be, and how many identity associations of each."""
     host = source.choice(("127.0.0.1", "::1"))
     largest = LARGEST_BY_IPV4 if host == "127.0.0.1" else LARGEST_BY_IPV6
     book = Book.open(begun, settings)
     ports = [None, *drawn_ports(source, source.choice((1, 2, 5)))]
     source.shuffle(ports)
-    return host, book, LifeDraws(source, settings.own, book, largest, ports, *crowd)
+    return host, book, kind(source, settings.own, book, largest, ports, *crowd)
 
 
 LIMITS = ("ias_per_message", "units_per_client", "units_per_port", "client_rate")

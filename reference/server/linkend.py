@@ -44,6 +44,12 @@ class LinkEnd:
             self.socket.close()
             self.socket = None
 
+    def leave(self):
+        """Closes the connection, and those that came meanwhile."""
+        self.close()
+        while select.select([self.listener], [], [], 0)[0]:
+            self.listener.accept()[0].close()
+
     def end(self):
         self.close()
         if self.listener is not None:

@@ -5,6 +5,7 @@ its sending and its answer, and whatever any of these gives is taken.
 """
 
 import time
+from collections import Counter
 
 from . import access, again, answers, journal, matching, messages, rolling, rules
 from .book import BookRefusal
@@ -52,6 +53,9 @@ class Exchange:
 class Life:
     """One life: each datagram goes to the daemon, and what became of it is held against the book."""
 
+    # The lines that no client asked for.
+    UNASKED = ("expire",)
+
     def __init__(self, daemon, draws, book, limits, tally, manner):
         self.daemon = daemon
         self.draws = draws
@@ -76,8 +80,8 @@ class Life:
         if self.daemon.past:
             opened = self.book
             if self.daemon.has_link:
-                opened.add(lines[len(opened.lines)].reading, ("restart", 1))
-            self.end_leases(lines[len(opened.lines):])
+                opened.add(lines[len(opened.lines)].reading, ("restart", opened.restart + 1))
+            self.take_unasked(lines[len(opened.lines):])
         else:
             opened = matching.opened(self.daemon.settings, lines)
             self.draws.book = self.book = opened
@@ -86,16 +90,21 @@ class Life:
         if not self.daemon.past and not self.daemon.began <= lines[0].reading <= now():
             self.fault("the opening isn't of this life")
 
-    def end_leases(self, lines):
-        """Takes over the lines by which leases end, each of which has to be over by its reading."""
+    def new_lines(self):
+        """The lines that were written since."""
+        return [journal.spelled_line_of(row) for row in self.tail.rows()]
+
+    def take_unasked(self, lines):
+        """Takes over lines that no client asked for: those by which leases end, each of which has to be over by its
+        reading."""
         for line in lines:
-            if line.event[0] != "expire":
+            if line.event[0] not in self.UNASKED:
                 self.fault(f"a line that nobody asked for: {journal.line_text(line)}")
             try:
                 self.book.append(line)
             except BookRefusal as refusal:
                 self.fault(f"{journal.line_text(line)}: {refusal}")
-        self.tally["leases that ended"] += len(lines)
+            self.tally["leases that ended"] += line.event[0] == "expire"
 
     def past_records(self, wanted):
         """The file of records has what it goes on with."""
@@ -114,15 +123,15 @@ class Life:
         self.daemon.begin_again()
         self.policy, self.hearing = Policy(self.limits), Hearing(self.limits.client_rate)
         self.ask()
-        lines = [journal.spelled_line_of(row) for row in self.tail.rows()]
+        lines = self.new_lines()
         if self.daemon.has_link:
             restart = next((line for line in lines if line.event == ("restart", self.book.restart + 1)), None)
             if restart is None:
                 self.fault("a server that begins again says so")
-            self.end_leases(lines[:lines.index(restart)])
+            self.take_unasked(lines[:lines.index(restart)])
             self.book.append(restart)
             lines = lines[lines.index(restart) + 1:]
-        self.end_leases(lines)
+        self.take_unasked(lines)
         self.take_records(self.noted)
         self.tally["begun again"] += 1
 
@@ -173,22 +182,19 @@ class Life:
     def exchange(self, octets):
         before = now()
         found, came = self.ask(octets)
-        lines = [journal.spelled_line_of(row) for row in self.tail.rows()]
+        lines = self.new_lines()
         exchange = Exchange(octets, found[0] if found else None, before, came, lines)
         self.exchanges.append(exchange)
         if len(found) > 1:
             self.fault(f"{len(found)} answers to one datagram")
         return exchange
 
-    def among_ends(self, exchange):
-        """Takes the lines by which leases end out of an exchange's, those in front of the message's own over at once.
-        Those behind them, or all where the message has none, are left."""
-        kinds = [line.event[0] for line in exchange.lines]
-        if "expire" not in kinds:
-            return []
-        own = [place for place, kind in enumerate(kinds) if kind != "expire"]
+    def among_unasked(self, exchange):
+        """Takes the lines that no client asked for out of an exchange's, those in front of the message's own over at
+        once. Those behind them, or all where the message has none, are left."""
+        own = [place for place, line in enumerate(exchange.lines) if line.event[0] not in self.UNASKED]
         first, end = (own[0], own[-1] + 1) if own else (0, 0)
-        self.end_leases(exchange.lines[:first])
+        self.take_unasked(exchange.lines[:first])
         left, exchange.lines = exchange.lines[end:], exchange.lines[first:end]
         return left
 
@@ -209,16 +215,16 @@ class Life:
         exchange = self.exchange(octets)
         self.tally[name + ", by the clock"] += 1
         self.tally["answered"] += exchange.answer is not None
-        ends = self.among_ends(exchange)
+        left = self.among_unasked(exchange)
         try:
             message = messages.decode(octets, self.own, self.manner.informs)
         except messages.Refused as refusal:
             self.expect(exchange, None, refusal.name)
         else:
-            while ends and not self.fits(exchange, message):
-                self.end_leases([ends.pop(0)])
+            while left and not self.fits(exchange, message):
+                self.take_unasked([left.pop(0)])
             self.judge_if_heard(exchange, message)
-        self.end_leases(ends)
+        self.take_unasked(left)
         self.expect_ended()
 
     def expect_ended(self):
@@ -231,7 +237,7 @@ class Life:
                     self.fault(f"a lease that is over since {unit.own_end}: {unit.prefix}")
 
     def fits(self, exchange, message):
-        """Whether what became of a message without lines may be so before the next lease ends."""
+        """Whether what became of a message without lines may be so before the next line that no client asked for."""
         if exchange.lines:
             return True
         denied = self.policy.denied(self.book, message, port_of(message))
@@ -282,6 +288,7 @@ class Life:
         found = [self.told_again(message, at, denied) for at in self.readings(exchange)]
         if not exchange.lines and exchange.answer in [self.small(answer) for answer in found if answer is not None]:
             self.tally["messages told again"] += 1
+            self.tally["told again, of grants that share a reading"] += self.shares_reading(message)
             return
         if None not in found:
             self.fault(f"awaited what remains: {found[-1].hex()}")
@@ -290,6 +297,13 @@ class Life:
         answer = answers.serve(self.book, self.own, message, at, self.manner, denied)
         self.expect(exchange, self.small(answer), "its orders", self.book.lines[count:])
         self.note_grants(self.book.lines[count:], port_of(message))
+
+    def shares_reading(self, message):
+        """Whether a unit that a message asks for has other grants at the reading of its standing one."""
+        units = [self.book.bound(*order[1:]) for order in answers.orders_of(message)]
+        lines = [unit.standing for unit in units if unit is not None and unit.standing is not None]
+        grants = Counter((line.reading, line.event[3]) for line in self.book.lines if line.event[0] == "grant")
+        return any(grants[line.reading, line.event[3]] > 1 for line in lines)
 
     def note_grants(self, lines, port):
         """Each grant has a record of the port, which is there before its answer leaves."""
@@ -323,7 +337,7 @@ class Life:
             self.fault("the next volume's head isn't of this moment")
         self.draws.book = self.book = following
         self.look_at_records(self.records_of_units(lines))
-        self.end_leases(ends)
+        self.take_unasked(ends)
         self.tally["rolls"] += 1
 
     def records_of_units(self, lines):
@@ -342,13 +356,13 @@ class Life:
         return rows
 
     def closed(self, before):
-        """The volume has a close line and the end behind what was looked at, and behind leases that ended since."""
-        rows = self.tail.rows()
-        while " expire " in rows[0]:
-            self.end_leases([journal.spelled_line_of(rows.pop(0))])
-        closing = journal.spelled_line_of(rows[0])
-        if closing.event != ("close",) or rows[1:] != [f"end {closing.number}"]:
-            self.fault(f"the volume ends with {rows}")
+        """The volume has a close line and the end behind what was looked at, and behind lines that no client asked
+        for."""
+        *rows, end = self.tail.rows()
+        *lines, closing = [journal.spelled_line_of(row) for row in rows]
+        self.take_unasked(lines)
+        if closing.event != ("close",) or end != f"end {closing.number}":
+            self.fault(f"the volume ends with {rows[-1:]}, {end}")
         last = self.book.lines[-1].reading
         if not max(last, before) <= closing.reading <= max(last, now()):
             self.fault(f"the volume is closed at {closing.reading}")

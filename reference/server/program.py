@@ -159,22 +159,25 @@ def serve_settings_text(settings, listen, rows, limits=UNLIMITED):
 
 
 class Daemon(Program):
-    """`serve` in a directory of its own: it is alone, or names a partner that doesn't listen.
+    """`serve` in a directory of its own: it is alone, or names a partner, which doesn't listen but where `link` is its
+    end.
 
     With the lines of a past it goes on with these.
     """
 
     def __init__(self, program, settings, manner, host="127.0.0.1", has_link=False, past=(), limits=UNLIMITED,
-                 records=""):
+                 records="", link=None):
         self.program = program
         self.settings = settings
         self.past = past
         self.has_link = has_link
+        self.link = link
         self.listens = "goes on with volume 1" if past else "begins volume 1"
         self.folder = tempfile.TemporaryDirectory()
         self.address = (host, free_port(host))
-        link = [f'link = "{address_text(host, free_port(host, socket.SOCK_STREAM))}"', 'link_key = "none"']
-        rows = settings_rows(manner, "silent" if has_link else "no-binding") + (link if has_link else ["alone = true"])
+        other = link.address if link else (host, free_port(host, socket.SOCK_STREAM))
+        named = [f'link = "{address_text(*other)}"', 'link_key = "none"'] if has_link else ["alone = true"]
+        rows = settings_rows(manner, "silent" if has_link else "no-binding") + named
         self.text = serve_settings_text(settings, address_text(*self.address), rows, limits)
         (pathlib.Path(self.folder.name) / "settings.toml").write_text(self.text)
         self.number = 0
@@ -189,8 +192,10 @@ class Daemon(Program):
 
     def begin_again(self):
         """Stops it with its volume open, and starts it once more."""
+        self.leave()
         self.told("stop")
         self.wait_for_end()
+        self.leave()
         self.errors = tempfile.NamedTemporaryFile()
         self.process = subprocess.Popen(self.words, stdin=subprocess.DEVNULL, stdout=self.output, stderr=self.errors)
         self.wait_for(f"goes on with volume {self.number}")
@@ -198,6 +203,11 @@ class Daemon(Program):
     def __exit__(self, *rest):
         super().__exit__(*rest)
         self.folder.cleanup()
+
+    def leave(self):
+        """The partner ends the connection, if there is one."""
+        if self.link is not None:
+            self.link.leave()
 
     def follow(self):
         """Takes the next volume for the one that is written."""
@@ -211,6 +221,7 @@ class Daemon(Program):
 
     def journal(self):
         """The closed journal of a server that is told to stop."""
+        self.leave()
         self.told("stop", "--close")
         self.wait_for_end()
         return self.volume.read_text()

@@ -8,10 +8,13 @@ FREE, BACKUP, ACTIVE, EXPIRED, RELEASED = "free", "backup", "active", "expired",
 
 
 class Unit:
-    """One prefix that is delegated as a whole, with what its server and the partner know of it."""
+    """One prefix that is delegated as a whole, with what its server and the partner know of it.
+
+    `standing` is its last grant line of the volume, as long as no later line has ended the lease.
+    """
 
     __slots__ = ("prefix", "place", "status", "client", "identifier", "mine", "seen", "own_end", "out_end",
-                 "acked", "told", "due", "pending", "mark")
+                 "acked", "told", "due", "pending", "mark", "standing")
 
     def __init__(self, prefix, place):
         self.prefix = prefix
@@ -23,6 +26,7 @@ class Unit:
         self.seen = 0
         self.pending = None
         self.mark = False
+        self.standing = None
         self.forget()
 
     def forget(self):
@@ -59,12 +63,14 @@ class Table:
         return self.by_prefix.get(prefix)
 
     def change(self, unit, status, client=NOBODY, identifier=0):
-        """Gives the unit its status and client; only this changes them."""
+        """Gives the unit its status and client; only this changes them. Of a unit that nobody has no grant stands."""
         if unit.status == ACTIVE:
             self.held[(unit.client, unit.identifier)].discard(unit.place)
         unit.status, unit.client, unit.identifier = status, client, identifier
         if status == ACTIVE:
             self.held.setdefault((client, identifier), set()).add(unit.place)
+        else:
+            unit.standing = None
         if status in self.own:
             heapq.heappush(self.own[status], unit.place)
 

@@ -1,0 +1,85 @@
+"""Lives of a server that tells again, has a partner, and whose clock stepped back: many lines of a unit share a
+reading."""
+
+import contextlib
+import random
+import socket
+from dataclasses import replace
+
+from . import answers
+from .life_draws import bounds_of, drawn_ages, drawn_floor, drawn_life, drawn_times, half_of_units
+from .life_partner import LinkedLife
+from .limits import Limits
+from .linkend import LinkEnd
+from .manner_draws import drawn_manner
+from .messages import RENEW
+from .program import Daemon, free_port, now
+from .serving import plain_settings
+from .stories import WAYS, Story, StoryDraws, write_stories
+
+LINK_HOST = "127.0.0.1"
+
+
+def drawn_settings(source):
+    """Settings with which a grant is mostly longer once the partner has acknowledged one."""
+    settings = drawn_times(source)
+    mclt, life = settings.mclt, settings.life
+    if source.random() < 0.7:
+        mclt, life = min(mclt, life), max(mclt, life)
+    return replace(settings, skew=source.choice((settings.skew, 250, 2000, 5000, 5000)), mclt=mclt, life=life)
+
+
+def drawn_readings(source, settings, floor, begun):
+    """Readings of a past, many of which are the last: that of a clock up to twice the skew ahead of ours."""
+    ahead = min(10_000, 2 * settings.skew)
+    ages = drawn_ages(source, settings, floor, source.choice((0, 3, 20)), source.choice((0, ahead)))
+    ages += [-source.choice((0, ahead // 8, ahead, ahead))] * source.choice((1, 3, 20))
+    return sorted(begun - age for age in ages)
+
+
+@contextlib.contextmanager
+def partner_of(settings):
+    """The partner's end of a link, for as long as a daemon lives."""
+    link = LinkEnd(settings.role, (LINK_HOST, free_port(LINK_HOST, socket.SOCK_STREAM)), random.Random(1))
+    try:
+        yield link
+    finally:
+        link.end()
+
+
+def serve_stories_once(program, seed, count, tally):
+    """One life whose past, clients and partner are drawn."""
+    source = random.Random(seed)
+    settings = drawn_settings(source)
+    told = Limits(renew_floor=drawn_floor(source, settings) or None)
+    floor = told.in_force(settings.life).renew_floor
+    manner = replace(drawn_manner(source), releases_each=True)
+    readings = drawn_readings(source, settings, floor, now())
+    host, book, draws = drawn_life(source, settings, readings[0], kind=StoryDraws)
+    write_stories(book, draws, readings, half_of_units(settings))
+    draws.await_bounds(bounds_of(settings, floor))
+    with partner_of(settings) as link, \
+            Daemon(program, settings, manner, host, True, list(book.lines), told, link=link) as daemon:
+        LinkedLife(daemon, draws, book, told, tally, manner).run(count)
+    tally["lives of shared readings"] += 1
+
+
+def serve_script(program, tally):
+    """A life in which each way of a unit is gone in one reading, ahead of the clock, by a client whose grant the
+    partner had acknowledged before; then each client asks twice for what it has, and twice in the next volume."""
+    settings, told = replace(plain_settings(), mclt=600), Limits(renew_floor=3600)
+    begun = now()
+    host, book, draws = drawn_life(random.Random(1), settings, begun, kind=StoryDraws)
+    holders = [(b"client" + bytes([place]), 1) for place in range(len(WAYS))]
+    for reading, steps in ((begun, [("given", "known")] * len(WAYS)), (begun + 2 * settings.skew, WAYS)):
+        for unit, holder, way in zip(book.table.ordered, holders, steps):
+            Story(draws, book, unit, reading, holder).go(way)
+    with partner_of(settings) as link, \
+            Daemon(program, settings, answers.PLAIN, host, True, list(book.lines), told, link=link) as daemon:
+        life = LinkedLife(daemon, draws, book, told, tally, answers.PLAIN, often=0)
+        for place, (client, identifier) in enumerate(4 * holders):
+            if place == 2 * len(holders):
+                life.roll()
+            life.put(draws.message(RENEW, client, [(identifier, None)]), "scripted")
+        life.run(0)
+    tally["lives of shared readings"] += 1
