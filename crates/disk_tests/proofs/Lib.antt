@@ -1,2 +1,3 @@
 mod WholeTexts
 mod Opened
+mod Fronts

@@ -1,30 +1,43 @@
 //! Losses of power in a run, and in the run that goes on from what was left.
 
-use crate::runs::{left_of, run_over};
-use crate::words::COUNT;
+use crate::runs::{COUNT, FileRun, left_of, run_over};
 use disk_model::extent_of;
+use std::alloc::Global;
+use std::process::Abort;
 use std::test::Fail;
 
-/// More calls than opening a file and committing the words to it takes: two, and two for each of four commits.
-const CALLS: u64 = 11;
+/// More calls than opening a file and putting the words to it takes: two, and two for each of four batches.
+const CALLS: usize = 11;
+
+/// Draws what a loss of power leaves of a run, and goes on from it, with so many calls that are answered.
+fn run_again(
+    rt: &impl Abort,
+    alloc: Global,
+    run: &FileRun,
+    seed: u64,
+    calls: usize,
+) -> Result<FileRun, Fail> {
+    let content = left_of(rt, run, seed)?;
+    run_over(alloc, &content, calls)
+}
 
 #[test]
 fn what_was_told_of_is_found_again(rt: HostRuntime) -> Result<(), Fail> {
     for calls in 0..CALLS {
-        let first = run_over(rt.alloc(), &[], calls as usize)?;
+        let first = run_over(rt.alloc(), &[], calls)?;
         for seed in 0..200 {
-            let content = left_of(&rt, &first, seed)?;
-            let second = run_over(rt.alloc(), &content, (seed % CALLS) as usize)?;
+            let second = run_again(&rt, rt.alloc(), &first, seed, seed as usize % CALLS)?;
             assert!(rt; second.told >= first.told);
-            let content = left_of(&rt, &second, seed)?;
-            let third = run_over(rt.alloc(), &content, CALLS as usize)?;
-            assert_eq!(rt; third.told, COUNT);
+            assert_eq!(rt;
+                run_again(&rt, rt.alloc(), &second, seed, CALLS)?.told,
+                COUNT
+            );
         }
     }
     Ok(())
 }
 
-// The second commit's sync fails: three words were told of, and each number of words from three to six is left.
+// The second batch's sync fails: three words were told of, and each number of words from three to six is left.
 #[test]
 fn any_number_of_lines_past_those_told_of_is_left(rt: HostRuntime) -> Result<(), Fail> {
     let failed = run_over(rt.alloc(), &[], 5)?;

@@ -3,58 +3,52 @@
 ghost use Rattle.std.specs.Prelude.{◌≡◌, [], ◌∷◌};
 ghost use Rattle.disk_model.specs.Disk.{opened};
 
-use crate::words::{WORDS, Word};
-use commit_queue::Committer;
-use disk_files::{FolderError, OpenedFile, RealFolder};
+use crate::directories::{directory, holds, is_locked, remove};
+use crate::runs::WORDS;
+use crate::texts::{split_lines, whole};
+use disk_files::{OpenedFile, RealFolder};
 use disk_model::JournalFile;
-use std::alloc::Global;
+use std::path::Path;
 use std::test::Fail;
-use std::{env, fs, process};
 
-/// Commits so many words to a journal that was opened. Returns how many lines it had, or `None` where the file failed.
-fn commit_first(alloc: Global, found: OpenedFile, count: u64) -> Option<usize>
+/// Puts to a journal that was opened the words that it lacks of the first so many. Returns how many lines it had, or
+/// `None` where the file failed.
+fn put_lacking(found: OpenedFile, count: usize) -> Option<usize>
     requires { found.file.noted.calls ≡ opened found.content.items ∷ [] }
 {
     let OpenedFile { file, content } = found;
-    let Ok((file, lines)) = JournalFile::open(file, &content) else {
+    let Ok((mut file, lines)) = JournalFile::open(file, &content) else {
         return None;
     };
-    let mut committer = Committer::new(alloc, file, lines);
-    for number in 0..count {
-        let _ = committer.take(Word(number));
-    }
-    match committer.commit(alloc) {
-        Ok(_) => Some(lines),
+    let (_, rest) = split_lines(WORDS, lines);
+    let (lacking, _) = split_lines(rest, count.saturating_sub(lines));
+    match file.put(whole(lacking)) {
+        Ok(()) => Some(lines),
         Err(_) => None,
     }
 }
 
+/// The same with the journal of a directory.
+fn put_words(rt: &HostRuntime, folder: &RealFolder, count: usize) -> Option<usize> {
+    match folder.open_file(rt, "journal") {
+        Ok(found) => put_lacking(found, count),
+        Err(_) => None,
+    }
+}
+
+/// Returns whether the journal of a directory has all words.
+fn has_words(rt: &HostRuntime, path: Path<'_>) -> Result<bool, Fail> {
+    let journal = path.join(rt.alloc(), "journal")?;
+    Ok(holds(rt, journal.as_path(), WORDS))
+}
+
 #[test]
 fn a_real_file_is_opened_again(rt: HostRuntime) -> Result<(), Fail> {
-    let path = env::temp_dir(&rt)?.join(
-        rt.alloc(),
-        format!(in rt.alloc(); "disk-{}", process::id(rt.process()))?,
-    )?;
-    fs::create_dir(&rt, path.as_path())?;
+    let path = directory(&rt, "disk")?;
     let folder = RealFolder::open(&rt, path.as_path().as_str())?;
-    assert_eq!(rt;
-        commit_first(rt.alloc(), folder.open_file(&rt, "journal")?, 5),
-        Some(0)
-    );
-    assert_eq!(rt;
-        commit_first(rt.alloc(), folder.open_file(&rt, "journal")?, 12),
-        Some(5)
-    );
-    assert_eq!(rt;
-        fs::read(&rt, path.join(rt.alloc(), "journal")?)?.as_slice(),
-        WORDS
-    );
-    assert!(rt;
-        matches!(
-            &RealFolder::open(&rt, path.as_path().as_str()),
-            Err(FolderError::Locked)
-        )
-    );
-    fs::remove_dir_all(&rt, path.as_path())?;
-    Ok(())
+    assert_eq!(rt; put_words(&rt, &folder, 5), Some(0));
+    assert_eq!(rt; put_words(&rt, &folder, 12), Some(5));
+    assert!(rt; has_words(&rt, path.as_path())?);
+    assert!(rt; is_locked(&rt, path.as_path()));
+    remove(&rt, path.as_path())
 }

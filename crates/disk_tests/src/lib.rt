@@ -3,14 +3,18 @@
 //! Contents of files, what is recovered of each, what a server then does at its start, and what it
 //! owes while it runs.
 //!
-//! A server's volumes on disks that fail and lose power: three volumes of a book are written, with rolls in between,
-//! each call to the folder or to a file fails in turn, and what is left is opened again; and a real directory of them.
+//! A server's volumes on disks that fail and lose power: three volumes of a book are written as the daemon writes them,
+//! with rolls in between, each call to the folder or to a file fails in turn, and what is left is opened again; and a
+//! real directory of them.
 //!
-//! Journals on disks that fail and lose power: what was told of is found again; and files of the operating system.
+//! Journals on disks that fail and lose power: the lines that are on the disk are found again; and files of the
+//! operating system.
 #![tactic(auto)]
 
 #[cfg(test)]
 mod contents;
+#[cfg(test)]
+mod directories;
 #[cfg(test)]
 mod disk_contents;
 #[cfg(test)]
@@ -21,8 +25,6 @@ mod disk_real;
 mod folders;
 #[cfg(test)]
 mod losses;
-#[cfg(test)]
-mod queues;
 #[cfg(test)]
 mod real;
 #[cfg(test)]
@@ -35,7 +37,5 @@ mod story;
 mod texts;
 #[cfg(test)]
 mod upkeep;
-#[cfg(test)]
-mod words;
 #[cfg(test)]
 mod writing;

@@ -1,11 +1,14 @@
-//! A book of a thousand orders, in three volumes.
+//! A book of a thousand requests, in three volumes.
 
-use crate::texts::split_lines;
+ghost use Rattle.std.specs.Prelude.{◌≡◌, OnOk};
+ghost use Rattle.journal_lines.specs.declared.line.Line.{Line as LineValue};
+ghost use Rattle.order_book.specs.Replayed.{with_line};
+
 use client_id::{Duid, Iaid};
 use journal_lines::Line;
 use journal_text::write;
 use lead_time::Reading;
-use server_book::{Book, LeaseRequest, Order, read_settings};
+use server_book::{Book, LeaseRequest, Order, Settings, read_settings};
 use std::alloc::Global;
 use std::test::Fail;
 
@@ -19,31 +22,52 @@ prefix = \"2001:db8::/48\"
 unit = 56
 ";
 
-/// How many orders each volume has behind its head.
-const ORDERS: [u64; 3] = [334, 333, 333];
+/// When the first volume is opened.
+const OPENED: u64 = 500;
 
 /// How many clients ask in turn.
 const CLIENTS: u64 = 12;
 
-/// A volume as it is to be found again: its lines and its text; and the text's parts that are written at once.
-#[derive(Drop)]
-pub(crate) struct Written {
-    pub lines: Vec<Line>,
-    pub text: Vec<u8>,
-    /// The first line and the head lines.
-    pub head: Vec<u8>,
-    /// How many head lines there are.
-    heads: usize,
-    /// The close line and the end line.
-    pub end: Vec<u8>,
+/// What comes while a volume is open: so many requests, one a second, the first one at a reading; and behind them the
+/// order to close.
+#[derive(Clone, Copy)]
+pub(crate) struct Requests {
+    pub first: u64,
+    pub count: u64,
 }
 
-impl Written {
-    /// Returns the lines between the head lines and the close line.
-    pub(crate) fn between(&self) -> &[Line] {
-        let end = self.lines.len().saturating_sub(1);
-        &self.lines[self.heads.min(end)..end]
+/// The requests of each volume.
+pub(crate) const VOLUMES: [Requests; 3] = [
+    Requests {
+        first: 1_000,
+        count: 334,
+    },
+    Requests {
+        first: 335_000,
+        count: 333,
+    },
+    Requests {
+        first: 668_000,
+        count: 333,
+    },
+];
+
+impl Requests {
+    /// The reading at which the request of a turn comes.
+    fn reading(&self, turn: u64) -> Result<Reading, Fail> {
+        let behind = turn.saturating_mul(1000);
+        Ok(Reading::new(self.first.saturating_add(behind))?)
     }
+
+    /// The reading at which the volume is closed.
+    pub(crate) fn end(&self) -> Result<Reading, Fail> {
+        self.reading(self.count)
+    }
+}
+
+/// By which settings the server begins, and when.
+pub(crate) fn opening(alloc: Global) -> Result<(Settings, Reading), Fail> {
+    Ok((read_settings(alloc, PRIMARY)?, Reading::new(OPENED)?))
 }
 
 /// A Request of one of the clients.
@@ -59,63 +83,78 @@ fn request(turn: u64) -> Option<Order> {
     }
 }
 
-/// Applies an order, and says whether it was answered.
-fn is_answered(book: &mut Book, now: u64, order: &Order) -> Result<bool, Fail> {
-    match book.apply(Reading::new(now)?, order) {
-        Ok(_) => Ok(true),
-        Err(_) => Ok(false),
+/// Has a book do what is ordered.
+fn apply(book: &mut Book, now: Reading, order: &Order) -> Result<(), Fail>
+    ensures { OnOk result ((l : LineValue) × (book.new ≡ with_line book.old l)) }
+{
+    match book.apply(now, order) {
+        Ok(_) => Ok(()),
+        Err(_) => Err(Fail::from("an order was refused")),
     }
 }
 
-/// Has a book answer so many requests, one a second, the first one at `begin`, and closes it. Returns when it did.
-fn serve(book: &mut Book, begin: u64, orders: u64) -> Result<u64, Fail> {
-    let mut now = begin;
-    for turn in 0..orders {
-        let order = request(turn).ok_or("no client")?;
-        if !is_answered(book, now, &order)? {
-            return Err(Fail::from("a request was refused"));
-        }
-        now = now.saturating_add(1000);
-    }
-    if !is_answered(book, now, &Order::Close)? {
-        return Err(Fail::from("it doesn't close"));
-    }
-    Ok(now)
+/// Has a book answer the request of a turn.
+pub(crate) fn ask(book: &mut Book, requests: Requests, turn: u64) -> Result<(), Fail>
+    ensures { OnOk result ((l : LineValue) × (book.new ≡ with_line book.old l)) }
+{
+    let Some(order) = request(turn) else {
+        return Err(Fail::from("no client"));
+    };
+    apply(book, requests.reading(turn)?, &order)
 }
 
-/// What a closed book was written as, which began with so many head lines.
-fn closed(alloc: Global, book: &Book, heads: usize) -> Result<Written, Fail> {
-    let text = write(alloc, book.role(), book.head(), book.journal())?;
-    let (head, _) = split_lines(&text, heads.saturating_add(1));
-    let (_, end) = split_lines(&text, book.journal().len());
+/// Has a book close behind these requests.
+pub(crate) fn close(book: &mut Book, requests: Requests) -> Result<(), Fail>
+    ensures { OnOk result ((l : LineValue) × (book.new ≡ with_line book.old l)) }
+{
+    apply(book, requests.end()?, &Order::Close)
+}
+
+/// Has a book answer all of these requests, and closes it.
+fn serve(book: &mut Book, requests: Requests) -> Result<(), Fail> {
+    for turn in 0..requests.count {
+        ask(book, requests, turn)?;
+    }
+    close(book, requests)
+}
+
+/// A volume as it is to be found again: its lines, and its text to the end line.
+#[derive(Drop)]
+pub(crate) struct Written {
+    pub lines: Vec<Line>,
+    pub text: Vec<u8>,
+}
+
+/// What a closed book is to be written as.
+fn as_written(alloc: Global, book: &Book) -> Result<Written, Fail> {
     Ok(Written {
         lines: book.journal().to_vec(alloc)?,
-        head: head.to_vec(alloc)?,
-        heads,
-        end: end.to_vec(alloc)?,
-        text,
+        text: write(alloc, book.role(), book.head(), book.journal())?,
     })
 }
 
-/// The volume behind a closed book.
-fn next_volume(book: &Book, now: u64) -> Result<Book, Fail> {
+/// The book of the first volume.
+fn first_book(alloc: Global) -> Result<Book, Fail> {
+    let (settings, now) = opening(alloc)?;
+    Ok(Book::open(alloc, now, &settings)?)
+}
+
+/// The volume behind a book that closed behind these requests.
+fn next_volume(book: &Book, requests: Requests) -> Result<Book, Fail> {
     if !book.can_roll() {
         return Err(Fail::from("it doesn't roll"));
     }
-    Ok(book.next_volume(Reading::new(now)?)?)
+    Ok(book.next_volume(requests.end()?)?)
 }
 
-/// Writes three volumes of a book.
+/// What three volumes of a book are to be written as.
 pub(crate) fn three_volumes(alloc: Global) -> Result<Vec<Written>, Fail> {
-    let settings = read_settings(alloc, PRIMARY)?;
-    let mut book = Book::open(alloc, Reading::new(500)?, &settings)?;
+    let mut book = first_book(alloc)?;
     let mut volumes = Vec::new(alloc);
-    let mut now = 1000;
-    for orders in ORDERS {
-        let heads = book.journal().len();
-        now = serve(&mut book, now, orders)?;
-        volumes.push(closed(alloc, &book, heads)?)?;
-        book = next_volume(&book, now)?;
+    for requests in VOLUMES {
+        serve(&mut book, requests)?;
+        volumes.push(as_written(alloc, &book)?)?;
+        book = next_volume(&book, requests)?;
     }
     Ok(volumes)
 }

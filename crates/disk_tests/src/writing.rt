@@ -1,22 +1,21 @@
-//! A server that writes its volumes to a folder until a call fails.
+//! A server that writes its volumes to a folder until a call fails, by the calls that the daemon makes: the lines of a
+//! batch are put by one write and one sync, and behind a volume that is closed the next one begins.
 
-ghost use Rattle.std.specs.Prelude.{◌≡◌, IsTrue, IfOk};
-ghost use Rattle.disk_model.specs.Lines.{recovered};
+ghost use Rattle.std.specs.Prelude.{◌≡◌, IsTrue, IfOk, IfSome};
 ghost use Rattle.disk_model.specs.Names.{names_after, AreSettled};
-ghost use Rattle.disk_model.specs.Volumes.{HasSettled};
-ghost use Rattle.commit_queue.specs.Committing.{IsReady};
+ghost use Rattle.volume_store.specs.Volumes.{going_on, HasVolume};
 
-use crate::story::Written;
-use crate::texts::whole;
-use commit_queue::Committer;
-use disk_model::{BeginError, Device, Folder, JournalFile, begin_first, extent_of, roll};
-use held_answers::Held;
-use journal_lines::Line;
+use crate::story::{Requests, VOLUMES, ask, close, opening};
+use disk_model::{BeginError, Device, Folder, JournalFile};
+use order_book::Book;
 use std::alloc::Global;
 use std::test::Fail;
+use volume_store::{
+    BeginVolumeError, BegunVolume, PutError, RollError, begin_first, put_lines, roll,
+};
 
-/// How many lines are committed at once.
-const BATCH: usize = 60;
+/// How many lines are put at once.
+const BATCH: u64 = 60;
 
 /// How many volumes a server has told of, and how many lines of the last of them, the first line among them.
 #[derive(Clone, Copy, Debug, PartialEq, Eq)]
@@ -38,10 +37,16 @@ impl PublishedState {
     }
 
     /// A further volume's head is on the disk.
-    fn begin(&mut self, head: &[u8]) {
+    fn begin(&mut self, book: &Book) {
         self.volumes = self.volumes.saturating_add(1);
-        self.lines = extent_of(head).lines;
+        self.lines = book.journal().len().saturating_add(1);
         self.is_head = true;
+    }
+
+    /// All lines of the open volume are on the disk.
+    fn put(&mut self, book: &Book) {
+        self.lines = book.journal().len().saturating_add(1);
+        self.is_head = false;
     }
 }
 
@@ -53,133 +58,171 @@ pub(crate) struct Reached<D: Drop> {
     pub is_unmade: bool,
 }
 
-/// Begins to commit to a volume's file that has its head lines.
-fn committer_of<D: Device + Drop>(
-    alloc: Global,
-    file: JournalFile<D>,
-    head: &[u8],
-) -> Committer<D, Held<()>>
-    requires { HasSettled (D.calls file.device) (recovered head.now) }
-    ensures { IsReady D.calls (λ held. held.number) result }
-{
-    Committer::new(alloc, file, extent_of(head).lines)
-}
-
-/// Takes a line, to be committed.
-fn take_line<D: Device + Drop>(
-    alloc: Global,
-    committer: &mut Committer<D, Held<()>>,
-    line: &Line,
-) -> Result<(), Fail>
-    requires { IsReady D.calls (λ held. held.number) committer.old }
-    ensures { IsReady D.calls (λ held. held.number) committer.new }
-{
-    let Ok(held) = Held::new(alloc, line, ()) else {
-        return Err(Fail::from("a line has no text"));
-    };
-    match committer.take(held) {
-        Ok(()) => Ok(()),
-        Err(_) => Err(Fail::from("a line isn't taken")),
+impl<D: Drop> Reached<D> {
+    /// Adds the file of a volume that was begun in vain, if it was made.
+    fn add_begun(&mut self, failed: BeginVolumeError<D>) -> Result<(), Fail> {
+        let BeginVolumeError::Disk(BeginError { error: _, file }) = failed else {
+            return Err(Fail::from("a volume has no beginning"));
+        };
+        match file {
+            Some(file) => self.files.push(file)?,
+            None => self.is_unmade = true,
+        }
+        Ok(())
     }
 }
 
-/// Takes these lines, the last one first, and commits them at once. Says whether all are on the disk.
-fn commit_batch<D: Device + Drop>(
+/// Has a book answer a batch of requests, from a turn on, and puts their lines at once. Says whether all are on the
+/// disk.
+fn put_batch<D: Device>(
     alloc: Global,
-    committer: &mut Committer<D, Held<()>>,
-    lines: &[Line],
+    book: &mut Book,
+    file: &mut JournalFile<D>,
+    requests: Requests,
+    first: u64,
 ) -> Result<bool, Fail>
-    requires { IsReady D.calls (λ held. held.number) committer.old }
-    ensures { IfOk result (λ all. IsTrue all → IsReady D.calls (λ held. held.number) committer.new) }
+    requires { HasVolume (D.calls file.old.device) (going_on book.old) }
+    ensures { IfOk result (λ all. IsTrue all → HasVolume (D.calls file.new.device) (going_on book.new)) }
 {
-    for back in 0..lines.len() {
-        take_line(alloc, committer, &lines[lines.len() - 1 - back])?;
+    let lines = book.journal().len() + 1;
+    for turn in first..requests.count.min(first.saturating_add(BATCH)) {
+        ask(book, requests, turn)?;
     }
-    match committer.commit(alloc) {
-        Ok(released) if released.len() == lines.len() => Ok(true),
-        Ok(_) => Err(Fail::from("a line waits")),
-        Err(_) => Ok(false),
+    match put_lines(alloc, file, book, lines) {
+        Ok(()) => Ok(true),
+        Err(PutError::Disk(_)) => Ok(false),
+        Err(PutError::Text(_)) => Err(Fail::from("a line has no text")),
     }
 }
 
-/// Commits the lines behind a volume's head, in batches, as far as it goes, and says whether all are on the disk.
-fn commit_lines<D: Device + Drop>(
+/// Has a book answer the requests of its volume, batch by batch, as far as it goes. Says whether all lines are on the
+/// disk.
+fn put_requests<D: Device>(
     alloc: Global,
-    committer: &mut Committer<D, Held<()>>,
-    lines: &[Line],
+    book: &mut Book,
+    file: &mut JournalFile<D>,
+    requests: Requests,
     told: &mut PublishedState,
 ) -> Result<bool, Fail>
-    requires { IsReady D.calls (λ held. held.number) committer.old }
-    ensures { IfOk result (λ all. IsTrue all → IsReady D.calls (λ held. held.number) committer.new) }
+    requires { HasVolume (D.calls file.old.device) (going_on book.old) }
+    ensures { IfOk result (λ all. IsTrue all → HasVolume (D.calls file.new.device) (going_on book.new)) }
 {
-    let mut rest = lines;
-    for _batch in 0..lines.len() {
-        if rest.is_empty() {
-            break;
-        }
-        let (batch, behind) = rest.split_at(BATCH.min(rest.len()));
-        if !commit_batch(alloc, committer, batch)? {
+    for batch in 0..=requests.count / BATCH {
+        if !put_batch(alloc, book, file, requests, batch.saturating_mul(BATCH))? {
             return Ok(false);
         }
-        told.lines = committer.next() as usize;
-        told.is_head = false;
-        rest = behind;
+        told.put(book);
     }
     Ok(true)
 }
 
-/// Adds the file of a volume that was begun in vain, if it was made.
-fn with_begun<D: Drop>(mut files: Vec<D>, failed: BeginError<D>) -> Result<Reached<D>, Fail> {
-    let BeginError { error: _, file } = failed;
-    let is_unmade = file.is_none();
-    if let Some(file) = file {
-        files.push(file)?;
+/// Closes a volume and begins the one behind it: `None` where a call failed.
+fn follow<F: Folder>(
+    alloc: Global,
+    folder: &mut F,
+    volume: BegunVolume<F::File>,
+    requests: Requests,
+    reached: &mut Reached<F::File>,
+) -> Result<Option<BegunVolume<F::File>>, Fail>
+where
+    F::File: Drop,
+    requires names { AreSettled (F.calls folder.old) }
+    requires volume { HasVolume (F.File.calls volume.file.device) (going_on volume.book) }
+    ensures names { IfOk result (λ next. IfSome next (λ _. AreSettled (F.calls folder.new))) }
+    ensures volume { IfOk result (λ next. IfSome next (λ v. HasVolume (F.File.calls v.file.device) (going_on v.book))) }
+{
+    let BegunVolume { mut book, mut file } = volume;
+    let lines = book.journal().len() + 1;
+    close(&mut book, requests)?;
+    if !book.can_roll() {
+        return Err(Fail::from("it doesn't roll"));
     }
-    Ok(Reached { files, is_unmade })
+    let next = roll(alloc, folder, &mut file, &book, lines, requests.end()?);
+    reached.files.push(file.into_device())?;
+    match next {
+        Ok(next) => Ok(Some(next)),
+        Err(RollError::NotEnded(PutError::Disk(_))) => Ok(None),
+        Err(RollError::NotEnded(PutError::Text(_))) => Err(Fail::from("a volume has no end")),
+        Err(RollError::NotBegun(failed)) => {
+            reached.add_begun(failed)?;
+            Ok(None)
+        }
+    }
+}
+
+/// Writes a volume that was begun, as far as it goes, and begins the one behind it: `None` where a call failed, and
+/// behind the last one, which stays open.
+fn write_volume<F: Folder>(
+    alloc: Global,
+    folder: &mut F,
+    volume: BegunVolume<F::File>,
+    requests: Requests,
+    reached: &mut Reached<F::File>,
+    told: &mut PublishedState,
+) -> Result<Option<BegunVolume<F::File>>, Fail>
+where
+    F::File: Drop,
+    requires names { AreSettled (F.calls folder.old) }
+    requires volume { HasVolume (F.File.calls volume.file.device) (going_on volume.book) }
+    ensures names { IfOk result (λ next. IfSome next (λ _. AreSettled (F.calls folder.new))) }
+    ensures volume { IfOk result (λ next. IfSome next (λ v. HasVolume (F.File.calls v.file.device) (going_on v.book))) }
+{
+    let BegunVolume { mut book, mut file } = volume;
+    told.begin(&book);
+    let is_written = put_requests(alloc, &mut book, &mut file, requests, told)?;
+    if !is_written || told.volumes == VOLUMES.len() {
+        reached.files.push(file.into_device())?;
+        return Ok(None);
+    }
+    follow(alloc, folder, BegunVolume { book, file }, requests, reached)
+}
+
+/// Begins the first volume: `None` where a call failed.
+fn begin<F: Folder>(
+    alloc: Global,
+    folder: &mut F,
+    reached: &mut Reached<F::File>,
+) -> Result<Option<BegunVolume<F::File>>, Fail>
+where
+    F::File: Drop,
+    requires names { AreSettled (F.calls folder.old) }
+    requires none { (names_after (F.calls folder.old)).files ≡ 0 }
+    ensures names { IfOk result (λ first. IfSome first (λ _. AreSettled (F.calls folder.new))) }
+    ensures volume { IfOk result (λ first. IfSome first (λ v.
+        HasVolume (F.File.calls v.file.device) (going_on v.book))) }
+{
+    let (settings, now) = opening(alloc)?;
+    match begin_first(alloc, folder, now, &settings) {
+        Ok(first) => Ok(Some(first)),
+        Err(failed) => {
+            reached.add_begun(failed)?;
+            Ok(None)
+        }
+    }
 }
 
 /// Writes the volumes to a folder that has no file, as far as it goes, to the last one's last line before its close
 /// line.
-pub(crate) fn write_volumes<D: Device + Drop, F: Folder<File = D>>(
+pub(crate) fn write_volumes<F: Folder>(
     alloc: Global,
     folder: &mut F,
-    volumes: &[Written],
     told: &mut PublishedState,
-) -> Result<Reached<D>, Fail>
+) -> Result<Reached<F::File>, Fail>
+where
+    F::File: Drop,
     requires names { AreSettled (F.calls folder.old) }
     requires none { (names_after (F.calls folder.old)).files ≡ 0 }
 {
-    let mut files = Vec::new(alloc);
-    let first = volumes.first().ok_or("no volume")?;
-    let head = whole(&first.head);
-    let file = match begin_first(folder, head) {
-        Ok(file) => file,
-        Err(failed) => return with_begun(files, failed),
+    let mut reached = Reached {
+        files: Vec::new(alloc),
+        is_unmade: false,
     };
-    told.begin(head);
-    let mut committer = committer_of(alloc, file, head);
-    for place in 0..volumes.len() {
-        let written = &volumes[place];
-        let is_written = commit_lines(alloc, &mut committer, written.between(), told)?;
-        let Some(next) = volumes.get(place + 1) else {
+    let mut open = begin(alloc, folder, &mut reached)?;
+    for requests in VOLUMES {
+        let Some(volume) = open.take() else {
             break;
         };
-        if !is_written {
-            break;
-        }
-        let mut ended = committer.into_file();
-        let head = whole(&next.head);
-        let begun = roll(folder, &mut ended, whole(&written.end), head);
-        files.push(ended.into_device())?;
-        match begun {
-            Ok(file) => committer = committer_of(alloc, file, head),
-            Err(failed) => return with_begun(files, failed),
-        }
-        told.begin(head);
+        open = write_volume(alloc, folder, volume, requests, &mut reached, told)?;
     }
-    files.push(committer.into_file().into_device())?;
-    Ok(Reached {
-        files,
-        is_unmade: false,
-    })
+    Ok(reached)
 }
