@@ -38,7 +38,7 @@ static long count_lines(int file) {
 
 int main(int count, char **words) {
     if (count != 4) return 2;
-    long batch = atol(words[2]), batches = atol(words[3]), released = 0;
+    long batch = atol(words[2]), batches = atol(words[3]), put = 0;
     int folder = open(words[1], O_RDONLY);
     if (folder < 0 || flock(folder, LOCK_EX | LOCK_NB) || chdir(words[1])) fail("folder");
     int file = open("journal", O_RDWR | O_APPEND | O_CREAT, 0666);
@@ -50,7 +50,7 @@ int main(int count, char **words) {
     for (long turn = 0; turn < batches; turn++) {
         for (long index = 0; index < batch; index++) memcpy(text + WIDTH * index, line, WIDTH);
         if (write(file, text, WIDTH * batch) != WIDTH * batch || fdatasync(file)) fail("write");
-        released += batch;
+        put += batch;
     }
-    printf("%ld %ld\n", lines, released);
+    printf("%ld %ld\n", lines, put);
 }

@@ -19,7 +19,7 @@ import time
 HERE = pathlib.Path(__file__).resolve().parent
 ROOT = HERE.parent.parent
 PROGRAMS = {
-    "driver": "commit_queue disk_model disk_files anyhow",
+    "driver": "disk_model disk_files anyhow",
     "start": "volume_store disk_files disk_model order_book binding_rules anyhow",
 }
 BATCHES = {1: 10_000, 8: 8_000, 64: 4_000}
@@ -56,8 +56,10 @@ def workspace(folder):
     for name in (row.split(":")[0] for row in lines):
         shutil.copytree(ROOT / "crates" / name, folder / "crates" / name, ignore=shutil.ignore_patterns("out"), dirs_exist_ok=True)
     driver, start = program(folder, "driver"), program(folder, "start")
-    (driver / "proofs" / "commit_all").mkdir(exist_ok=True)
-    shutil.copy(HERE / "loops.txt", driver / "proofs" / "commit_all" / "Invariants.antt")
+    (driver / "proofs" / "put_all").mkdir(exist_ok=True)
+    shutil.copy(HERE / "loops.txt", driver / "proofs" / "put_all" / "Invariants.antt")
+    shutil.copy(ROOT / "crates/disk_tests/proofs/WholeTexts.antt", driver / "proofs")
+    (driver / "proofs" / "Lib.antt").write_text("mod WholeTexts\n")
     anew(folder / "first")
     subprocess.run(["rt", "run", "--", folder / "first", "1", "1"], cwd=driver, stdin=subprocess.DEVNULL, check=True)
     write_volume(folder / "first", 1000)
