@@ -199,6 +199,21 @@ fn add_reusable(out: &mut Vec<u8>, found: &Option<ReusableLease>) -> Result<(), 
     Ok(add_number(out, u64::from(lease.number))?)
 }
 
+/// Appends what an order's client is told again.
+fn add_recalled(
+    alloc: Global,
+    out: &mut Vec<u8>,
+    book: &Book,
+    terms: &ReuseTerms,
+    now: Reading,
+    order: &Order,
+) -> Result<(), Fault> {
+    match &find_reusable_lease(book, terms, now, order) {
+        Ok(found) => add_reusable(out, found),
+        Err(error) => Ok(add_refusal(alloc, out, error)?),
+    }
+}
+
 /// `again A READING FLOOR SKEW TRANSIT ORDER`: what the order's client has that it is told again, and by which line.
 pub fn add_again(
     alloc: Global,
@@ -209,9 +224,8 @@ pub fn add_again(
     let book = shelf.book(words.letter()?)?;
     let now = words.reading()?;
     let terms = terms_in(words)?;
-    let order = order_in(alloc, words)?;
-    match &find_reusable_lease(book, &terms, now, &order) {
-        Ok(found) => add_reusable(out, found),
-        Err(error) => Ok(add_refusal(alloc, out, error)?),
+    match &order_in(alloc, words) {
+        Ok(order) => add_recalled(alloc, out, book, &terms, now, order),
+        Err(fault) => Err(*fault),
     }
 }
