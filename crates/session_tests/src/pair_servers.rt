@@ -67,8 +67,8 @@ impl Server {
 
     /// What its book grants by an order, if it grants anything: a prefix for so many seconds.
     pub fn granted(&mut self, now: Reading, order: &Order) -> Option<(Prefix, u32)> {
-        match self.own.book.apply(now, order) {
-            Ok(Reply::Granted { prefix, valid }) => Some((prefix, valid)),
+        match &self.own.book.apply(now, order) {
+            Ok(Reply::Granted { prefix, valid }) => Some((*prefix, *valid)),
             _ => None,
         }
     }
