@@ -1,3 +1,4 @@
 pub mod Left
 pub mod Files
 pub mod Given
+pub mod Heard

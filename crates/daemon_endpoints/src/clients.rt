@@ -1,24 +1,27 @@
 //! What clients and relays ask, and what they are told.
 
-ghost use Rattle.std.specs.Prelude.{◌≡◌, ◌↔◌, IsTrue};
-ghost use Rattle.daemon_endpoints.specs.Sending.{IsInTime, Leaves, AllLeave};
-ghost use Rattle.daemon_endpoints.specs.Receiving.{MayReceive, HasSameFiles};
+ghost use Rattle.std.specs.Prelude.{◌≡◌, ◌↔◌, IsTrue, IfOk};
+ghost use Rattle.daemon_endpoints.specs.Sending.{longest_wait, IsInTime, Leaves, AllLeave};
+ghost use Rattle.daemon_endpoints.specs.Receiving.{MayReceive, HasHeard};
 
-use crate::clocks::Clocks;
+use crate::arrival::Arrival;
 use crate::receiving::ReceiveError;
 use access_records::{AccessRecord, Address};
 use client_limits::Limiter;
+use client_service::Admission;
 use daemon_io::Datagrams;
 use dhcp6_pd::{ClientKind, PdError, PdFault, ServerKind};
 use disk_model::Folder;
 use lead_time::{Reading, Transit};
 use order_book::Book;
 use server_book::ReplyPolicy;
+use server_clocks::{Clocks, Moment};
 use server_core::{DatagramOutcome, HeldAnswer, ServerCore};
 use server_log::{Log, LogEvent};
 use server_status::Traffic;
 use std::alloc::{AllocError, Global};
 use std::mem;
+use std::time::{Duration, Instant};
 
 /// The longest datagram, in octets.
 const LONGEST: usize = 65_535;
@@ -26,13 +29,16 @@ const LONGEST: usize = 65_535;
 /// How many datagrams are heard in one turn, at most: their lines are put to the disk together.
 const MOST_HEARD: usize = 256;
 
+/// How many milliseconds an answer may wait, where the settings have no transit.
+const LONGEST_WITHOUT_TRANSIT: u64 = 1000;
+
 /// The clients of a server and their relays.
 #[derive(Drop)]
 pub struct ClientEndpoint<G: Datagrams> {
     alloc: Global,
     datagrams: G,
     buffer: Vec<u8>,
-    /// How long an answer may be under way: one whose lines were on the disk later isn't sent.
+    /// How long an answer may be under way to its client.
     transit: Transit,
     traffic: Traffic,
     /// The types of the answers that are held back, in their order.
@@ -63,6 +69,34 @@ fn source_of<G: Datagrams>(peer: &G::Peer) -> Option<Address> {
     Some(Address(u128::from_be_bytes(octets)))
 }
 
+/// What the clocks read now: `Clock` where one tells no time.
+fn read_clocks<C: Clocks>(clocks: &C) -> Result<Moment, ReceiveError>
+    ensures { IfOk result C.gives }
+{
+    match clocks.now() {
+        Some(now) => Ok(now),
+        None => Err(ReceiveError::Clock),
+    }
+}
+
+/// Hears a datagram: its orders are done at the reading of when it was heard.
+fn hear<F: Folder + Drop, P: Drop, A: Admission>(
+    running: &mut ServerCore<F, Arrival<P>>,
+    admission: &mut A,
+    manner: &ReplyPolicy,
+    datagram: &[u8],
+    peer: P,
+    heard: Moment,
+) -> DatagramOutcome
+where
+    F::File: Drop,
+    ensures { HasHeard (λ m. m ≡ heard) running.old running.new }
+{
+    let reading = heard.reading;
+    let arrival = Arrival { peer, heard };
+    running.handle_datagram(admission, manner, reading, datagram, arrival)
+}
+
 impl<G: Datagrams> ClientEndpoint<G> {
     /// Clients whose datagrams come there, and who may order what this lets them. An error where a growth was refused.
     pub fn new(
@@ -70,7 +104,10 @@ impl<G: Datagrams> ClientEndpoint<G> {
         datagrams: G,
         transit: Transit,
         limiter: Limiter,
-    ) -> Result<ClientEndpoint<G>, AllocError> {
+    ) -> Result<ClientEndpoint<G>, AllocError>
+        ensures datagrams { IfOk result (λ c. c.datagrams ≡ datagrams) }
+        ensures transit { IfOk result (λ c. c.transit ≡ transit) }
+    {
         Ok(ClientEndpoint {
             alloc,
             datagrams,
@@ -119,11 +156,11 @@ impl<G: Datagrams> ClientEndpoint<G> {
         }
     }
 
-    /// Hears the datagrams that have come, 256 at most. The clock is read behind each: a line that was written for it
+    /// Hears the datagrams that have come, 256 at most. The clocks are read after each: a line that was written for it
     /// mustn't be older than what it answers. Their answers are held back. Returns how many came.
     pub fn receive<F: Folder + Drop, C: Clocks, L: Print>(
         &mut self,
-        running: &mut ServerCore<F, G::Peer>,
+        running: &mut ServerCore<F, Arrival<G::Peer>>,
         manner: &ReplyPolicy,
         clocks: &C,
         log: &mut Log<'_, L>,
@@ -132,7 +169,7 @@ impl<G: Datagrams> ClientEndpoint<G> {
         F::File: Drop,
         ensures hears { MayReceive G.listens self.old.datagrams self.new.datagrams }
         ensures transit { self.new.transit ≡ self.old.transit }
-        ensures files { HasSameFiles running.old running.new }
+        ensures heard { HasHeard C.gives running.old running.new }
     {
         for count in 0..MOST_HEARD {
             let (length, peer) = match self.datagrams.receive(&mut self.buffer) {
@@ -140,21 +177,14 @@ impl<G: Datagrams> ClientEndpoint<G> {
                 Ok(None) => return Ok(count),
                 Err(error) => return Err(ReceiveError::Datagrams(error)),
             };
-            let Some(now) = clocks.now() else {
-                return Err(ReceiveError::Clock);
-            };
+            let now = read_clocks(clocks)?;
             let strays = self.limiter.moved_clients();
             self.limiter.comes_from(source_of::<G>(&peer));
+            let reading = now.reading;
             let datagram = &self.buffer[..length];
-            let heard = running.handle_datagram(
-                &mut self.limiter,
-                manner,
-                now.reading,
-                datagram,
-                peer,
-            );
-            self.count(&heard, now.reading, log);
-            self.log_moved_clients(strays, now.reading, log);
+            let outcome = hear(running, &mut self.limiter, manner, datagram, peer, now);
+            self.count(&outcome, reading, log);
+            self.log_moved_clients(strays, reading, log);
         }
         Ok(MOST_HEARD)
     }
@@ -192,51 +222,75 @@ impl<G: Datagrams> ClientEndpoint<G> {
         }
     }
 
-    /// Returns whether an answer may still leave by now, by what the clock read when its message came.
-    fn is_in_time(&self, read: Reading, now: Reading) -> bool
-        ensures { IsTrue result ↔ IsInTime self.now.transit read now }
+    /// How many milliseconds an answer may wait before it leaves: half of the transit, rounded up, since the other half
+    /// is the network's.
+    fn longest_wait(&self) -> u64
+        ensures { result ≡ longest_wait self.now.transit }
     {
-        let transit = self.transit.milliseconds();
-        transit == 0 || now.milliseconds() <= read.milliseconds().saturating_add(transit)
+        match self.transit.milliseconds() {
+            0 => LONGEST_WITHOUT_TRANSIT,
+            transit => (transit + 1) / 2,
+        }
     }
 
-    /// Sends an answer to who asked, and counts it, unless it is too late: that is told.
-    fn send_one<L: Print>(
+    /// Returns whether an answer may still leave now, by when its message was heard.
+    fn is_in_time(&self, heard: Instant, now: Instant) -> bool
+        ensures { IsTrue result ↔ IsInTime self.now.transit heard now }
+    {
+        now.duration_since(heard) <= Duration::from_millis(self.longest_wait())
+    }
+
+    /// Notes that an answer isn't sent, since it is too late.
+    fn note_late<L: Print>(&mut self, now: Reading, log: &mut Log<'_, L>)
+        ensures { (self.new.datagrams ≡ self.old.datagrams) × (self.new.transit ≡ self.old.transit) }
+    {
+        self.traffic.late = self.traffic.late.saturating_add(1);
+        log.log_limited(&LogEvent::Late, now);
+    }
+
+    /// Sends an answer to who asked, and counts it, unless it is too late by now: that is told. The clocks are read just
+    /// before.
+    fn send_one<C: Clocks, L: Print>(
         &mut self,
-        held: &HeldAnswer<G::Peer>,
+        held: &HeldAnswer<Arrival<G::Peer>>,
         kind: Option<ServerKind>,
-        now: Reading,
+        clocks: &C,
         log: &mut Log<'_, L>,
     )
-        ensures leaves { Leaves G.sends self.old.transit now self.old.datagrams held.now self.new.datagrams }
+        ensures leaves { Leaves C.gives C.fails G.sends self.old.transit self.old.datagrams held.now
+            self.new.datagrams }
         ensures transit { self.new.transit ≡ self.old.transit }
     {
-        if !self.is_in_time(held.read, now) {
-            self.traffic.late = self.traffic.late.saturating_add(1);
-            log.log_limited(&LogEvent::Late, now);
+        let Some(now) = clocks.now() else {
+            self.note_late(held.read, log);
+            return;
+        };
+        let arrival = held.answer.peer();
+        if !self.is_in_time(arrival.heard.instant, now.instant) {
+            self.note_late(now.reading, log);
             return;
         }
-        self.datagrams
-            .send(held.answer.peer(), held.answer.octets());
+        self.datagrams.send(&arrival.peer, held.answer.octets());
         if let Some(kind) = kind {
             self.traffic.answers.add(kind);
         }
     }
 
     /// Sends the answers that were held back, each to who asked, but for those that are too late.
-    pub fn send<L: Print>(
+    pub fn send<C: Clocks, L: Print>(
         &mut self,
-        answers: &[HeldAnswer<G::Peer>],
-        now: Reading,
+        answers: &[HeldAnswer<Arrival<G::Peer>>],
+        clocks: &C,
         log: &mut Log<'_, L>,
     )
-        ensures leave { AllLeave G.sends self.old.transit now self.old.datagrams answers.now self.new.datagrams }
+        ensures leave { AllLeave C.gives C.fails G.sends self.old.transit self.old.datagrams answers.now
+            self.new.datagrams }
         ensures transit { self.new.transit ≡ self.old.transit }
     {
         let kinds = mem::replace(&mut self.held, Vec::new(self.alloc));
         let mut kinds = kinds.into_iter();
         for held in answers {
-            self.send_one(held, kinds.next(), now, log);
+            self.send_one(held, kinds.next(), clocks, log);
         }
     }
 }

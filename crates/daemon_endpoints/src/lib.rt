@@ -14,16 +14,16 @@
 //! ```
 #![tactic(auto)]
 
+mod arrival;
 mod clients;
-mod clocks;
 mod control_server;
 mod partner;
 mod peer_connection;
 mod receiving;
 mod sending;
 
+pub use arrival::Arrival;
 pub use clients::ClientEndpoint;
-pub use clocks::{Clocks, Moment, SystemClocks};
 pub use control_server::ControlServer;
 pub use partner::PartnerEndpoint;
 pub use receiving::ReceiveError;

@@ -5,7 +5,6 @@ ghost use Rattle.daemon_io.specs.ConnectionWrites.{IsUnused};
 ghost use Rattle.daemon_endpoints.specs.Receiving.{HasSameFiles};
 ghost use Rattle.daemon_endpoints.specs.Saying.{frames_of, SaysOver, StandsOn, MayStand};
 
-use crate::clocks::{Clocks, Moment};
 use crate::peer_connection::{PeerConnection, parting_of};
 use crate::receiving::ReceiveError;
 use daemon_io::{Connection, ConnectionSource, PeerRejected, PendingPeers};
@@ -14,6 +13,7 @@ use failover_session::{OutboundFrame, SessionStage};
 use lead_time::Reading;
 use link_auth::{EntryFault, PeerAuthenticator};
 use order_book::Order;
+use server_clocks::{Clocks, Moment};
 use server_core::ServerCore;
 use server_log::{DisconnectReason, Log, LogEvent};
 use server_settings::Settings;

@@ -8,7 +8,6 @@ ghost use Rattle.daemon_endpoints.specs.Saying.{frames_of, AreGiven, AreFirstGiv
 ghost use Rattle.failover_message.specs.declared.frame.Frame.{Frame as FrameValue};
 ghost use Rattle.server_log.specs.declared.log_event.DisconnectReason.TheVariants.{Lost as HasLost};
 
-use crate::clocks::{Clocks, Moment};
 use crate::receiving::ReceiveError;
 use binding_rules::Counter;
 use daemon_io::{Connection, ConnectionLost, ConnectionSource, IdleSecond, ReadOutcome};
@@ -16,6 +15,7 @@ use disk_model::Folder;
 use failover_message::{Frame, FrameKind, encode};
 use failover_session::{LinkInput, OutboundFrame, SessionError, SessionStage};
 use lead_time::Reading;
+use server_clocks::{Clocks, Moment};
 use server_core::ServerCore;
 use server_log::{DisconnectReason, Log, LogEvent};
 use server_settings::Settings;

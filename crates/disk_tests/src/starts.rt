@@ -66,8 +66,14 @@ const MORE: &str =
 
 /// Folders, settings and readings of the clock, and what a server does with them. The skew is 500 ms, so that a clock
 /// may be 1000 ms behind the last line and no more.
-const STARTS: [(&[&[u8]], &str, u64, &str); 12] = [
+const STARTS: [(&[&[u8]], &str, u64, &str); 13] = [
     (&[], NONE, 0, "the first book is opened"),
+    (
+        &[],
+        OTHER,
+        0,
+        "transit_ms: wants 1 to 3600000 in a new directory, has 0",
+    ),
     (&[OPEN], SAME, 12000, "goes on with 5 12000 restart 2"),
     (&[OPEN], SAME, 9000, "goes on with 5 10000 restart 2"),
     (

@@ -70,6 +70,11 @@ pub with_ok : {A B : Type 0} (P Q : A → Type 0) (x : Result A B) → ((a : A) 
 with_ok P Q (Ok a) all has = all a has
 with_ok P Q (Err e) all has = tt
 
+pub with_both : {A B : Type 0} (P Q R : A → Type 0) (x : Result A B) → ((a : A) → P a → Q a → R a) → IfOk x P
+    → IfOk x Q → IfOk x R
+with_both P Q R (Ok a) all has too = all a has too
+with_both P Q R (Err e) all has too = tt
+
 pub of_ok : {A B : Type 0} (P : A → Type 0) (x y : Result A B) (a : A) → y ≡ x → y ≡ Ok a → IfOk x P → P a
 of_ok P x y a same is has = subst (λ z. IfOk z P) (sym same ∙ is) has
 

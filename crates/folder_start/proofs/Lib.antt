@@ -1,2 +1,3 @@
-mod Allowed
-mod Done
+pub mod Allowed
+pub mod Done
+pub mod Begun

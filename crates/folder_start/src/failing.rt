@@ -48,6 +48,9 @@ pub enum StartFailure {
     /// The files can't be read.
     #[error("the volumes can't be read: {0}")]
     Unread(io::Error),
+    /// A clock tells no time.
+    #[error("the clock tells no time")]
+    Clock,
     /// The folder leads to no book.
     #[error("{0}")]
     Folder(FolderRecoveryError),

@@ -15,7 +15,9 @@ use Rattle.server_core.specs.ServerStates.{CoreState}
 use Rattle.server_core.specs.Committing.{IsRolled}
 use Rattle.server_core.specs.Servers.{IsServers}
 use Rattle.server_core.specs.Laws.{StaysServers, CommitsKeep, RollsKeep}
-use Rattle.daemon_endpoints.specs.Receiving.{HasSameFiles}
+use Rattle.server_clocks.specs.declared.clocks.Moment.{Moment}
+use Rattle.daemon_endpoints.specs.declared.arrival.Arrival.{Arrival}
+use Rattle.daemon_endpoints.specs.Receiving.{HasSameFiles, HasHeard}
 use Rattle.node_daemon.specs.Turning.{Ways, IsTurn, Turns, none, more, HasTurned}
 use Rattle.node_daemon.specs.Lasting.{Keeps, goes_on, rolls, Lasts, at_first, one_more, HasLasted}
 
@@ -32,27 +34,41 @@ same_servers role earlier files j old new same is = record {
   count = ap (λ (names : List NameCall). (names_after names).files) same.names ∙ is.count;
 }
 
+-- what was heard keeps them
+heard_servers : {P : Type 0} (gives : Moment → Type 0) (role : Role) (earlier : List VolumeSoFar)
+    (files : List (List Call)) (j : Journal) (old new : CoreState (Arrival P)) → HasHeard gives old new
+    → IsServers role earlier files j old.names old.volume → IsServers role earlier files j new.names new.volume
+heard_servers gives role earlier files j old new same is = record {
+  are = is.are;
+  ended = is.ended;
+  has = subst (λ (calls : List Call). HasSettled calls (text_lines (so_far j))) (sym same.calls) is.has;
+  kept = same.kept ∙ is.kept;
+  named = subst (λ (names : List NameCall). AreSettled names) (sym same.names) is.named;
+  count = ap (λ (names : List NameCall). (names_after names).files) same.names ∙ is.count;
+}
+
 with_names : (role : Role) (earlier : List VolumeSoFar) (files : List (List Call)) (j : Journal)
     (names now : List NameCall) (v : WriterState) → now ≡ names → IsServers role earlier files j names v
     → IsServers role earlier files j now v
 with_names role earlier files j names now v same is =
     subst (λ (ns : List NameCall). IsServers role earlier files j ns v) (sym same) is
 
-module _ {P Line : Type 0} (settle_law : CommitsKeep) (roll_law : RollsKeep) (Listens : Line → Line → Type 0)
-    (Sends : Line → P → List ℕ → Line → Type 0) (transit : ℕ) (first : Ways Line) (begun : CoreState P) (role : Role)
-    (earlier : List VolumeSoFar) (files : List (List Call)) (j : Journal) where
+module _ {P Line : Type 0} (settle_law : CommitsKeep) (roll_law : RollsKeep) (gives : Moment → Type 0) (fails : Type 0)
+    (Listens : Line → Line → Type 0) (Sends : Line → P → List ℕ → Line → Type 0) (transit : ℕ) (first : Ways Line)
+    (begun : CoreState (Arrival P)) (role : Role) (earlier : List VolumeSoFar) (files : List (List Call))
+    (j : Journal) where
   -- what is reached by turns, and by which
-  record Reached (way : Ways Line) (reached : CoreState P) : Type 0 where
+  record Reached (way : Ways Line) (reached : CoreState (Arrival P)) : Type 0 where
     ended : List VolumeSoFar
     settled : List (List Call)
     journal : Journal
-    lasts : Lasts Listens Sends transit first begun role earlier files j way reached ended settled journal
+    lasts : Lasts gives fails Listens Sends transit first begun role earlier files j way reached ended settled journal
     is : IsServers role ended settled journal reached.names reached.volume
 
-  module _ (way : Ways Line) (old : CoreState P) (next : Ways Line) (new : CoreState P) (r : Reached way old)
-      (turn : IsTurn Listens Sends transit way old next new) where
+  module _ (way : Ways Line) (old : CoreState (Arrival P)) (next : Ways Line) (new : CoreState (Arrival P)) (r : Reached way old)
+      (turn : IsTurn gives fails Listens Sends transit way old next new) where
     heard : IsServers role r.ended r.settled r.journal turn.ready.names turn.ready.volume
-    heard = same_servers role r.ended r.settled r.journal old turn.ready turn.same r.is
+    heard = heard_servers gives role r.ended r.settled r.journal old turn.ready turn.same r.is
 
     -- behind a settle of these volumes
     reached_by : (ended : List VolumeSoFar) (settled : List (List Call)) (k : Journal)
@@ -74,7 +90,7 @@ module _ {P Line : Type 0} (settle_law : CommitsKeep) (roll_law : RollsKeep) (Li
     without_roll same =
         let stays = settle_law role r.ended r.settled r.journal turn.begun.names turn.begun.volume
         turn.tells.settled.volume
-        (subst (λ (s : CoreState P). IsServers role r.ended r.settled r.journal s.names s.volume) (sym same) heard)
+        (subst (λ (s : CoreState (Arrival P)). IsServers role r.ended r.settled r.journal s.names s.volume) (sym same) heard)
         turn.tells.settles.put in
         reached_by r.ended r.settled r.journal stays (goes_on stays)
 
@@ -95,15 +111,15 @@ module _ {P Line : Type 0} (settle_law : CommitsKeep) (roll_law : RollsKeep) (Li
       | inr rolled ↦ with_roll rolled
     ]
 
-  reached : (way : Ways Line) (s : CoreState P) → Turns Listens Sends transit first begun way s
+  reached : (way : Ways Line) (s : CoreState (Arrival P)) → Turns gives fails Listens Sends transit first begun way s
       → IsServers role earlier files j begun.names begun.volume → Reached way s
   reached _ _ none is = record { ended = earlier; settled = files; journal = j; lasts = at_first; is = is }
   reached _ _ (more way old next new before turn) is =
       reached_next way old next new (reached way old before is) turn
 
-  pub has_lasted : (last : Ways Line) → HasTurned Listens Sends transit first begun last
+  pub has_lasted : (last : Ways Line) → HasTurned gives fails Listens Sends transit first begun last
       → IsServers role earlier files j begun.names begun.volume
-      → HasLasted Listens Sends transit first begun last role earlier files j
+      → HasLasted gives fails Listens Sends transit first begun last role earlier files j
   has_lasted last turned is =
       let r = reached turned.0 turned.1 turned.2 is in
       record {

@@ -1,3 +1,4 @@
 pub mod Opened
 pub mod Turned
 mod Lasting
+pub mod Begun

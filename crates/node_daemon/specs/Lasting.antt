@@ -8,6 +8,8 @@ use Rattle.volume_store.specs.Volumes.{ended_volume}
 use Rattle.server_core.specs.ServerStates.{CoreState}
 use Rattle.server_core.specs.Servers.{IsServers}
 use Rattle.server_core.specs.Laws.{StaysServers, RollsServers}
+use Rattle.server_clocks.specs.declared.clocks.Moment.{Moment}
+use Rattle.daemon_endpoints.specs.declared.arrival.Arrival.{Arrival}
 use Rattle.node_daemon.specs.Turning.{Ways, IsTurn, SinceThen}
 
 -- What a turn keeps of a server's volumes, from where it has heard, over what it has begun, to where its lines are put:
@@ -25,29 +27,31 @@ pub data Keeps {P : Type 0} (role : Role) (earlier : List VolumeSoFar) (files : 
 
 -- Turns, one after the other, each of which keeps the server's volumes: which of them have ended by now, in which
 -- files, and the journal of the open one, as far as it is in its file.
-pub data Lasts {P Line : Type 0} (Listens : Line → Line → Type 0) (Sends : Line → P → List ℕ → Line → Type 0)
-    (transit : ℕ) (first : Ways Line) (begun : CoreState P) (role : Role) (earlier : List VolumeSoFar)
-    (files : List (List Call)) (j : Journal)
-    : Ways Line → CoreState P → List VolumeSoFar → List (List Call) → Journal → Type 0 where
-  at_first : Lasts Listens Sends transit first begun role earlier files j first begun earlier files j
-  one_more : (way : Ways Line) (old : CoreState P) (ended : List VolumeSoFar) (settled : List (List Call)) (k : Journal)
-      (next : Ways Line) (new : CoreState P) (ended_now : List VolumeSoFar) (settled_now : List (List Call))
-      → Lasts Listens Sends transit first begun role earlier files j way old ended settled k
-      → (turn : IsTurn Listens Sends transit way old next new)
+pub data Lasts {P Line : Type 0} (gives : Moment → Type 0) (fails : Type 0) (Listens : Line → Line → Type 0)
+    (Sends : Line → P → List ℕ → Line → Type 0) (transit : ℕ) (first : Ways Line) (begun : CoreState (Arrival P))
+    (role : Role) (earlier : List VolumeSoFar) (files : List (List Call)) (j : Journal)
+    : Ways Line → CoreState (Arrival P) → List VolumeSoFar → List (List Call) → Journal → Type 0 where
+  at_first : Lasts gives fails Listens Sends transit first begun role earlier files j first begun earlier files j
+  one_more : (way : Ways Line) (old : CoreState (Arrival P)) (ended : List VolumeSoFar) (settled : List (List Call))
+      (k : Journal) (next : Ways Line) (new : CoreState (Arrival P)) (ended_now : List VolumeSoFar)
+      (settled_now : List (List Call))
+      → Lasts gives fails Listens Sends transit first begun role earlier files j way old ended settled k
+      → (turn : IsTurn gives fails Listens Sends transit way old next new)
       → Keeps role ended settled k turn.ready turn.begun turn.tells.settled ended_now settled_now
-      → Lasts Listens Sends transit first begun role earlier files j next new ended_now settled_now
+      → Lasts gives fails Listens Sends transit first begun role earlier files j next new ended_now settled_now
       turn.tells.settled.volume.served.journal
 
 -- The volumes of a daemon that began with a server's are that server's: turns were made that kept them, and since the
 -- last one nothing was put to the disk.
-pub record HasLasted {P Line : Type 0} (Listens : Line → Line → Type 0) (Sends : Line → P → List ℕ → Line → Type 0)
-    (transit : ℕ) (first : Ways Line) (begun : CoreState P) (last : Ways Line) (role : Role) (earlier : List VolumeSoFar)
-    (files : List (List Call)) (j : Journal) : Type 0 where
+pub record HasLasted {P Line : Type 0} (gives : Moment → Type 0) (fails : Type 0) (Listens : Line → Line → Type 0)
+    (Sends : Line → P → List ℕ → Line → Type 0) (transit : ℕ) (first : Ways Line) (begun : CoreState (Arrival P))
+    (last : Ways Line) (role : Role) (earlier : List VolumeSoFar) (files : List (List Call)) (j : Journal)
+    : Type 0 where
   pub way : Ways Line
-  pub reached : CoreState P
+  pub reached : CoreState (Arrival P)
   pub ended : List VolumeSoFar
   pub settled : List (List Call)
   pub journal : Journal
-  pub lasts : Lasts Listens Sends transit first begun role earlier files j way reached ended settled journal
+  pub lasts : Lasts gives fails Listens Sends transit first begun role earlier files j way reached ended settled journal
   pub is : IsServers role ended settled journal reached.names reached.volume
   pub since : SinceThen Listens way last

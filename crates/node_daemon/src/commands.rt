@@ -7,13 +7,14 @@ ghost use Rattle.node_daemon.specs.declared.commands.RequestRefusal.TheVariants.
 use crate::daemon::Daemon;
 use crate::reporting::{standing_of, units_of, volume_of};
 use binding_rules::ServerState;
-use daemon_endpoints::{Clocks, Moment};
+use daemon_endpoints::Arrival;
 use daemon_io::{ConnectionSource, Control, Datagrams, Poller};
 use disk_files::AccessRecordStore;
 use disk_model::Folder;
 use lead_time::Reading;
 use locked_book::ServeError;
 use order_book::Order;
+use server_clocks::{Clocks, Moment};
 use server_core::ServerCore;
 use server_log::LogEvent;
 use server_status::{
@@ -75,7 +76,7 @@ impl<
     /// Hears one request, if one has come, and does it; its answer is held back. Returns whether one had come.
     pub(crate) fn handle_request<F: Folder + Drop>(
         &mut self,
-        running: &mut ServerCore<F, G::Peer>,
+        running: &mut ServerCore<F, Arrival<G::Peer>>,
         now: &Moment,
     ) -> bool
     where
@@ -109,7 +110,7 @@ impl<
     fn done<F: Folder + Drop>(
         &mut self,
         request: ControlRequest,
-        running: &mut ServerCore<F, G::Peer>,
+        running: &mut ServerCore<F, Arrival<G::Peer>>,
         now: &Moment,
     ) -> Result<String, RequestRefusal>
     where
@@ -143,7 +144,7 @@ impl<
     fn stop<F: Folder + Drop>(
         &mut self,
         leave: ShutdownMode,
-        running: &mut ServerCore<F, G::Peer>,
+        running: &mut ServerCore<F, Arrival<G::Peer>>,
         now: &Moment,
     ) -> Result<(), RequestRefusal>
     where
@@ -163,7 +164,7 @@ impl<
     /// Begins the next volume in this turn, where the rules let.
     fn ask_roll<F: Folder + Drop>(
         &mut self,
-        running: &ServerCore<F, G::Peer>,
+        running: &ServerCore<F, Arrival<G::Peer>>,
     ) -> Result<(), RequestRefusal>
     where
         F::File: Drop,
@@ -182,7 +183,7 @@ impl<
     /// Takes the partner for down, unless there is a connection with it.
     fn take_for_down<F: Folder + Drop>(
         &mut self,
-        running: &mut ServerCore<F, G::Peer>,
+        running: &mut ServerCore<F, Arrival<G::Peer>>,
         now: &Moment,
     ) -> Result<(), RequestRefusal>
     where
@@ -211,7 +212,7 @@ impl<
     /// How the server is.
     fn status<F: Folder + Drop>(
         &self,
-        running: &ServerCore<F, G::Peer>,
+        running: &ServerCore<F, Arrival<G::Peer>>,
         now: &Moment,
     ) -> Result<ServerStatus, AllocError>
     where

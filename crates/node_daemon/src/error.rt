@@ -1,9 +1,11 @@
 //! Why a daemon ends by itself.
 
 use daemon_endpoints::ReceiveError;
-use folder_start::RollFailure;
+use disk_files::FolderError;
+use folder_start::{RollFailure, StartFailure};
 use server_core::{EndFault, VolumeCommitError};
 use std::io;
+use std::net::SocketAddr;
 use thiserror::Error;
 
 /// Why a daemon ended by itself: it has to be started again.
@@ -44,5 +46,40 @@ impl DaemonError {
                 | DaemonError::NotEnded(_)
                 | DaemonError::NotRolled(RollFailure::NotEnded(_) | RollFailure::NotBegun)
         )
+    }
+}
+
+/// Why a directory isn't served, or isn't served any more.
+#[derive(Debug, Drop, Error)]
+pub enum ServeFailure {
+    /// The directory isn't opened: another process has the lock, say.
+    #[error("{0}")]
+    Folder(FolderError),
+    /// The server doesn't start with what the directory has.
+    #[error("{0}")]
+    Start(StartFailure),
+    /// A socket can't be opened at this address.
+    #[error("can't listen at {address}: {error}")]
+    Listen {
+        address: SocketAddr,
+        error: io::Error,
+    },
+    /// The control socket can't be made.
+    #[error("the control socket can't be made: {0}")]
+    Control(io::Error),
+    /// The daemon ended by itself.
+    #[error("{0}")]
+    Ended(DaemonError),
+}
+
+impl ServeFailure {
+    /// Why a server doesn't start.
+    pub(crate) fn of_start(failure: StartFailure) -> ServeFailure {
+        match failure {
+            StartFailure::Clock => {
+                ServeFailure::Ended(DaemonError::Hearing(ReceiveError::Clock))
+            }
+            failure => ServeFailure::Start(failure),
+        }
     }
 }

@@ -19,6 +19,7 @@
 //! ```
 #![tactic(auto)]
 
+mod beginning;
 mod commands;
 mod daemon;
 mod error;
@@ -27,5 +28,5 @@ mod reporting;
 mod serving;
 
 pub use daemon::Daemon;
-pub use error::DaemonError;
-pub use serving::{CONTROL, ServeFailure, serve};
+pub use error::{DaemonError, ServeFailure};
+pub use serving::{CONTROL, serve};

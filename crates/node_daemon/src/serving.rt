@@ -1,82 +1,40 @@
 //! The daemon of a directory: the system's files, sockets and clocks.
 
 ghost use Rattle.std.specs.Prelude.{◌≡◌, [], ◌∷◌, IfOk};
-ghost use Rattle.disk_model.specs.Names.{held};
+ghost use Rattle.disk_model.specs.Names.{held, names_after, AreSettled};
+ghost use Rattle.disk_files.specs.declared.file.RealFile.{RealFile as FileValue};
+ghost use Rattle.folder_start.specs.Reading.{IsOpened};
 
-use crate::daemon::Daemon;
-use crate::error::DaemonError;
-use crate::reporting::head_lines_of;
+use crate::beginning::{Devices, pairing_of, serve_folder};
+use crate::error::{DaemonError, ServeFailure};
 use binding_rules::Role;
-use client_limits::{Limiter, Limits};
-use daemon_endpoints::{
-    ClientEndpoint, Clocks, ControlServer, Moment, PartnerEndpoint, ReceiveError, SystemClocks,
-};
+use daemon_endpoints::ReceiveError;
 use daemon_io::{ControlSocket, PollRegistry, Readiness, SystemConnectionSource, UdpDatagrams};
 use disk_files::{AccessRecordFolder, FolderError, RealFolder, RealVolumes};
-use folder_start::{Pairing, StartFailure, StartMode, Started, start};
-use link_auth::{HandshakeRole, LinkKey, PeerAuthenticator};
-use order_book::Book;
+use folder_start::{FolderRead, read_folder};
+use link_auth::LinkKey;
 use serve_settings::ServeSettings;
-use server_log::{Log, LogEvent, StateWatch};
-use server_settings::Settings;
-use server_status::SyncTimes;
-use server_timers::OperatorRequest;
-use std::alloc::{AllocError, Global};
+use server_clocks::{Clocks, Moment, SystemClocks};
+use server_log::{Log, LogEvent};
+use std::alloc::Global;
+use std::fs;
 use std::fs::Files;
 use std::net::{Net, SocketAddr};
 use std::path::Path;
 use std::random::RandomSource;
 use std::sync::Wait;
 use std::time::Clock as Handle;
-use std::{fs, io};
-use thiserror::Error;
 
 /// The name of the control socket in its directory.
 pub const CONTROL: &str = "control";
 
-/// The daemon over the system's sockets and clocks.
-type SystemDaemon<'a, R, L> = Daemon<
-    'a,
+/// The system's sockets of a daemon.
+type SystemDevices<'a, R> = Devices<
     UdpDatagrams,
     SystemConnectionSource<'a, R>,
     ControlSocket,
-    SystemClocks<'a, R>,
     Readiness,
-    AccessRecordFolder,
-    L,
 >;
-
-/// Why a directory isn't served, or isn't served any more.
-#[derive(Debug, Drop, Error)]
-pub enum ServeFailure {
-    /// The directory isn't opened: another process has the lock, say.
-    #[error("{0}")]
-    Folder(FolderError),
-    /// The server doesn't start with what the directory has.
-    #[error("{0}")]
-    Start(StartFailure),
-    /// A socket can't be opened at this address.
-    #[error("can't listen at {address}: {error}")]
-    Listen {
-        address: SocketAddr,
-        error: io::Error,
-    },
-    /// The control socket can't be made.
-    #[error("the control socket can't be made: {0}")]
-    Control(io::Error),
-    /// The daemon ended by itself.
-    #[error("{0}")]
-    Ended(DaemonError),
-}
-
-/// What a daemon hears and tells by.
-#[derive(Drop)]
-struct Sockets<'a, R: Net + RandomSource> {
-    datagrams: UdpDatagrams,
-    door: SystemConnectionSource<'a, R>,
-    control: ControlSocket,
-    rest: Readiness,
-}
 
 /// The directory of a server, which this process alone writes to.
 fn folder_of(rt: &HostRuntime, directory: &str) -> Result<RealFolder, ServeFailure> {
@@ -106,28 +64,6 @@ fn access_in(
         Ok(folder) => Ok(AccessRecordFolder::new(*rt, folder, role)),
         Err(error) => Err(ServeFailure::Folder(FolderError::System(error))),
     }
-}
-
-/// What a server lets its clients order, by its limits, its book, and what was kept beside the open volume.
-fn limiter_of<L: Print>(
-    alloc: Global,
-    limits: Limits,
-    keeper: &AccessRecordFolder,
-    book: &Book,
-    log: &Log<'_, L>,
-) -> Limiter {
-    let mut limiter = Limiter::new(alloc, limits);
-    let records = match keeper.read_records(book.head().volume()) {
-        Ok(records) => records,
-        Err(_) => {
-            log.log(&LogEvent::AccessUnread);
-            Vec::new(alloc)
-        }
-    };
-    if limiter.restore(book, records).is_err() {
-        log.log(&LogEvent::AccessUnread);
-    }
-    limiter
 }
 
 /// What the clocks read, or that they tell no time.
@@ -203,7 +139,7 @@ fn open_sockets<'a, R: Files + Net + RandomSource, L: Print>(
     settings: &ServeSettings,
     now: &Moment,
     log: &Log<'_, L>,
-) -> Result<Sockets<'a, R>, ServeFailure> {
+) -> Result<SystemDevices<'a, R>, ServeFailure> {
     let rest = readiness(rt, alloc)?;
     let node = &settings.node;
     let address = node.ways.listen;
@@ -221,7 +157,7 @@ fn open_sockets<'a, R: Files + Net + RandomSource, L: Print>(
         log,
     )?;
     let control = control_of(rt, alloc, directory, watched_by(&rest)?)?;
-    Ok(Sockets {
+    Ok(Devices {
         datagrams,
         door,
         control,
@@ -229,100 +165,32 @@ fn open_sockets<'a, R: Files + Net + RandomSource, L: Print>(
     })
 }
 
-/// Starts the server of a directory.
+/// Reads all that a start needs of a server's volumes.
 #[tactic(auto, using(crate::proofs::Opened::held_is_settled, crate::proofs::Opened::held_count))]
-fn start_server(
+fn read_volumes<C: Clocks>(
     alloc: Global,
     volumes: RealVolumes,
-    settings: &Settings,
-    renew_floor: u32,
-    pairing: Pairing,
-    now: &Moment,
-) -> Result<Started<RealVolumes, SocketAddr>, ServeFailure>
+    settings: &ServeSettings,
+    clocks: &C,
+) -> Result<FolderRead<RealVolumes>, ServeFailure>
     requires { volumes.noted.calls ≡ held volumes.count ∷ [] }
+    ensures names { IfOk result (λ r. AreSettled r.folder.noted.calls) }
+    ensures files { IfOk result (λ r. (names_after r.folder.noted.calls).files ≡ r.found.volumes) }
+    ensures opened { IfOk result (λ r. IsOpened (λ (f : FileValue). f.noted.calls) r.last) }
 {
     let count = volumes.count();
-    match start(
+    let pairing = pairing_of(settings.node.ways.link);
+    match read_folder(
         alloc,
         volumes,
         count,
-        settings,
-        renew_floor,
+        &settings.node.server,
         pairing,
-        now.reading,
+        clocks,
     ) {
-        Ok(started) => Ok(started),
-        Err(error) => Err(ServeFailure::Start(error)),
+        Ok(read) => Ok(read),
+        Err(error) => Err(ServeFailure::of_start(error)),
     }
-}
-
-/// Whether a server has a partner, by where its link is.
-fn pairing_of(link: Option<SocketAddr>) -> Pairing {
-    match link {
-        Some(_) => Pairing::Paired,
-        None => Pairing::Alone,
-    }
-}
-
-/// Tells with what a server has started.
-fn tell_start<L: Print>(log: &Log<'_, L>, started: &Started<RealVolumes, SocketAddr>) {
-    if started.torn > 0 {
-        log.log(&LogEvent::Cut {
-            octets: started.torn,
-        });
-    }
-    let volume = started.running.book().head().volume();
-    log.log(&match started.began {
-        StartMode::First | StartMode::Next => LogEvent::Begins { volume },
-        StartMode::Again => LogEvent::GoesOn {
-            volume,
-            lines: started.running.kept(),
-        },
-    });
-}
-
-/// How a server lets its partner in: the primary calls, and the secondary is called.
-fn keeper_of(role: Role, key: Option<LinkKey>) -> PeerAuthenticator {
-    let side = match role {
-        Role::Primary => HandshakeRole::Initiator,
-        Role::Secondary => HandshakeRole::Responder,
-    };
-    PeerAuthenticator { side, key }
-}
-
-/// The daemon of settings and sockets, for a server that has this book.
-fn daemon_of<'a, R: Net + RandomSource + Handle, L: Print>(
-    rt: &'a R,
-    alloc: Global,
-    settings: &'a ServeSettings,
-    key: Option<LinkKey>,
-    sockets: Sockets<'a, R>,
-    keeper: AccessRecordFolder,
-    book: &Book,
-    log: Log<'a, L>,
-) -> Result<SystemDaemon<'a, R, L>, AllocError> {
-    let server = &settings.node.server;
-    let limiter = limiter_of(alloc, settings.quotas, &keeper, book, &log);
-    Ok(Daemon {
-        alloc,
-        settings: server,
-        manner: &settings.reply_policy,
-        upkeep: settings.upkeep,
-        clients: ClientEndpoint::new(alloc, sockets.datagrams, server.transit(), limiter)?,
-        partner: PartnerEndpoint::new(alloc, sockets.door, keeper_of(server.role(), key))?,
-        desk: ControlServer::new(alloc, sockets.control),
-        clocks: SystemClocks::new(rt),
-        rest: sockets.rest,
-        keeper,
-        log,
-        watch: StateWatch::new(),
-        syncs: SyncTimes::new(alloc),
-        told: OperatorRequest::Nothing,
-        is_alone: settings.node.ways.link.is_none(),
-        leave: None,
-        head_lines: head_lines_of(book),
-        is_idle: false,
-    })
 }
 
 /// Removes the control socket of a server that stopped as it was told: all that it wrote is on the disk, and a socket
@@ -335,7 +203,8 @@ fn remove_control<R: Files>(rt: &R, alloc: Global, directory: &str) {
 
 /// Serves a directory by settings until a person tells it to stop. Where there is a key of the link, nobody is taken
 /// for the partner who hasn't it. What happens meanwhile is told in notes, a line each. The refusals are those of
-/// [`ServeFailure`]. Both handles are of one runtime.
+/// [`ServeFailure`]: where the server may not start, nothing was made. Both handles are of one runtime. What is done
+/// behind that is [`serve_folder`]'s.
 pub fn serve<R: Wait + Files + Net + RandomSource + Handle, L: Print>(
     rt: &HostRuntime,
     handles: &R,
@@ -344,42 +213,19 @@ pub fn serve<R: Wait + Files + Net + RandomSource + Handle, L: Print>(
     key: Option<LinkKey>,
     notes: &L,
 ) -> Result<(), ServeFailure> {
-    let server = &settings.node.server;
+    let role = settings.node.server.role();
     let alloc = rt.alloc();
     let log = Log::new(alloc, notes);
     let folder = folder_of(rt, directory)?;
-    let keeper = access_in(rt, &folder, server.role())?;
-    let volumes = opened(rt, folder, server.role())?;
-    let now = moment(&SystemClocks::new(handles))?;
-    let sockets = open_sockets(handles, alloc, directory, settings, &now, &log)?;
-    let started = start_server(
-        alloc,
-        volumes,
-        server,
-        settings.renew_floor,
-        pairing_of(settings.node.ways.link),
-        &now,
+    let keeper = access_in(rt, &folder, role)?;
+    let volumes = opened(rt, folder, role)?;
+    let clocks = SystemClocks::new(handles);
+    let read = read_volumes(alloc, volumes, settings, &clocks)?;
+    let now = moment(&clocks)?;
+    let devices = open_sockets(handles, alloc, directory, settings, &now, &log)?;
+    serve_folder(
+        handles, alloc, read, settings, key, devices, clocks, keeper, log,
     )?;
-    tell_start(&log, &started);
-    if settings.node.ways.link.is_some() && key.is_none() {
-        log.log(&LogEvent::HasNoKey);
-    }
-    let Started { running, .. } = started;
-    let Ok(mut daemon) = daemon_of(
-        handles,
-        alloc,
-        settings,
-        key,
-        sockets,
-        keeper,
-        running.book(),
-        log,
-    ) else {
-        return Err(ServeFailure::Ended(DaemonError::Memory));
-    };
-    if let Err(error) = daemon.run(handles, running) {
-        return Err(ServeFailure::Ended(error));
-    }
     remove_control(handles, alloc, directory);
     Ok(())
 }

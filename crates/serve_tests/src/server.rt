@@ -1,13 +1,14 @@
 //! One server of the pair: its disk, which stays, and what runs over it until the disk fails.
 
 use crate::clients::{PromisedLease, request};
+use crate::clocks::StillClocks;
 use crate::disk::{Disk, Loss};
 use crate::folder::{DiskFolder, SharedDisk};
 use client_service::AllowAll;
 use disk_model::Folder;
 use failover_message::encode;
 use failover_session::{LinkInput, OutboundFrame, SessionStage};
-use folder_start::{Pairing, RollFailure, StartFailure, Started, start};
+use folder_start::{Pairing, RollFailure, StartFailure, Started, read_folder, start};
 use lead_time::Reading;
 use order_book::Order;
 use server_book::ReplyPolicy;
@@ -194,16 +195,13 @@ impl Server {
     #[tactic(auto, using(crate::proofs::Opened::held_is_settled, crate::proofs::Opened::held_count))]
     fn begin(&self, now: Reading) -> Result<Beginning, Fail> {
         let folder = DiskFolder::open(self.alloc, &self.disk)?;
-        let count = folder.count;
-        match start(
-            self.alloc,
-            folder,
-            count,
-            &self.settings,
-            RENEW_FLOOR,
-            Pairing::Paired,
-            now,
-        ) {
+        let (count, clocks) = (folder.count, StillClocks(now));
+        let (settings, pairing) = (&self.settings, Pairing::Paired);
+        let read = match read_folder(self.alloc, folder, count, settings, pairing, &clocks) {
+            Ok(read) => read,
+            Err(failure) => return beginning_of(failure),
+        };
+        match start(self.alloc, read, settings, RENEW_FLOOR, pairing, &clocks) {
             Ok(Started { running, .. }) => Ok(Beginning::Runs(running)),
             Err(failure) => beginning_of(failure),
         }

@@ -1,5 +1,5 @@
 -- What a server does at a start, by what its folder led to, its settings and its clock.
-use Rattle.std.specs.Prelude.{◌≡◌, ℕ, ◌+◌, ⊤, IsTrue}
+use Rattle.std.specs.Prelude.{◌≡◌, ℕ, ◌+◌, ◌≤◌, ⊤, IsTrue}
 use Rattle.journal_lines.specs.declared.event.Event.TheVariants.{Restart as RestartLine}
 use Rattle.journal_lines.specs.declared.line.Line.{Line}
 use Rattle.journal_lines.specs.declared.line.Journal.{Journal}
@@ -15,7 +15,7 @@ use Rattle.volume_store.specs.declared.step.ResumeStep.TheVariants.{End as EndOf
 use Rattle.server_start.specs.declared.setting.FixedSetting.{FixedSetting}
 use Rattle.server_start.specs.declared.error.StartError.{StartError}
 use Rattle.server_start.specs.declared.error.StartError.TheVariants.{Settings, ClockBehind, NoVolumeFollows, Refused}
-use Rattle.server_start.specs.declared.error.StartError.TheVariants.{Memory}
+use Rattle.server_start.specs.declared.error.StartError.TheVariants.{Memory, NoTransit}
 use Rattle.server_start.specs.declared.starting.StartAction.{StartAction}
 use Rattle.server_start.specs.declared.starting.StartAction.TheVariants.{First, GoOn, End, Next}
 use Rattle.server_start.specs.declared.setting.DifferingSettings.{DifferingSettings}
@@ -55,6 +55,25 @@ IsNotFit s j now (ClockBehind n last) = (n ≡ now) × HasClockBehind s j now la
 IsNotFit s j now Memory = ⊤
 IsNotFit s j now _ = ⊥
 
+-- A first volume is begun only by settings that have a transit, which the volumes have from then on; one that stands
+-- is started with as it is.
+abbrev pub MayBegin : ServerSettings → (now : ℕ) → ResumeStep → Type 0
+MayBegin s now BeginFirst = 1 ≤ s.transit
+MayBegin s now (GoOnWith j) = MayStart s j now
+MayBegin s now (EndOf j) = MayStart s j now
+MayBegin s now (BeginNext j) = MayStart s j now
+
+-- why none is begun
+abbrev pub LacksTransit : ServerSettings → StartError → Type 0
+LacksTransit s e = (e ≡ NoTransit) × (s.transit ≡ 0)
+
+-- why nothing may be begun, before anything is changed
+abbrev pub IsNoBeginning : ServerSettings → (now : ℕ) → ResumeStep → StartError → Type 0
+IsNoBeginning s now BeginFirst e = LacksTransit s e
+IsNoBeginning s now (GoOnWith j) e = IsNotFit s j now e
+IsNoBeginning s now (EndOf j) e = IsNotFit s j now e
+IsNoBeginning s now (BeginNext j) e = IsNotFit s j now e
+
 -- ---- the start
 
 -- a book that goes on has one line more, `restart`
@@ -67,7 +86,7 @@ IsFollowed s j now k = MayStart s j now × MayRoll j × (k ≡ j)
 
 -- what is done
 abbrev pub IsStart : ServerSettings → (now : ℕ) → ResumeStep → StartAction → Type 0
-IsStart s now BeginFirst First = ⊤
+IsStart s now BeginFirst First = 1 ≤ s.transit
 IsStart s now (GoOnWith j) (GoOn k) = IsGoneOn s j now k
 IsStart s now (EndOf j) (End k) = IsFollowed s j now k
 IsStart s now (BeginNext j) (Next k) = IsFollowed s j now k
@@ -83,9 +102,9 @@ abbrev pub IsNotFollowed : ServerSettings → Journal → (now : ℕ) → StartE
 IsNotFollowed s j now NoVolumeFollows = MayStart s j now × (MayRoll j → ⊥)
 IsNotFollowed s j now e = IsNotFit s j now e
 
--- Why nothing is done. A first volume is begun whatever the settings and the clock say.
+-- Why nothing is done. A first volume is begun whatever the clock says.
 abbrev pub IsNoStart : ServerSettings → (now : ℕ) → ResumeStep → StartError → Type 0
-IsNoStart s now BeginFirst e = ⊥
+IsNoStart s now BeginFirst e = LacksTransit s e
 IsNoStart s now (GoOnWith j) e = IsNotGoneOn s j now e
 IsNoStart s now (EndOf j) e = IsNotFollowed s j now e
 IsNoStart s now (BeginNext j) e = IsNotFollowed s j now e

@@ -26,6 +26,9 @@ pub enum StartError {
         now: Reading,
         last: Reading,
     },
+    /// The settings of a new directory have no transit: a lease would begin late by as long as its answer is under way.
+    #[error("transit_ms: wants 1 to 3600000 in a new directory, has 0")]
+    NoTransit,
     /// The last volume is closed, and none may follow it: the partner was taken for down, or hadn't acknowledged a unit
     /// that was seized from it.
     #[error("the last volume was closed while the partner was taken for down or had seized units to acknowledge: \

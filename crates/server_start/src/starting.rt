@@ -1,16 +1,17 @@
 //! What a server does at its start.
 
-ghost use Rattle.std.specs.Prelude.{◌≡◌, IfOk, IfErr, OnOk};
+ghost use Rattle.std.specs.Prelude.{◌≡◌, ◌≤◌, IfOk, IfErr, IsOk, OnOk};
+ghost use Rattle.server_start.specs.declared.error.StartError.TheVariants.{NoTransit};
 ghost use Rattle.order_book.specs.Replayed.{state_of};
 ghost use Rattle.order_book.specs.Answer.{IsRefusal};
 ghost use Rattle.server_start.specs.Starting.{HasRestarted, MayStart, IsNotFit, IsGoneOn, IsNotGoneOn, IsFollowed};
-ghost use Rattle.server_start.specs.Starting.{IsNotFollowed, IsStart, IsNoStart};
+ghost use Rattle.server_start.specs.Starting.{IsNotFollowed, IsStart, IsNoStart, MayBegin, IsNoBeginning};
 
 use crate::clock::reading_ahead;
 use crate::error::StartError;
 use crate::opened_settings::opening_of;
 use crate::setting::DifferingSettings;
-use lead_time::Reading;
+use lead_time::{Reading, Transit};
 use order_book::{Book, BookError, Order};
 use server_settings::Settings;
 use std::alloc::Global;
@@ -65,6 +66,37 @@ pub fn may_start(
     }
 }
 
+/// Asks whether a first volume may be begun by these settings: `NoTransit`.
+fn may_open(settings: &Settings) -> Result<(), StartError>
+    ensures may { IsOk result → 1 ≤ settings.now.transit }
+    ensures refused { IfErr result (λ e. (e ≡ NoTransit) × (settings.now.transit ≡ 0)) }
+{
+    if settings.transit() == Transit::ZERO {
+        Err(StartError::NoTransit)
+    } else {
+        Ok(())
+    }
+}
+
+/// Asks of settings and clock whether a server may start with what its folder led to, before anything is changed:
+/// `NoTransit` where there is no volume, else `Settings`, `ClockBehind`; `Memory` where a growth was refused.
+pub fn may_begin(
+    alloc: Global,
+    step: &ResumeStep,
+    settings: &Settings,
+    now: Reading,
+) -> Result<(), StartError>
+    ensures may { OnOk result (MayBegin settings.now now step.now) }
+    ensures refused { IfErr result (IsNoBeginning settings.now now step.now) }
+{
+    match step {
+        ResumeStep::BeginFirst => may_open(settings),
+        ResumeStep::GoOn(book) | ResumeStep::End(book) | ResumeStep::BeginNext(book) => {
+            may_start(alloc, book, settings, now)
+        }
+    }
+}
+
 /// The book that goes on.
 fn gone_on(alloc: Global, book: Book, settings: &Settings, now: Reading) -> Result<Book, StartError>
     ensures goes_on { IfOk result (IsGoneOn settings.now book now) }
@@ -99,7 +131,7 @@ fn followed(
 /// What a server of these settings does at a start with what its folder led to, where its clock reads `now`.
 ///
 /// The refusals, in their order: `Settings`, `ClockBehind`, then `Refused` of a book that would go on and
-/// `NoVolumeFollows` of a closed one; `Memory` where a growth was refused. None of them where there is no volume.
+/// `NoVolumeFollows` of a closed one; `Memory` where a growth was refused. Where there is no volume `NoTransit` alone.
 pub fn start_with(
     alloc: Global,
     step: ResumeStep,
@@ -110,7 +142,10 @@ pub fn start_with(
     ensures refused { IfErr result (IsNoStart settings.now now step) }
 {
     match step {
-        ResumeStep::BeginFirst => Ok(StartAction::First),
+        ResumeStep::BeginFirst => {
+            may_open(settings)?;
+            Ok(StartAction::First)
+        }
         ResumeStep::GoOn(book) => Ok(StartAction::GoOn(gone_on(alloc, book, settings, now)?)),
         ResumeStep::End(book) => Ok(StartAction::End(followed(alloc, book, settings, now)?)),
         ResumeStep::BeginNext(book) => Ok(StartAction::Next(followed(alloc, book, settings, now)?)),

@@ -60,6 +60,6 @@ macro_rules! settings {
 #[macro_export]
 macro_rules! pair_settings {
     ($role:literal, $pool:literal) => {
-        $crate::settings!($role, skew 2000, mclt 3600, life 3600, "", $pool)
+        $crate::settings!($role, skew 2000, mclt 3600, life 3600, "transit_ms = 2000\n", $pool)
     };
 }

@@ -6,6 +6,6 @@ use Rattle.daemon_endpoints.proofs.clients.ClientEndpoint.send.Given as goal
 abbrev pub invariant-loop-held : goal.invariant-loop-held
 invariant-loop-held g l = record {
   transit : l.self.transit ≡ l.initial.self.transit;
-  left : AllLeave g.G.Datagrams.sends l.initial.self.transit l.now l.initial.self.datagrams
-      (take l.held-index l.answers) l.self.datagrams;
+  left : AllLeave g.C.Clocks.gives g.C.Clocks.fails g.G.Datagrams.sends l.initial.self.transit
+      l.initial.self.datagrams (take l.held-index l.answers) l.self.datagrams;
 }

@@ -1,0 +1,280 @@
+//! The daemon of a folder that was read, over any devices: it starts the server, and runs.
+
+ghost use Rattle.std.specs.Prelude.{◌≡◌, ℕ, List, None, Ok, IfOk};
+ghost use Rattle.disk_model.specs.Names.{names_after, AreSettled};
+ghost use Rattle.volume_store.specs.Folder.{ResumesAsTold};
+ghost use Rattle.server_clocks.specs.declared.clocks.Moment.{Moment as MomentValue};
+ghost use Rattle.folder_start.specs.Keeping.{StartsWith};
+ghost use Rattle.folder_start.specs.Reading.{IsOpened};
+ghost use Rattle.folder_start.specs.Started.{HasBegun};
+ghost use Rattle.node_daemon.specs.Turning.{ways};
+ghost use Rattle.node_daemon.specs.Beginning.{pairing_by, HasRun};
+
+use crate::daemon::Daemon;
+use crate::error::{DaemonError, ServeFailure};
+use crate::reporting::head_lines_of;
+use binding_rules::Role;
+use client_limits::{Limiter, Limits};
+use daemon_endpoints::{Arrival, ClientEndpoint, ControlServer, PartnerEndpoint};
+use daemon_io::{ConnectionSource, Control, Datagrams, Poller};
+use disk_files::AccessRecordStore;
+use disk_model::Folder;
+use folder_start::{FolderRead, Pairing, StartMode, Started, start};
+use lead_time::Transit;
+use link_auth::{HandshakeRole, LinkKey, PeerAuthenticator};
+use order_book::Book;
+use serve_settings::ServeSettings;
+use server_clocks::Clocks;
+use server_core::ServerCore;
+use server_log::{Log, LogEvent, StateWatch};
+use server_status::SyncTimes;
+use server_timers::OperatorRequest;
+use std::alloc::{AllocError, Global};
+use std::net::SocketAddr;
+use std::sync::Wait;
+
+/// What a daemon hears and tells by, and rests by.
+#[derive(Drop)]
+pub(crate) struct Devices<G: Datagrams, D: ConnectionSource, K: Control, T: Poller> {
+    pub(crate) datagrams: G,
+    pub(crate) door: D,
+    pub(crate) control: K,
+    pub(crate) rest: T,
+}
+
+/// Whether a server has a partner, by where its link is.
+pub(crate) fn pairing_of(link: Option<SocketAddr>) -> Pairing
+    ensures { result ≡ pairing_by link }
+{
+    match link {
+        Some(_) => Pairing::Paired,
+        None => Pairing::Alone,
+    }
+}
+
+/// What a server lets its clients order, by its limits, its book, and what was kept beside the open volume.
+fn limiter_of<A: AccessRecordStore, L: Print>(
+    alloc: Global,
+    limits: Limits,
+    keeper: &A,
+    book: &Book,
+    log: &Log<'_, L>,
+) -> Limiter {
+    let mut limiter = Limiter::new(alloc, limits);
+    let records = match keeper.read_records(book.head().volume()) {
+        Ok(records) => records,
+        Err(_) => {
+            log.log(&LogEvent::AccessUnread);
+            Vec::new(alloc)
+        }
+    };
+    if limiter.restore(book, records).is_err() {
+        log.log(&LogEvent::AccessUnread);
+    }
+    limiter
+}
+
+/// Tells with what a server has started.
+fn tell_start<F: Folder + Drop, P: Drop, L: Print>(
+    log: &Log<'_, L>,
+    settings: &ServeSettings,
+    key: &Option<LinkKey>,
+    started: &Started<F, P>,
+)
+where
+    F::File: Drop,
+{
+    if started.torn > 0 {
+        log.log(&LogEvent::Cut {
+            octets: started.torn,
+        });
+    }
+    let volume = started.running.book().head().volume();
+    log.log(&match started.began {
+        StartMode::First | StartMode::Next => LogEvent::Begins { volume },
+        StartMode::Again => LogEvent::GoesOn {
+            volume,
+            lines: started.running.kept(),
+        },
+    });
+    if settings.node.server.transit() == Transit::ZERO {
+        log.log(&LogEvent::HasNoTransit);
+    }
+    if settings.node.ways.link.is_some() && key.is_none() {
+        log.log(&LogEvent::HasNoKey);
+    }
+}
+
+/// How a server lets its partner in: the primary calls, and the secondary is called.
+fn keeper_of(role: Role, key: Option<LinkKey>) -> PeerAuthenticator {
+    let side = match role {
+        Role::Primary => HandshakeRole::Initiator,
+        Role::Secondary => HandshakeRole::Responder,
+    };
+    PeerAuthenticator { side, key }
+}
+
+/// The daemon of settings and devices, for a server that has this book.
+fn daemon_of<
+    'a,
+    G: Datagrams,
+    D: ConnectionSource,
+    K: Control,
+    C: Clocks,
+    T: Poller,
+    A: AccessRecordStore,
+    L: Print,
+>(
+    alloc: Global,
+    settings: &'a ServeSettings,
+    key: Option<LinkKey>,
+    devices: Devices<G, D, K, T>,
+    clocks: C,
+    keeper: A,
+    book: &Book,
+    log: Log<'a, L>,
+) -> Result<Daemon<'a, G, D, K, C, T, A, L>, AllocError>
+    ensures datagrams { IfOk result (λ d. d.clients.datagrams ≡ devices.datagrams) }
+    ensures transit { IfOk result (λ d. d.clients.transit ≡ settings.now.node.server.transit) }
+    ensures link { IfOk result (λ d. d.partner ≡ None) }
+{
+    let server = &settings.node.server;
+    let limiter = limiter_of(alloc, settings.quotas, &keeper, book, &log);
+    let Devices {
+        datagrams,
+        door,
+        control,
+        rest,
+    } = devices;
+    Ok(Daemon {
+        alloc,
+        settings: server,
+        manner: &settings.reply_policy,
+        upkeep: settings.upkeep,
+        clients: ClientEndpoint::new(alloc, datagrams, server.transit(), limiter)?,
+        partner: PartnerEndpoint::new(alloc, door, keeper_of(server.role(), key))?,
+        desk: ControlServer::new(alloc, control),
+        clocks,
+        rest,
+        keeper,
+        log,
+        watch: StateWatch::new(),
+        syncs: SyncTimes::new(alloc),
+        told: OperatorRequest::Nothing,
+        is_alone: settings.node.ways.link.is_none(),
+        leave: None,
+        head_lines: head_lines_of(book),
+        is_idle: false,
+    })
+}
+
+/// Starts the server of a folder that was read, by what the clocks read now.
+fn start_server<F: Folder + Drop, P: Drop, C: Clocks>(
+    alloc: Global,
+    read: FolderRead<F>,
+    settings: &ServeSettings,
+    clocks: &C,
+) -> Result<Started<F, P>, ServeFailure>
+where
+    F::File: Drop,
+    requires names { AreSettled (F.calls read.folder) }
+    requires files { (names_after (F.calls read.folder)).files ≡ read.found.volumes }
+    requires opened { IsOpened F.File.calls read.last }
+    ensures begun { IfOk result (λ s. (now : MomentValue) × C.gives now
+        × HasBegun settings.now.node.server settings.now.renew_floor (pairing_by settings.now.node.ways.link)
+        now.reading read.found.step s.running) }
+    ensures keeps { IfOk result (λ s. (contents : List (List ℕ))
+        → ResumesAsTold settings.now.node.server.role contents (Ok read.found)
+        → StartsWith (λ x. x ≡ contents) settings.now.node.server.role s.running.names s.running.volume) }
+{
+    let pairing = pairing_of(settings.node.ways.link);
+    match start(
+        alloc,
+        read,
+        &settings.node.server,
+        settings.renew_floor,
+        pairing,
+        clocks,
+    ) {
+        Ok(started) => Ok(started),
+        Err(error) => Err(ServeFailure::of_start(error)),
+    }
+}
+
+/// Runs a daemon until it is told to stop.
+#[tactic(auto, using(crate::proofs::Begun::has_run))]
+fn run_daemon<
+    F: Folder + Drop,
+    G: Datagrams,
+    D: ConnectionSource,
+    K: Control,
+    C: Clocks,
+    T: Poller,
+    A: AccessRecordStore,
+    R: Wait,
+    L: Print,
+>(
+    rt: &R,
+    mut daemon: Daemon<'_, G, D, K, C, T, A, L>,
+    running: ServerCore<F, Arrival<G::Peer>>,
+) -> Result<(), ServeFailure>
+where
+    F::File: Drop,
+    ensures { IfOk result (λ _. HasRun C.gives C.fails G.listens G.sends daemon.entry.clients.transit
+        (ways daemon.entry.clients.datagrams daemon.entry.partner) running) }
+{
+    match daemon.run(rt, running) {
+        Ok(()) => Ok(()),
+        Err(error) => Err(ServeFailure::Ended(error)),
+    }
+}
+
+/// Serves with what was read of a folder until a person tells it to stop: it starts by what the clocks read now, and
+/// then runs, a turn after another. The refusals are `Start` and `Ended` of [`ServeFailure`].
+pub(crate) fn serve_folder<
+    F: Folder + Drop,
+    G: Datagrams,
+    D: ConnectionSource,
+    K: Control,
+    C: Clocks,
+    T: Poller,
+    A: AccessRecordStore,
+    R: Wait,
+    L: Print,
+>(
+    rt: &R,
+    alloc: Global,
+    read: FolderRead<F>,
+    settings: &ServeSettings,
+    key: Option<LinkKey>,
+    devices: Devices<G, D, K, T>,
+    clocks: C,
+    keeper: A,
+    log: Log<'_, L>,
+) -> Result<(), ServeFailure>
+where
+    F::File: Drop,
+    requires names { AreSettled (F.calls read.folder) }
+    requires files { (names_after (F.calls read.folder)).files ≡ read.found.volumes }
+    requires opened { IsOpened F.File.calls read.last }
+{
+    let started: Started<F, Arrival<G::Peer>> = start_server(alloc, read, settings, &clocks)?;
+    tell_start(&log, settings, &key, &started);
+    let Started { running, .. } = started;
+    let Ok(daemon) = daemon_of(
+        alloc,
+        settings,
+        key,
+        devices,
+        clocks,
+        keeper,
+        running.book(),
+        log,
+    ) else {
+        return Err(ServeFailure::Ended(DaemonError::Memory));
+    };
+    match run_daemon(rt, daemon, running) {
+        Ok(()) => Ok(()),
+        Err(failure) => Err(failure),
+    }
+}
