@@ -27,6 +27,7 @@ duid = "00030001020000000009"
 skew_ms = 2000
 mclt = {LIFE}
 life = {LIFE}
+transit_ms = 2000
 listen = "[2001:db8:ffff::1]:547"
 alone = true
 workers = 1

@@ -31,6 +31,7 @@ duid = "00030001020000000009"
 skew_ms = 2000
 mclt = {LIFE}
 life = {LIFE}
+transit_ms = 2000
 listen = "[{SERVER}]:{PORT}"
 alone = true
 workers = 1

@@ -26,7 +26,9 @@ import time
 HERE = pathlib.Path(__file__).resolve().parent
 NODE = HERE.parent.parent / "crates" / "node_cli" / "out" / "node_cli"
 CLIENTS, RUNS, SINGLE, LINES, UNITS = 4_000, 5, 400, 200_000, 65_536
-PORT, LINK = 5479, 5481
+PORT, LINK, TRANSIT = 5479, 5481, 2000
+# How many lines a first volume begins with, before its first grant.
+HEAD = 3
 SERVER, SECOND = "00030001020000000009", "0003000102000000000a"
 # No quota and no rate: a few clients ask as fast as they can.
 UNLIMITED = "ias_per_message = 0\nunits_per_client = 0\nunits_per_port = 0\nclient_rate = 0\n"
@@ -35,6 +37,7 @@ duid = "{SERVER}"
 skew_ms = 2000
 mclt = 3600
 life = 3600
+transit_ms = {TRANSIT}
 listen = "127.0.0.1:{PORT}"
 workers = 1
 [[pool]]
@@ -288,8 +291,9 @@ def write_volume(folder, lines, clients):
     """A first volume that goes on: so many lines, each client's first grant and then its renewals in turn, up to some minutes ago."""
     begun = time.time_ns() // 1_000_000 - 600_000
     rows = [f"1 {begun} open 2000 3600 3600", f"2 {begun} pool 2001:0db8:0000:0000:0000:0000:0000:0000/40 56"]
-    for number in range(3, lines + 1):
-        place = (number - 3) % clients
+    rows.append(f"{HEAD} {begun} transit {TRANSIT}")
+    for number in range(HEAD + 1, lines + 1):
+        place = (number - HEAD - 1) % clients
         digits = prefix_of(place).hex()
         unit = ":".join(digits[at : at + 4] for at in range(0, 32, 4))
         rows.append(f"{number} {begun + number // 1000} grant {duid(place)} 00000001 {unit}/56 3600")
@@ -375,7 +379,7 @@ def main():
             measure_exchanges(node, folder, asker, plain)
             measure_waiting(node, folder, plain)
             measure_start(node, folder, LINES, 10_000).stop()
-            served = measure_start(node, folder, UNITS + 2, UNITS)
+            served = measure_start(node, folder, UNITS + HEAD, UNITS)
             measure_roll(node, folder, served)
             served.stop()
             measure_pair(node, folder, asker)

@@ -26,6 +26,7 @@ duid = "{SERVER.hex()}"
 skew_ms = 2000
 mclt = 3600
 life = 3600
+transit_ms = 2000
 listen = "[::1]:{PORT}"
 workers = 1
 alone = true

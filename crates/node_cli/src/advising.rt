@@ -110,9 +110,19 @@ pub fn advise<P: Print>(
     warn_of_keys(notes, &table);
 }
 
+/// Warns of settings without a transit: `serve` begins no new directory with them.
+fn warn_of_transit<P: Print>(notes: &P, settings: &NodeSettings) {
+    if settings.server.transit().milliseconds() == 0 {
+        let _ = println!(notes;
+            "node: warning: serve refuses transit_ms: wants 1 to 3600000 in a new directory, has 0"
+        );
+    }
+}
+
 /// Tells a person what `serve` would refuse in settings that are fit for `run`, a missing partner or key of the link
 /// apart, and whether its volumes are short. What finds no memory isn't told.
-pub fn advise_to_serve<P: Print>(notes: &P, alloc: Global, text: &[u8]) {
+pub fn advise_to_serve<P: Print>(notes: &P, alloc: Global, text: &[u8], settings: &NodeSettings) {
+    warn_of_transit(notes, settings);
     match ServeSettings::read(alloc, text) {
         Ok(settings) => {
             if settings.upkeep.is_short_for(settings.node.server.life()) {

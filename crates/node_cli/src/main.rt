@@ -106,7 +106,7 @@ where
             Ok(CommandResult::of(line.into_bytes(), 1))
         }
         (TrialCommand::Check, Ok(settings)) => {
-            advise_to_serve(notes, alloc, text);
+            advise_to_serve(notes, alloc, text, &settings);
             let units = units_of(&settings);
             let line = format!(in alloc; "ok {units}\n")?;
             Ok(CommandResult::of(line.into_bytes(), 0))
