@@ -23,6 +23,11 @@ STATUSES = {NO_BINDING: "NoBinding", NO_PREFIX_AVAILABLE: "NoPrefixAvail"}
 TIMESTAMP_NS = 35
 # How long a client waits for an answer, and for a second offer, in seconds.
 PATIENCE, OFFERS = 1.5, 0.15
+# What a client that has a lease does, and how often; with None it is silent. One that keeps to no server gives nothing
+# back where servers tell again what a client has. Who comes and goes gives back more often.
+DEEDS = {RENEW: 11, REBIND: 4, RELEASE: 3, None: 2}
+ROAMING = {RENEW: 11, REBIND: 4, None: 2}
+COMING_AND_GOING = {RENEW: 4, REBIND: 8, RELEASE: 8, None: 1}
 
 
 def now():
@@ -38,13 +43,14 @@ class Lease:
 
 
 class Client:
-    """What a client knows: its identifiers, and the lease that it was told of last."""
+    """What a client knows: its identifiers, and the lease that it was told of last. `home` is the one server that it
+    keeps to, if it does."""
 
-    def __init__(self, number):
+    def __init__(self, number, home=None):
         # Every fourth client has a second association.
         self.duid = bytes.fromhex(f"0003000102{number - (number % 4 == 3):010x}")
         self.association = 1 + (number % 4 == 3)
-        self.lease = None
+        self.lease, self.home = None, home
 
     def key(self):
         return self.duid.hex(), f"{self.association:08x}"
@@ -103,17 +109,22 @@ def relayed(message):
 
 
 class Relay:
-    """All clients, by one socket to each server. `servers` has each side's port and identifier."""
+    """All clients, by one socket to each server. `servers` has each side's port and identifier. Where servers tell
+    again what a client has, and clients have to keep to that, two of three keep to one server each, and the third gives
+    nothing back: docs/SAFETY.md says why."""
 
-    def __init__(self, servers, count, dice, faults):
+    def __init__(self, servers, count, dice, faults, does_keep=False, deeds=None):
         self.dice, self.faults, self.seen = dice, faults, collections.Counter()
+        self.does_keep, self.deeds = does_keep, deeds or DEEDS
         self.own = {side: duid for side, (_, duid) in servers.items()}
         # What clients were given, what they gave back, and by whom they were told Success.
         self.answers, self.given_back, self.releases = [], [], []
         self.exchanges, self.open = {}, collections.deque()
         self.numbers = itertools.count()
+        homes = [*servers, None] if does_keep else [None]
+        clients = [Client(number, homes[number % len(homes)]) for number in range(count)]
         # The moment at which each client asks next, the soonest first; a number keeps their order where moments are the same.
-        self.turns = [(time.monotonic() + dice.uniform(0, 1), next(self.numbers), Client(number)) for number in range(count)]
+        self.turns = [(time.monotonic() + dice.uniform(0, 1), next(self.numbers), client) for client in clients]
         heapq.heapify(self.turns)
         self.sockets = {}
         for side, (port, _) in servers.items():
@@ -142,16 +153,21 @@ class Relay:
         lease = client.lease
         if lease is None or lease.until <= now():
             client.lease = None
-            self.send(SOLICIT, client, tuple(self.own), OFFERS)
+            self.send(SOLICIT, client, self.servers_of(client), OFFERS)
             return
-        kind = self.dice.choices([RENEW, REBIND, RELEASE, None], [11, 4, 3, 2])[0]
+        deeds = ROAMING if self.does_keep and client.home is None else self.deeds
+        kind = self.dice.choices(list(deeds), deeds.values())[0]
         if kind is None:
             # It is silent until its lease has ended.
             self.rest(client, (lease.until - now()) / 1000 + self.dice.uniform(0, 1))
         elif kind == REBIND:
-            self.send(REBIND, client, tuple(self.own), PATIENCE)
+            self.send(REBIND, client, self.servers_of(client), PATIENCE)
         else:
             self.send(kind, client, (lease.server,), PATIENCE)
+
+    def servers_of(self, client):
+        """Whom a client asks that names no server."""
+        return tuple(self.own) if client.home is None else (client.home,)
 
     def send(self, kind, client, servers, patience):
         transaction = len(self.exchanges)

@@ -24,7 +24,7 @@ link_key = "{key}"
 workers = 1
 heartbeat = 2
 volume_lines = {volume_lines}
-renew_floor = 0
+renew_floor = {floor}
 units_per_port = 0
 client_rate = 0
 [[pool]]
@@ -52,24 +52,27 @@ def short_disk(octets):
 
 
 class Daemon:
-    """One server; `faults` takes what it did that it mustn't. Its link has the key, if there is one."""
+    """One server; `faults` takes what it did that it mustn't. Its link has the key, if there is one; what a client has
+    it tells again within `floor` seconds; `delays` sets its clock and slows its disk, if anything does."""
 
-    def __init__(self, node, folder, side, link, volume_lines, faults, key=None, notes=None):
+    def __init__(self, node, folder, side, link, volume_lines, faults, key=None, notes=None, floor=0, delays=None):
         self.node, self.folder, self.side, self.faults = node, folder / side, side, faults
         # Where its notes are kept, its directory if nothing is said; and whether its disk has no room or takes no writes.
         self.noted, self.is_short = notes or self.folder, False
+        self.delays, self.environment = delays, delays and delays.environment
         self.port = free_port(socket.SOCK_DGRAM)
         self.process = self.wanted = self.begun = None
         self.starts, self.kills, self.stops, self.full = 0, 0, 0, 0
-        # How long starts took until the server said with what it serves, in seconds.
-        self.waits = []
+        # How long starts took until the server said with what it serves, in seconds; and from when to when it was held,
+        # in milliseconds.
+        self.waits, self.holds = [], []
         self.folder.mkdir(parents=True)
         if key is not None:
             (self.folder / "link.key").touch(0o600)
             (self.folder / "link.key").write_text(key + "\n")
         role, self.duid = ROLES[side]
         given = {"role": role, "duid": self.duid, "host": HOST, "listen": self.port, "link": link, "volume_lines": volume_lines}
-        given["key"] = "none" if key is None else "link.key"
+        given |= {"key": "none" if key is None else "link.key", "floor": floor}
         settings = SETTINGS.format(skew=SKEW, mclt=MCLT, life=LIFE, transit=TRANSIT, **given)
         (self.folder / "settings.toml").write_text(settings)
 
@@ -97,7 +100,8 @@ class Daemon:
         self.wanted = {DISK_FAILED, NOT_STARTED} if room is not None or self.is_short else set()
         with open(self.notes(), "wb") as notes:
             words = [self.node, "serve", "--dir", self.folder]
-            self.process = subprocess.Popen(words, stdin=subprocess.DEVNULL, stdout=subprocess.DEVNULL, stderr=notes, **how)
+            how |= {"stdin": subprocess.DEVNULL, "stdout": subprocess.DEVNULL, "stderr": notes}
+            self.process = subprocess.Popen(words, env=self.environment, **how)
         self.begun = time.monotonic()
 
     def is_up(self):
@@ -135,9 +139,15 @@ class Daemon:
     def hold(self, seconds):
         """Stops it in the midst of what it does, and lets it go on."""
         if self.is_up():
+            begun = time.time() * 1000
             self.process.send_signal(signal.SIGSTOP)
             time.sleep(seconds)
             self.process.send_signal(signal.SIGCONT)
+            self.holds.append((begun, time.time() * 1000))
+
+    def held(self, first, last):
+        """For how long it was held between two moments, in milliseconds."""
+        return sum(max(0, min(end, last) - max(begun, first)) for begun, end in self.holds)
 
     def told(self, *words):
         """Tells it something, and gives the process that does, so that nobody waits for it."""

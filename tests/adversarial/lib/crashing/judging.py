@@ -8,7 +8,9 @@ from pathlib import Path
 from .daemons import LONGEST_HOLD, SKEW, TRANSIT
 
 sys.path.append(str(Path(__file__).resolve().parents[4] / "reference"))
-from auditor.journals import Base, Carry, Close, Grant, Open, Pool, Release, Send, Take, UnitLine, read_journal  # noqa: E402
+from auditor.journals import (  # noqa: E402
+    Base, Carry, Close, Expire, Grant, Open, Pool, Release, Seize, Send, Take, UnitLine, read_journal,
+)
 from auditor.journals import Transit as TransitLine  # noqa: E402
 from auditor.rules import book_of  # noqa: E402
 from auditor.words import Refused, prefix_word  # noqa: E402
@@ -19,6 +21,8 @@ HEAD = (Open, Pool, TransitLine, Base, Carry, UnitLine)
 STEP = 20
 # By how much an answer may come behind its line's reading: a server may be held between its last look at the clock and the sending.
 LATEST = TRANSIT + 1000 * LONGEST_HOLD + 400
+# The same without such a hold, where it is asked for: within half of the transit it leaves.
+PUNCTUAL = TRANSIT / 2 + 400
 # The most skew that journals may need whose servers read one clock, in milliseconds.
 ONE_CLOCK = 1
 # The least time between the moment asked of and another line of that client and prefix.
@@ -92,13 +96,15 @@ class Volumes:
         return next(fit, None)
 
 
-def matched(answers, sides):
-    """The grant line of each answer, by its reading; and each that has none, with what is said of it. Each line is that of one answer."""
+def matched(answers, sides, margin=0):
+    """The grant line of each answer, by its reading; and each that has none, with what is said of it. Each line is that
+    of one answer. `margin` is by how much a server's clock may be off, in milliseconds, here and below."""
     free = {side: {place: list(lines) for place, lines in volumes.grants.items()} for side, volumes in sides.items()}
     found, missing = [], []
     for answer in sorted(answers, key=lambda answer: answer.came):
         lines = free[answer.server].get((answer.key, prefix_text(answer.prefix)), [])
-        fit = [line for line in lines if line[1] == answer.valid and answer.sent - STEP <= line[0] <= answer.came + 1]
+        first, last = answer.sent - STEP - margin, answer.came + 1 + margin
+        fit = [line for line in lines if line[1] == answer.valid and first <= line[0] <= last]
         if fit:
             lines.remove(fit[0])
             found.append((answer, fit[0][0]))
@@ -114,11 +120,20 @@ def late(found):
             yield f"{answer} came {answer.came - reading:.0f} ms behind its line"
 
 
-def unwritten_releases(releases, sides):
+def unpunctual(found, daemons):
+    """Answers that came later behind the moments of their lines than half of the transit, but for how long their
+    servers were held."""
+    for answer, moment in found:
+        behind = answer.came - moment
+        if behind > PUNCTUAL and behind - daemons[answer.server].held(moment, answer.came) > PUNCTUAL:
+            yield f"{answer} came {behind:.0f} ms behind its line: an answer leaves within half of the transit"
+
+
+def unwritten_releases(releases, sides, margin=0):
     """What clients were told is given back, without a line that says so."""
     for side, given in releases:
         lines = sides[side].releases.get((given.key, prefix_text(given.prefix)), [])
-        if not any(given.sent - STEP <= reading <= given.sent + 5000 for reading, _ in lines):
+        if not any(given.sent - STEP - margin <= reading <= given.sent + 5000 + margin for reading, _ in lines):
             yield f"no release line of {given} at {side}"
 
 
@@ -156,14 +171,15 @@ def desk(program, words, given):
     return done.returncode, done.stdout.decode(), done.stderr.decode()
 
 
-def fits(program, text):
-    """What the desk says of two journals that don't fit; and how far apart their clocks are."""
+def fits(program, text, most=ONE_CLOCK):
+    """What the desk says of two journals that don't fit by clocks within so much skew; and the least skew that they
+    need."""
     status, clocks, _ = desk(program, ["clocks"], text)
     if status != 0 or not clocks.startswith("least-skew "):
         return [f"clocks: {clocks.strip()}"], None
     skew = int(clocks.split()[1])
     status, timeline, _ = desk(program, ["timeline"], text)
-    return ([f"timeline: {timeline[:200]}"] if status else []) + ([f"clocks: {clocks}"] if skew > ONE_CLOCK else []), skew
+    return ([f"timeline: {timeline[:200]}"] if status else []) + ([f"clocks: {clocks}"] if skew > most else []), skew
 
 
 def text_until(journal, count):
