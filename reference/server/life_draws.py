@@ -6,7 +6,7 @@ from .life_ports import behind, drawn_ports
 from .limits import Limits
 from .messages import (CLIENT_IDENTIFIER, IA_PD, IA_PREFIX, INFORMATION_REQUEST, REBIND, RELEASE, RENEW, REQUEST,
                        SERVER_IDENTIFIER, SOLICIT, option)
-from .program import now
+from .program import LEAST_TRANSIT, now
 from .units import FREE
 from .values import Line, Settings, prefix_of
 
@@ -128,22 +128,25 @@ def prefix_named(prefix):
     return option(IA_PREFIX, bytes(8) + bytes([length]) + address.to_bytes(16, "big"))
 
 
-def drawn_times(source, shortest=241, longest=3601):
-    """Settings whose grants have one lifetime, with which none ends in a life."""
-    valid = source.choice((shortest, shortest + 1, 300, 999, 1800, longest))
+def drawn_times(source, has_past=False):
+    """Settings whose grants have one lifetime, with which none ends in a life. Where there is a past it may have been
+    begun without a transit."""
+    valid = source.choice((241, 242, 300, 999, 1800, 3601))
     more = valid + source.choice((0, 1, 9, valid, 7200))
     mclt, life = source.choice(((valid, more), (more, valid)))
     most = 1000 * valid // 4
     skew = source.choice((0, 0, 1, 7, 250, 2000, most // 4))
-    transit = source.choice((0, 0, 60_000, most - 2 * skew))
+    transit = source.choice((LEAST_TRANSIT, 60_000, max(LEAST_TRANSIT, most - 2 * skew)))
+    if has_past and source.random() < 0.1:
+        transit = 0
     pools = [(prefix_of("2001:db8::/48"), source.choice((48, 50, 53, 56)))]
     if source.random() < 0.3:
         pools.append((prefix_of("fd00::/64"), source.choice((64, 66))))
-    return Settings("A", OWN, skew, mclt, life, pools, max(0, transit))
+    return Settings("A", OWN, skew, mclt, life, pools, transit)
 
 
 def drawn_short_times(source):
-    """Settings whose grants are over within a life."""
+    """Settings whose grants are over within a life: those of a past that was begun without a transit."""
     mclt, life = source.choice(((1, 1), (1, 7), (2, 1)))
     pools = [(prefix_of("2001:db8::/48"), source.choice((51, 53, 56)))]
     return Settings("A", OWN, source.choice((0, 1, 40)), mclt, life, pools, 0)

@@ -18,12 +18,13 @@ from .serving import plain_settings
 def serve_floor_once(program, seed, count, tally):
     """One life of a server that tells again what it gave not long ago."""
     source = random.Random(seed)
-    settings = drawn_times(source)
+    count_of_past = source.choice((0, 3, 20, 60))
+    settings = drawn_times(source, has_past=count_of_past > 0)
     told = Limits(renew_floor=drawn_floor(source, settings))
     floor = told.in_force(settings.life).renew_floor
     manner = replace(drawn_manner(source), releases_each=True)
     begun, ahead = now(), drawn_ahead(source, settings)
-    ages = drawn_ages(source, settings, floor, source.choice((0, 3, 20, 60)), ahead)
+    ages = drawn_ages(source, settings, floor, count_of_past, ahead)
     readings = [begun - age for age in ages[-half_of_units(settings):]]
     host, book, draws = drawn_life(source, settings, readings[0] if readings else begun)
     write_past(source, book, draws, readings)
@@ -32,14 +33,14 @@ def serve_floor_once(program, seed, count, tally):
     past = list(book.lines) if readings else []
     with Daemon(program, settings, manner, host, has_link, past, told) as daemon:
         Life(daemon, draws, book, told, tally, manner).run(count)
-    tally["lives by the clock"] += 1
+    daemon.count(tally, "lives by the clock")
 
 
 def serve_ends_once(program, seed, count, tally):
     """One life of a server whose leases end meanwhile: those of a past that are nearly over, or short ones."""
     source = random.Random(seed)
     is_short = source.random() < 0.2
-    settings = drawn_short_times(source) if is_short else drawn_times(source)
+    settings = drawn_short_times(source) if is_short else drawn_times(source, has_past=True)
     told = Limits(renew_floor=source.choice((0, 1, 31_536_000)), units_per_client=source.choice((0, 0, 2)),
                   units_per_port=source.choice((0, 1, 3)), bind_to_port=source.random() < 0.3)
     manner = replace(drawn_manner(source), releases_each=True)
@@ -57,7 +58,7 @@ def serve_ends_once(program, seed, count, tally):
         life = Life(daemon, draws, book, told, tally, manner)
         life.take_records(records)
         life.run(count)
-    tally["lives whose leases end"] += 1
+    daemon.count(tally, "lives whose leases end")
 
 
 def drawn_quota_life(source, settings):
@@ -85,7 +86,7 @@ def serve_limits_once(program, seed, count, tally):
         life = Life(daemon, draws, book, told, tally, manner)
         life.take_records(records)
         life.run(count)
-    tally["lives with limits"] += 1
+    daemon.count(tally, "lives with limits")
 
 
 def serve_scripts(program, tally):
@@ -98,7 +99,7 @@ def serve_scripts(program, tally):
             for octets in script(draws):
                 life.put(octets, "scripted")
             life.run(0)
-        tally["lives with limits"] += 1
+        daemon.count(tally, "lives with limits")
 
 
 def wait_for_second(limits, source):

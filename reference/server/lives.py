@@ -80,6 +80,7 @@ class Life:
         if self.daemon.past:
             opened = self.book
             if self.daemon.has_link:
+                self.look_at_restart(lines[len(opened.lines)].reading)
                 opened.add(lines[len(opened.lines)].reading, ("restart", opened.restart + 1))
             self.take_unasked(lines[len(opened.lines):])
         else:
@@ -89,6 +90,13 @@ class Life:
             self.fault("the volume doesn't begin as awaited")
         if not self.daemon.past and not self.daemon.began <= lines[0].reading <= now():
             self.fault("the opening isn't of this life")
+
+    def look_at_restart(self, reading):
+        """A restart's reading was taken in this life; one that falls behind the journal's last is written as that last
+        one."""
+        last = self.book.lines[-1].reading
+        if not max(last, self.daemon.began) <= reading <= max(last, now()):
+            self.fault(f"the restart's reading {reading} isn't of this life")
 
     def new_lines(self):
         """The lines that were written since."""

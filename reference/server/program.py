@@ -16,6 +16,13 @@ from .manner import settings_rows
 from .values import prefix_text
 
 PATIENCE = 20
+# Within half of this transit, which is the server's, we have given up an answer ourselves.
+LEAST_TRANSIT = 2000 * PATIENCE
+# Where volumes have no transit an answer leaves within so many seconds or not at all.
+WITHOUT_TRANSIT = 1
+WARNING = ("<4>node: its volumes have no transit: an answer is assumed to reach its client at once. "
+           "It can be set only in a new directory.")
+LATE = "sent no answer: its line was on the disk too late"
 # No line of `serve` comes of itself.
 NO_HEARTBEAT = ("heartbeat = 31536000",)
 
@@ -79,6 +86,7 @@ class Program:
         self.socket.setsockopt(socket.SOL_SOCKET, socket.SO_RCVBUF, 1 << 20)
         self.socket.bind((host, 0))
         self.socket.settimeout(PATIENCE)
+        self.asked, self.is_heard = time.monotonic(), True
 
     def __enter__(self):
         self.wait_for(self.listens)
@@ -106,9 +114,12 @@ class Program:
         raise Difference(f"the program doesn't say {words!r} but {self.said()!r}")
 
     def send(self, octets):
+        if self.is_heard:
+            self.asked, self.is_heard = time.monotonic(), False
         self.socket.send(octets)
 
     def receive(self):
+        self.is_heard = True
         try:
             return self.socket.recv(1 << 16)
         except TimeoutError:
@@ -162,7 +173,8 @@ class Daemon(Program):
     """`serve` in a directory of its own: it is alone, or names a partner, which doesn't listen but where `link` is its
     end.
 
-    With the lines of a past it goes on with these.
+    With the lines of a past it goes on with these. Without a transit it needs some, and is warned at each start; a life
+    of it in which an answer was too late for that is given up.
     """
 
     def __init__(self, program, settings, manner, host="127.0.0.1", has_link=False, past=(), limits=UNLIMITED,
@@ -170,6 +182,7 @@ class Daemon(Program):
         self.program = program
         self.settings = settings
         self.past = past
+        self.is_given_up = False
         self.has_link = has_link
         self.link = link
         self.listens = "goes on with volume 1" if past else "begins volume 1"
@@ -192,17 +205,30 @@ class Daemon(Program):
 
     def begin_again(self):
         """Stops it with its volume open, and starts it once more."""
-        self.leave()
-        self.told("stop")
-        self.wait_for_end()
+        self.stop()
         self.leave()
         self.errors = tempfile.NamedTemporaryFile()
         self.process = subprocess.Popen(self.words, stdin=subprocess.DEVNULL, stdout=self.output, stderr=self.errors)
         self.wait_for(f"goes on with volume {self.number}")
 
-    def __exit__(self, *rest):
-        super().__exit__(*rest)
+    def __exit__(self, kind, fault, trace):
+        self.is_given_up = isinstance(fault, Difference) and self.was_late()
+        super().__exit__(kind, fault, trace)
         self.folder.cleanup()
+        return self.is_given_up
+
+    def was_late(self):
+        """Whether it says that an answer came too late for a server without a transit, and so it may have been."""
+        if self.settings.transit != 0 or time.monotonic() - self.asked < WITHOUT_TRANSIT:
+            return False
+        # It may say so a moment later.
+        time.sleep(1)
+        return LATE in self.said()
+
+    def count(self, tally, lives):
+        """Counts a life that is over."""
+        tally[lives + (", given up: the disk was too slow" if self.is_given_up else "")] += 1
+        tally["lives without a transit"] += self.settings.transit == 0
 
     def leave(self):
         """The partner ends the connection, if there is one."""
@@ -219,11 +245,18 @@ class Daemon(Program):
         """Tells the daemon something by its control socket."""
         subprocess.run([self.program, *words, "--dir", self.folder.name], check=True, stdout=subprocess.DEVNULL)
 
+    def stop(self, *words):
+        """Stops it; since its start it has warned that it has no transit, or has one."""
+        self.leave()
+        self.told("stop", *words)
+        self.wait_for_end()
+        count = self.said().splitlines().count(WARNING)
+        if count != (self.settings.transit == 0):
+            raise Difference(f"transit {self.settings.transit}, and {count} warnings that there is none")
+
     def journal(self):
         """The closed journal of a server that is told to stop."""
-        self.leave()
-        self.told("stop", "--close")
-        self.wait_for_end()
+        self.stop("--close")
         return self.volume.read_text()
 
 

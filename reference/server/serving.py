@@ -11,7 +11,7 @@ from .book import Book
 from .draws import LARGEST_BY_IPV4, LARGEST_BY_IPV6, Draws
 from .manner import handed_out, settings_rows
 from .manner_draws import drawn_manner
-from .program import Daemon, Difference, Node, now, settings_line
+from .program import LEAST_TRANSIT, Daemon, Difference, Node, now, settings_line
 from .rules import TRANSIT_LIMIT
 from .units import FREE
 from .values import Line, Settings, overlap, prefix_of
@@ -48,10 +48,10 @@ def drawn_settings(source):
 
 
 def drawn_daemon_settings(source):
-    """The same for `serve`, which ends leases by its clock: none ends in a life of these."""
+    """The same for `serve`, which ends leases by its clock, none in a life of these, and wants a transit."""
     while True:
         settings = drawn_settings(source)
-        settings.transit = source.choice((0, TRANSIT_LIMIT))
+        settings.transit = source.choice((LEAST_TRANSIT, TRANSIT_LIMIT))
         if 1000 * min(settings.mclt, settings.life) + 2 * settings.skew + settings.transit >= LONGEST_LIFE:
             return settings
 
@@ -193,9 +193,10 @@ def serve_daemon_once(program, seed, count, tally, settings=None, manner=None, g
     past = book.lines if has_past else []
     with Daemon(program, settings, manner, host, has_link, past) as daemon:
         Session(daemon, draws, book, tally, manner).run(count, given)
-    tally["lives of the daemon"] += 1
+    daemon.count(tally, "lives of the daemon")
 
 
 def plain_settings():
-    """The settings under which the real clients' datagrams were captured."""
-    return Settings("A", bytes.fromhex("00030001020000000009"), 2000, 3600, 3600, [(prefix_of("2001:db8::/48"), 56)])
+    """The settings under which the real clients' datagrams were captured, with a transit."""
+    pools = [(prefix_of("2001:db8::/48"), 56)]
+    return Settings("A", bytes.fromhex("00030001020000000009"), 2000, 3600, 3600, pools, LEAST_TRANSIT)

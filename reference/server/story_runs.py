@@ -22,7 +22,7 @@ LINK_HOST = "127.0.0.1"
 
 def drawn_settings(source):
     """Settings with which a grant is mostly longer once the partner has acknowledged one."""
-    settings = drawn_times(source)
+    settings = drawn_times(source, has_past=True)
     mclt, life = settings.mclt, settings.life
     if source.random() < 0.7:
         mclt, life = min(mclt, life), max(mclt, life)
@@ -61,7 +61,7 @@ def serve_stories_once(program, seed, count, tally):
     with partner_of(settings) as link, \
             Daemon(program, settings, manner, host, True, list(book.lines), told, link=link) as daemon:
         LinkedLife(daemon, draws, book, told, tally, manner).run(count)
-    tally["lives of shared readings"] += 1
+    daemon.count(tally, "lives of shared readings")
 
 
 def serve_script(program, tally):
@@ -82,4 +82,4 @@ def serve_script(program, tally):
                 life.roll()
             life.put(draws.message(RENEW, client, [(identifier, None)]), "scripted")
         life.run(0)
-    tally["lives of shared readings"] += 1
+    daemon.count(tally, "lives of shared readings")
