@@ -1,0 +1,12 @@
+pub mod Tokens
+pub mod FrameLengths
+pub mod Runs
+pub mod StreamLaws
+pub mod GivenBack
+pub mod ClockLaws
+pub mod WordTests
+pub mod WordLaws
+pub mod NoticeLaws
+pub mod TextLaws
+pub mod Joining
+pub mod PoolLaws

@@ -1,0 +1,11 @@
+pub mod Nonces
+pub mod Parting
+pub mod Gathering
+pub mod Items
+pub mod Laws
+pub mod Clocks
+pub mod Words
+pub mod Spelling
+pub mod Refusals
+pub mod Parsing
+pub mod Comparing
