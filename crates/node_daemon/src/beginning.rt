@@ -8,7 +8,7 @@ ghost use Rattle.folder_start.specs.Keeping.{StartsWith};
 ghost use Rattle.folder_start.specs.Reading.{IsOpened};
 ghost use Rattle.folder_start.specs.Started.{HasBegun};
 ghost use Rattle.node_daemon.specs.Turning.{ways};
-ghost use Rattle.node_daemon.specs.Beginning.{pairing_by, HasRun};
+ghost use Rattle.node_daemon.specs.Beginning.{pairing_by, HasRun, HasServed};
 
 use crate::daemon::Daemon;
 use crate::error::{DaemonError, ServeFailure};
@@ -257,6 +257,8 @@ where
     requires names { AreSettled (F.calls read.folder) }
     requires files { (names_after (F.calls read.folder)).files ≡ read.found.volumes }
     requires opened { IsOpened F.File.calls read.last }
+    ensures served { IfOk result (λ _. HasServed C.gives C.fails G.listens G.sends settings.now.node.server
+        settings.now.renew_floor (pairing_by settings.now.node.ways.link) read.found.step devices.datagrams) }
 {
     let started: Started<F, Arrival<G::Peer>> = start_server(alloc, read, settings, &clocks)?;
     tell_start(&log, settings, &key, &started);
