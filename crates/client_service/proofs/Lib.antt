@@ -4,3 +4,4 @@ pub mod Messages
 pub mod Books
 pub mod Offers
 pub mod ToldAgain
+pub mod Early

@@ -4,5 +4,6 @@ pub mod Lines
 pub mod Serving
 pub mod Telling
 pub mod Answering
+pub mod EarlyReleases
 pub mod Reusing
 pub mod Ending

@@ -1,5 +1,6 @@
 -- What a client has by a line of its server's journal, as it may be told again without another line.
-use Rattle.std.specs.Prelude.{◌≡◌, ℕ, ◌+◌, ◌-◌, ◌*◌, ◌/◌, ◌<◌, ◌≤◌, min, slice_get, Some}
+use Rattle.std.specs.Prelude.{◌≡◌, ◌⊎◌, ℕ, ◌+◌, ◌-◌, ◌*◌, ◌/◌, ◌<◌, ◌≤◌, min, slice_get, Some, None}
+use Rattle.binding_rules.specs.declared.unit.Unit.{Unit as UnitValue}
 use Rattle.binding_rules.specs.declared.unit.UnitStatus.TheVariants.{Active}
 use Rattle.journal_lines.specs.declared.event.Lease.{Lease}
 use Rattle.journal_lines.specs.declared.event.Event.TheVariants.{Grant}
@@ -53,6 +54,11 @@ abbrev pub IsTheirs : Journal → Lease → Type 0
 IsTheirs j lease =
     ((state_of j).units lease.prefix).status ≡ Active (record { client = lease.client; iaid = lease.iaid })
 
+-- The partner granted nothing of the unit since it was free, or it has acknowledged this server's last change of it: so
+-- a release of the partner's that this server accepts is behind the last grant (`IsEarlyRelease`).
+abbrev pub KnowsGrant : UnitValue → Type 0
+KnowsGrant u = (u.told ≡ 0) ⊎ (u.due ≡ None)
+
 -- ---- what stands
 
 -- Of a lease that would be granted at this reading: the client has the prefix, by the last grant line of the unit, which
@@ -62,6 +68,7 @@ pub record IsReusableFor (j : Journal) (t : ReuseTerms) (now : ℕ) (lease : Lea
   pub valid : ℕ
   pub line : IsLatest j lease s.number granted valid
   pub theirs : IsTheirs j lease
+  pub known : KnowsGrant ((state_of j).units lease.prefix)
   pub prefix : s.prefix ≡ lease.prefix
   pub again : MayReuse t granted valid ((state_of j).units lease.prefix).own_end now lease.valid s.valid
 

@@ -43,6 +43,10 @@
 //! The definitions stand in specs/ReusableLeases. That whoever is told again has no prefix a moment longer than the
 //! line gives it, and none past the end that the book has for it, is a law (`reuse_is_within_its_line`).
 //!
+//! What one server tells again its partner doesn't hear of. So a RELEASE that comes while the partner may tell the lease
+//! again is early ([`has_early_release`]): a server orders nothing for it, and it has no answer. After that the partner
+//! tells nothing again that it granted before (`nothing_is_told_again`).
+//!
 //! ```text
 //! let terms = ReuseTerms { floor: 360, skew, transit };
 //! match find_reusable_lease(&book, &terms, now, &order)? {
@@ -55,6 +59,7 @@
 mod allow_all;
 mod alone;
 mod client_reply;
+mod early_release;
 mod grants;
 mod ia_outcome;
 mod lease_laws;
@@ -74,7 +79,8 @@ mod terms;
 pub use allow_all::AllowAll;
 pub use alone::ExclusiveService;
 pub use client_reply::{ClientReply, answer_information, answer_to, resend_lease};
-pub use lease_laws::reuse_is_within_its_line;
+pub use early_release::{has_early_release, is_early_release};
+pub use lease_laws::{nothing_is_told_again, reuse_is_within_its_line};
 pub use no_reply_reason::NoReplyReason;
 pub use partner_availability::PartnerAvailability;
 pub use permit::{Admission, DropReason, Permit};

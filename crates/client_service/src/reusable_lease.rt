@@ -4,12 +4,12 @@ ghost use Rattle.std.specs.Prelude.{◌≡◌, ◌↔◌, IsTrue, IfOk, IfErr, I
 ghost use Rattle.binding_rules.specs.declared.unit.UnitStatus.TheVariants.{Active};
 ghost use Rattle.order_book.specs.Answer.{IsFirstRefusal};
 ghost use Rattle.order_book.specs.Replayed.{state_of};
-ghost use Rattle.client_service.specs.ReusableLeases.{IsLatest, IsTheirs, IsReusableFor, IsReusable};
+ghost use Rattle.client_service.specs.ReusableLeases.{IsLatest, IsTheirs, KnowsGrant, IsReusableFor, IsReusable};
 
 use crate::grants::{GrantLine, granted_by};
 use crate::remaining::reuse_lifetime;
 use crate::terms::ReuseTerms;
-use binding_rules::{Binding, UnitStatus};
+use binding_rules::{Binding, Unit, UnitStatus};
 use journal_lines::{Event, Lease};
 use lead_time::{End, Reading};
 use order_book::{Book, BookError, Order};
@@ -35,6 +35,13 @@ fn is_theirs(status: &UnitStatus, lease: &Lease) -> bool
         })
 }
 
+/// Returns whether the partner granted nothing of a unit, or knows this server's last grant of it.
+fn knows_grant(unit: &Unit) -> bool
+    ensures { IsTrue result ↔ KnowsGrant unit.now }
+{
+    unit.told.milliseconds() == 0 || unit.due.is_none()
+}
+
 /// The last grant line of a lease's unit, where it is of the lease's client and no later line ended what it grants.
 fn last_grant(book: &Book, lease: &Lease) -> Option<GrantLine>
     ensures { IfSome result (λ g. IsLatest book.now lease.now g.number g.reading g.valid) }
@@ -48,13 +55,14 @@ fn last_grant(book: &Book, lease: &Lease) -> Option<GrantLine>
     }
 }
 
-/// When a lease's unit ends for the server, where it is the lease's client's.
+/// When a lease's unit ends for the server, where it is the lease's client's, and the partner knows the last grant.
 fn own_end(book: &Book, lease: &Lease) -> Option<End>
     ensures theirs { IfSome result (λ _. IsTheirs book.now lease.now) }
+    ensures known { IfSome result (λ _. KnowsGrant ((state_of book.now).units lease.now.prefix)) }
     ensures end { IfSome result (λ end. end ≡ ((state_of book.now).units lease.now.prefix).own_end) }
 {
     match book.unit(lease.prefix) {
-        Some(unit) if is_theirs(&unit.status, lease) => Some(unit.own_end),
+        Some(unit) if is_theirs(&unit.status, lease) && knows_grant(&unit) => Some(unit.own_end),
         _ => None,
     }
 }
@@ -85,8 +93,9 @@ fn reusable_lease_for(
 }
 
 /// Returns what an order's client has by a line of the journal that may be told again: none where the order would be
-/// answered otherwise, or the grant is too old, or less remains of it than half of what would be granted now. It writes
-/// no line and takes no memory. The refusals are those of `Book::apply`, `Memory` apart.
+/// answered otherwise, or the grant is too old, or less remains of it than half of what would be granted now, or the
+/// partner, which has granted the unit too, doesn't know the grant yet. It writes no line and takes no memory. The
+/// refusals are those of `Book::apply`, `Memory` apart.
 pub fn find_reusable_lease(
     book: &Book,
     terms: &ReuseTerms,

@@ -15,7 +15,7 @@ use Rattle.server_core.specs.VolumeWriters.{WriterState, Grows}
 use Rattle.server_core.specs.declared.committed_output.HeldAnswer.{HeldAnswer}
 use Rattle.server_core.specs.declared.datagram_outcome.DatagramOutcome.{DatagramOutcome}
 use Rattle.server_core.specs.declared.datagram_outcome.DatagramOutcome.TheVariants.{Answered, Unanswered, AnsweredInformation, UnansweredInformation, TooMany}
-use Rattle.server_core.specs.declared.datagram_outcome.DatagramOutcome.TheVariants.{Malformed}
+use Rattle.server_core.specs.declared.datagram_outcome.DatagramOutcome.TheVariants.{EarlyRelease, Malformed}
 use Rattle.daemon_endpoints.specs.declared.arrival.Arrival.{Arrival}
 use Rattle.daemon_endpoints.specs.Receiving.{HasHeard, IsHeardNow}
 
@@ -53,9 +53,10 @@ module _ {P : Type 0} (gives : Moment → Type 0) where
         → HoldsMore was held
     handled Lets own manner t datagram old new was held (Answered kind) is =
         let h : HeldAnswer (Arrival P) = record { answer = is.2; read = arrival.heard.reading } in
-        (h ∷ [], is.8, (peer_gave h is.6 refl, tt))
+        (h ∷ [], is.9, (peer_gave h is.7 refl, tt))
     handled Lets own manner t datagram old new was held (Unanswered why) is = no_more was held is.3
     handled Lets own manner t datagram old new was held TooMany is = no_more was held is.3
+    handled Lets own manner t datagram old new was held EarlyRelease is = no_more was held is.4
     handled Lets own manner t datagram old new was held other is = informed own manner datagram was held other is.1
 
     one_heard : (Lets : Journal → ℕ → ClientMessage → List Permit → Type 0) (manner : ReplyPolicy)

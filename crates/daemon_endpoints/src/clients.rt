@@ -139,7 +139,9 @@ impl<G: Datagrams> ClientEndpoint<G> {
             DatagramOutcome::AnsweredInformation => {
                 let _ = self.held.push(ServerKind::Reply);
             }
-            DatagramOutcome::Unanswered(_) | DatagramOutcome::UnansweredInformation(_) => {
+            DatagramOutcome::Unanswered(_)
+            | DatagramOutcome::UnansweredInformation(_)
+            | DatagramOutcome::EarlyRelease => {
                 self.traffic.unanswered = self.traffic.unanswered.saturating_add(1);
             }
             DatagramOutcome::TooMany => {

@@ -6,11 +6,11 @@
 //! They stand on devices that don't wait (`daemon_io`), and on a server that runs (`server_core`).
 //!
 //! ```text
-//! clients.hear(&mut running, &manner, &clocks, &mut log)?;
-//! partner.hear(&mut running, &settings, &now, &clocks, &mut log)?;
-//! .. running.settle() ..
-//! tell(&mut clients, &mut partner, &mut running, &answers, &frames, &now, &mut log);
-//! desk.tell(now.instant);
+//! clients.receive(&mut running, &manner, &clocks, &mut log)?;
+//! partner.receive(&mut running, &settings, &now, &clocks, &mut log)?;
+//! let Committed { mut running, leaving } = running.commit()?;
+//! send_committed(&mut clients, &mut partner, &mut running, &answers, &frames, &clocks, &now, &mut log);
+//! desk.send_replies(now.instant);
 //! ```
 #![tactic(auto)]
 

@@ -21,10 +21,11 @@ use Rattle.client_service.specs.declared.partner_availability.PartnerAvailabilit
 use Rattle.client_service.specs.declared.partner_availability.PartnerAvailability.TheVariants.{Up, Down}
 use Rattle.server_core.specs.declared.datagram_outcome.DatagramOutcome.{DatagramOutcome}
 use Rattle.server_core.specs.declared.datagram_outcome.DatagramOutcome.TheVariants.{Answered, Unanswered, AnsweredInformation, UnansweredInformation, TooMany}
-use Rattle.server_core.specs.declared.datagram_outcome.DatagramOutcome.TheVariants.{Malformed}
+use Rattle.server_core.specs.declared.datagram_outcome.DatagramOutcome.TheVariants.{EarlyRelease, Malformed}
 use Rattle.server_core.specs.declared.committed_output.HeldAnswer.{HeldAnswer}
 use Rattle.server_core.specs.VolumeWriters.{WriterState}
 use Rattle.client_service.specs.declared.terms.ReuseTerms.{ReuseTerms}
+use Rattle.client_service.specs.EarlyReleases.{HasEarlyRelease}
 use Rattle.server_core.specs.Owing.{HasReceipts, IsReplyOfReceipts, Informs}
 
 -- what a server takes its partner for, by the reading since which it is down
@@ -38,10 +39,11 @@ partner_of j = partner_by (state_of j).down
 -- why a message has no answer: for want of memory nothing was done, or its orders, by the permits that it was given,
 -- ended so
 abbrev pub IsUnanswered : (Journal → ℕ → ClientMessage → List Permit → Type 0) → (own : List ℕ) → ReplyPolicy
-    → ClientMessage → (read : ℕ) → WriterState → WriterState → NoReplyReason → Type 0
-IsUnanswered Lets own manner m read old new why =
+    → ReuseTerms → ClientMessage → (read : ℕ) → WriterState → WriterState → NoReplyReason → Type 0
+IsUnanswered Lets own manner t m read old new why =
     ((why ≡ Memory) × (new ≡ old))
-    ⊎ ((permits : List Permit) × Lets old.served.journal read m permits
+    ⊎ ((permits : List Permit) × (HasEarlyRelease old.served.journal t read m → ⊥)
+    × Lets old.served.journal read m permits
     × HasNoReply HasReceipts (partner_of old.served.journal) own manner m permits read (receipts_in old.served)
     (receipts_in new.served) why)
 
@@ -77,19 +79,22 @@ pub record Brings (own datagram : List ℕ) (m : ClientMessage) : Type 0 where
 
 -- One answer more is held back: to the peer, at this reading, and it tells the message, by the permits that it was
 -- given, what the receipts say that its orders added, or again what stands. Or there is none, for a reason, and none
--- more is held back.
+-- more is held back. Of a RELEASE that comes too early nothing is done.
 abbrev pub IsHandled : {P : Type 0} → (Journal → ℕ → ClientMessage → List Permit → Type 0) → (own : List ℕ) → ReplyPolicy
     → ReuseTerms → (peer : P) → (datagram : List ℕ) → (read : ℕ) → WriterState → WriterState → List (HeldAnswer P)
     → List (HeldAnswer P) → DatagramOutcome → Type 0
 IsHandled {P} Lets own manner t peer datagram read old new was held (Answered kind) =
     (m : ClientMessage) × (permits : List Permit) × (a : AnswerTo P) × Brings own datagram m
-    × Lets old.served.journal read m permits × (kind ≡ m.kind) × (a.peer ≡ peer)
+    × (HasEarlyRelease old.served.journal t read m → ⊥) × Lets old.served.journal read m permits × (kind ≡ m.kind) × (a.peer ≡ peer)
     × IsReplyOfReceipts (partner_of old.served.journal) t own manner m permits read (receipts_in old.served)
     (receipts_in new.served) a.octets a.line
     × (held ≡ was ++ record { answer = a; read = read } ∷ [])
 IsHandled Lets own manner t peer datagram read old new was held (Unanswered why) =
-    (m : ClientMessage) × Brings own datagram m × IsUnanswered Lets own manner m read old new why × (held ≡ was)
+    (m : ClientMessage) × Brings own datagram m × IsUnanswered Lets own manner t m read old new why × (held ≡ was)
 IsHandled Lets own manner t peer datagram read old new was held TooMany =
     (m : ClientMessage) × Brings own datagram m × (new ≡ old) × (held ≡ was)
+IsHandled Lets own manner t peer datagram read old new was held EarlyRelease =
+    (m : ClientMessage) × Brings own datagram m × HasEarlyRelease old.served.journal t read m × (new ≡ old)
+    × (held ≡ was)
 IsHandled Lets own manner t peer datagram read old new was held other =
     (new ≡ old) × IsInformed own manner peer datagram read was held other

@@ -22,6 +22,9 @@ pub enum DatagramOutcome {
     /// It is a message, and its client sends too many: nothing was done.
     #[error("its client sends too many messages")]
     TooMany,
+    /// It is a RELEASE of what the partner may tell its client again: nothing was done.
+    #[error("its client gives back what the partner may tell it again")]
+    EarlyRelease,
     /// It is no message to the server, or there was no memory to read it.
     #[error("it is no message: {0}")]
     Malformed(PdError),

@@ -24,6 +24,7 @@ use crate::volume_writer::{CommitFailure, VolumeWriter};
 use client_id::Duid;
 use client_service::{
     Admission, DropReason, NoReplyReason, PartnerAvailability, ReuseTerms, answer_information,
+    has_early_release,
 };
 use dhcp6_pd::{ClientMessage, PdError, PdFault, decode, decode_information};
 use disk_model::Folder;
@@ -139,7 +140,8 @@ where
     /// Hears a datagram that came from a peer at a reading. Where it is a client's message to this server, its orders,
     /// of a RELEASE one for each prefix, are done, those that the admission lets be, or it is told again what it has;
     /// the answer is held back until the next `commit`. Where it is a request for options alone, and the server's
-    /// manner has some, so is the answer to that.
+    /// manner has some, so is the answer to that. Of a RELEASE that comes too early nothing is done
+    /// (`client_service::has_early_release`).
     pub fn handle_datagram<A: Admission>(
         &mut self,
         admission: &mut A,
@@ -160,6 +162,9 @@ where
         match self.held.reserve(1) {
             Ok(()) => {}
             Err(_) => return DatagramOutcome::Unanswered(NoReplyReason::Memory),
+        }
+        if has_early_release(self.volume.book(), &self.terms, read, &message) {
+            return DatagramOutcome::EarlyRelease;
         }
         let permits = match admission.permits(self.volume.book(), read, &message) {
             Ok(permits) => permits,

@@ -1,13 +1,15 @@
 //! A server of the pair, and its end of the link.
 
-use client_service::{PartnerAvailability, ReuseTerms, answer_to, find_reusable_lease};
+use client_service::{
+    PartnerAvailability, ReuseTerms, answer_to, find_reusable_lease, is_early_release,
+};
 use dhcp6_pd::decode;
 use exclusive_book::{ExclusiveBook, ExclusivePairBook};
 use failover_message::encode;
 use failover_session::{FailoverSession, LinkInput};
 use lead_time::Reading;
 use prefix_range::Prefix;
-use server_book::{Book, Order, Reply, ReplyPolicy, Settings, read_settings};
+use server_book::{Book, LeaseRequest, Order, Reply, ReplyPolicy, Settings, read_settings};
 use std::alloc::Global;
 use std::test::Fail;
 
@@ -52,17 +54,26 @@ impl Server {
         self.own.book.apply(now, order).is_ok()
     }
 
-    /// What a client is told again that it has, by an earlier line: a prefix for so many seconds.
-    pub fn told_again(&self, now: Reading, order: &Order) -> Option<(Prefix, u32)> {
-        let terms = ReuseTerms {
+    /// By what it tells again.
+    fn terms(&self) -> ReuseTerms {
+        ReuseTerms {
             floor: FLOOR,
             skew: self.settings.skew(),
             transit: self.settings.transit(),
-        };
-        match find_reusable_lease(&self.own.book, &terms, now, order) {
+        }
+    }
+
+    /// What a client is told again that it has, by an earlier line: a prefix for so many seconds.
+    pub fn told_again(&self, now: Reading, order: &Order) -> Option<(Prefix, u32)> {
+        match find_reusable_lease(&self.own.book, &self.terms(), now, order) {
             Ok(Some(lease)) => Some((lease.prefix, lease.valid)),
             _ => None,
         }
+    }
+
+    /// Returns whether a client gives back what the partner may tell it again.
+    pub fn is_early_release(&self, now: Reading, asked: &LeaseRequest) -> bool {
+        is_early_release(&self.own.book, &self.terms(), now, asked)
     }
 
     /// What its book grants by an order, if it grants anything: a prefix for so many seconds.

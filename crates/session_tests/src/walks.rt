@@ -44,40 +44,14 @@ const EVENTS: u64 = 20_000;
 /// By how many milliseconds each clock is ahead or behind, at most: within the skew.
 const MOST_OFF: u64 = 1_500;
 
-/// How many requests and releases were answered, how many requests without a line, and how many connections there were.
+/// How many requests and releases were answered, how many requests without a line, how many releases came too early, and
+/// how many connections there were.
 #[derive(Clone, Copy, Default)]
 struct Counts {
     answered: u64,
     again: u64,
+    early: u64,
     connections: u64,
-}
-
-/// A client. One that keeps to a server is told again what it has; one that roams has a line for each request: what it
-/// gave back to one server the other would tell it again before it hears of that.
-#[derive(Clone, Copy)]
-struct Client {
-    last_octet: u8,
-    keeps_to: Option<Role>,
-}
-
-impl Client {
-    fn keeping(last_octet: u8, role: Role) -> Client {
-        Client {
-            last_octet,
-            keeps_to: Some(role),
-        }
-    }
-
-    fn roaming(last_octet: u8) -> Client {
-        Client {
-            last_octet,
-            keeps_to: None,
-        }
-    }
-
-    fn duid(&self) -> Result<Duid, Fail> {
-        Ok(Duid::from_bytes(&[0, 3, 0, 1, 2, 0, 0, 0, 0, self.last_octet])?)
-    }
 }
 
 /// Two servers, what their clients were told, the dice, and true time in milliseconds.
@@ -138,53 +112,30 @@ impl Walker {
         self.pair.connect(alloc)
     }
 
-    /// One client of five.
-    fn client(&mut self) -> Client {
-        match self.dice.below(5) {
-            0 => Client::keeping(0, Role::Primary),
-            1 => Client::keeping(1, Role::Secondary),
-            last => Client::roaming(u8::try_from(last).unwrap_or(2)),
-        }
-    }
-
-    /// The server that a client asks.
-    fn asked_by(&mut self, client: Client) -> Role {
-        match client.keeps_to {
-            Some(role) => role,
-            None => self.role(),
-        }
+    /// One client of five: each asks either server.
+    fn client(&mut self) -> Result<Duid, Fail> {
+        let last = u8::try_from(self.dice.below(5)).unwrap_or(0);
+        Ok(Duid::from_bytes(&[0, 3, 0, 1, 2, 0, 0, 0, 0, last])?)
     }
 
     /// A client asks a server for a unit, and is told no prefix that another client has.
     fn request(&mut self) -> Result<(), Fail> {
-        let client = self.client();
-        let role = self.asked_by(client);
+        let client = self.client()?;
+        let role = self.role();
         let now = self.clock(role)?;
-        let duid = client.duid()?;
         let order = Order::Request(LeaseRequest {
-            client: duid,
+            client,
             iaid: Iaid(1),
             hint: None,
         });
-        if let Some((prefix, valid)) = self.told_again(client, now, &order) {
-            return self.tell(duid, prefix, valid);
+        if let Some((prefix, valid)) = self.pair.server(role).told_again(now, &order) {
+            self.counts.again = self.counts.again.saturating_add(1);
+            return self.tell(client, prefix, valid);
         }
         match self.pair.server(role).granted(now, &order) {
-            Some((prefix, valid)) => self.tell(duid, prefix, valid),
+            Some((prefix, valid)) => self.tell(client, prefix, valid),
             None => Ok(()),
         }
-    }
-
-    /// What a client that keeps to one server is told again by it.
-    fn told_again(&mut self, client: Client, now: Reading, order: &Order) -> Option<(Prefix, u32)> {
-        let Some(role) = client.keeps_to else {
-            return None;
-        };
-        let again = self.pair.server(role).told_again(now, order);
-        if again.is_some() {
-            self.counts.again = self.counts.again.saturating_add(1);
-        }
-        again
     }
 
     /// A client is told that it has a prefix for so many seconds.
@@ -202,23 +153,26 @@ impl Walker {
         Err(Fail::from("a client is told that it has what another has"))
     }
 
-    /// A client gives back to a server what it was told last.
+    /// A client gives back to a server what it was told last. One that does so too early has no answer.
     fn release(&mut self) -> Result<(), Fail> {
-        let client = self.client();
-        let role = self.asked_by(client);
+        let client = self.client()?;
+        let role = self.role();
         let now = self.clock(role)?;
-        let duid = client.duid()?;
-        let Some(prefix) = self.told.last_of(&duid) else {
+        let Some(prefix) = self.told.last_of(&client) else {
             return Ok(());
         };
-        let order = Order::Release(LeaseRequest {
-            client: duid,
+        let asked = LeaseRequest {
+            client,
             iaid: Iaid(1),
             hint: Some(prefix),
-        });
-        if self.pair.server(role).order(now, &order) {
+        };
+        if self.pair.server(role).is_early_release(now, &asked) {
+            self.counts.early = self.counts.early.saturating_add(1);
+            return Ok(());
+        }
+        if self.pair.server(role).order(now, &Order::Release(asked)) {
             self.counts.answered = self.counts.answered.saturating_add(1);
-            self.told.forget(&duid, &prefix);
+            self.told.forget(&client, &prefix);
         }
         Ok(())
     }
@@ -338,7 +292,8 @@ fn walk(alloc: Global, seed: u64, events: u64) -> Result<Counts, Fail> {
 fn no_unit_is_two_clients_over_a_wire_that_breaks(rt: HostRuntime) -> Result<(), Fail> {
     for seed in 0..WALKS {
         let counts = walk(rt.alloc(), seed, EVENTS)?;
-        assert!(rt; counts.answered > 1_000 && counts.again > 50 && counts.connections > 10);
+        assert!(rt; counts.answered > 1_000 && counts.again > 50);
+        assert!(rt; counts.early > 50 && counts.connections > 10);
     }
     Ok(())
 }

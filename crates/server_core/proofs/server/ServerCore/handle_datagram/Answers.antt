@@ -1,11 +1,13 @@
 use Rattle.std.proofs.Common.{refl, ◌∙◌, ap, subst, inl, inr}
+use Rattle.std.proofs.lemmas.Bool.{iff_false}
 use Rattle.client_service.specs.Answering.{HasNoReply}
+use Rattle.client_service.specs.EarlyReleases.{HasEarlyRelease}
 use Rattle.server_core.specs.Served.{receipts_in}
 use Rattle.server_core.specs.DatagramHandling.{IsHandled, partner_of}
 use Rattle.server_core.specs.Owing.{HasReceipts, IsReplyOfReceipts}
 use Rattle.server_core.specs.declared.committed_output.HeldAnswer.{HeldAnswer}
 use Rattle.client_service.specs.declared.no_reply_reason.NoReplyReason.TheVariants.{Memory}
-use Rattle.server_core.specs.declared.datagram_outcome.DatagramOutcome.TheVariants.{Answered, Unanswered, TooMany}
+use Rattle.server_core.specs.declared.datagram_outcome.DatagramOutcome.TheVariants.{Answered, Unanswered, TooMany, EarlyRelease}
 use Rattle.server_core.proofs.Owed.{same_grows, all_owed, one_more_owed, just_owed, held_as, held_more}
 use Rattle.server_core.proofs.Said.{talk_later}
 use Rattle.server_core.proofs.server.ServerCore.handle_datagram.Goals as goal
@@ -34,7 +36,7 @@ invariant_of-self-in-Ok-said g c =
 
 pub returns-in-Ok-said-clause-heard : goal.returns-in-Ok-said-clause-heard
 returns-in-Ok-said-clause-heard g c =
-    let partner = c.partner_of-partner.ensures ∙ ap partner_of c.book-2.ensures in
+    let partner = c.partner_of-partner.ensures ∙ ap partner_of c.book-3.ensures in
     let permits = c.in-Ok-permits.permits.items in
     let lets = g.A.Admission.lets c.args.admission.now in
     subst (λ s. IsHandled lets s.own c.args.manner.now s.terms c.args.peer c.args.datagram.now c.args.read s.volume c.answer-said.new.self
@@ -43,7 +45,9 @@ returns-in-Ok-said-clause-heard g c =
       permits,
       c.in-Ok-said.answer,
       c.in-Ok.ensures.brought,
-      subst (λ j. lets j c.args.read c.in-Ok.message permits) c.book.ensures c.in-Ok-permits.ensures,
+      subst (λ j. HasEarlyRelease j c.self.inside.terms c.args.read c.in-Ok.message → ⊥) c.book.ensures
+          (iff_false c.has_early_release.ensures c.if-has_early_release.false),
+      subst (λ j. lets j c.args.read c.in-Ok.message permits) c.book-2.ensures c.in-Ok-permits.ensures,
       refl,
       c.in-Ok-said.ensures.back,
       subst (λ ps. IsReplyOfReceipts (partner_of c.self.inside.volume.served.journal) c.self.inside.terms c.self.inside.own
@@ -68,7 +72,7 @@ invariant_of-self-in-Err-said g c =
 
 pub returns-clause-heard : goal.returns-clause-heard
 returns-clause-heard g c =
-    let partner = c.partner_of-partner.ensures ∙ ap partner_of c.book-2.ensures in
+    let partner = c.partner_of-partner.ensures ∙ ap partner_of c.book-3.ensures in
     let permits = c.in-Ok-permits.permits.items in
     let lets = g.A.Admission.lets c.args.admission.now in
     subst (λ s. IsHandled lets s.own c.args.manner.now s.terms c.args.peer c.args.datagram.now c.args.read s.volume c.answer-said.new.self
@@ -77,7 +81,9 @@ returns-clause-heard g c =
       c.in-Ok.ensures.brought,
       inr (
         permits,
-        subst (λ j. lets j c.args.read c.in-Ok.message permits) c.book.ensures c.in-Ok-permits.ensures,
+        subst (λ j. HasEarlyRelease j c.self.inside.terms c.args.read c.in-Ok.message → ⊥) c.book.ensures
+            (iff_false c.has_early_release.ensures c.if-has_early_release.false),
+        subst (λ j. lets j c.args.read c.in-Ok.message permits) c.book-2.ensures c.in-Ok-permits.ensures,
         subst (λ ps. HasNoReply HasReceipts (partner_of c.self.inside.volume.served.journal) c.self.inside.own
             c.args.manner.now c.in-Ok.message ps c.args.read (receipts_in c.self.inside.volume.served)
             (receipts_in c.answer-said.new.self.served) c.in-Err-said.why) c.deref.ensures.value
@@ -105,3 +111,19 @@ returns-in-Err-Memory-clause-heard g c =
     subst (λ s. IsHandled (g.A.Admission.lets c.args.admission.now) s.own c.args.manner.now s.terms c.args.peer
     c.args.datagram.now c.args.read s.volume c.self.inside.volume s.held c.reserve.new.self.items (Unanswered Memory))
     c.self.view_is (c.in-Ok.message, c.in-Ok.ensures.brought, inl (refl, refl), c.reserve.ensures.items)
+
+pub returns-then-has_early_release-clause-grows : goal.returns-then-has_early_release-clause-grows
+returns-then-has_early_release-clause-grows g c = same_grows _ _ (ap (λ s. s.volume) c.self.view_is)
+
+pub returns-then-has_early_release-clause-heard : goal.returns-then-has_early_release-clause-heard
+returns-then-has_early_release-clause-heard g c =
+    subst (λ s. IsHandled (g.A.Admission.lets c.args.admission.now) s.own c.args.manner.now s.terms c.args.peer
+    c.args.datagram.now c.args.read s.volume c.self.inside.volume s.held c.reserve.new.self.items EarlyRelease)
+    c.self.view_is (
+      c.in-Ok.message,
+      c.in-Ok.ensures.brought,
+      subst (λ j. HasEarlyRelease j c.self.inside.terms c.args.read c.in-Ok.message) c.book.ensures
+          (c.has_early_release.ensures.0 c.if-has_early_release.true),
+      refl,
+      c.reserve.ensures.items,
+    )
