@@ -1,4 +1,5 @@
-"""What a client is told again without a line: what remains of what it was given not long ago."""
+"""What a client is told again without a line: what remains of what it was given not long ago. And which RELEASE is
+early: the partner may still tell again what it gives back."""
 
 from . import answers, messages
 from .book import BookRefusal
@@ -13,6 +14,11 @@ def standing_line(unit, client, identifier):
     if line is None or not unit.holds(client, identifier):
         return None
     return line if line.event[:4] == ("grant", client, identifier, unit.prefix) else None
+
+
+def is_settled(unit):
+    """Whether the partner told no end of the unit, or has acknowledged the unit's last change."""
+    return unit.told == 0 or unit.due is None
 
 
 def remaining(book, unit, line, reading):
@@ -30,7 +36,7 @@ def told_without_line(book, floor, order, reading):
     except BookRefusal as refusal:
         return answers.ANSWER_OF_REFUSAL[refusal.name]
     line = standing_line(unit, *order[1:3])
-    if line is None or reading - line.reading >= 1000 * floor:
+    if line is None or not is_settled(unit) or reading - line.reading >= 1000 * floor:
         return None
     left = remaining(book, unit, line, reading)
     return ("given", unit.prefix, left) if left > 0 and 2 * left >= valid else None
@@ -44,6 +50,27 @@ def all_told_again(book, floor, message, reading, denied=()):
     found = [answers.NO_PREFIX if place in denied else told_without_line(book, floor, order, reading)
              for place, order in enumerate(answers.orders_of(message))]
     return None if None in found else found
+
+
+def early_until(book, floor, unit):
+    """What the clock has to show for a RELEASE of the unit not to be early, by the partner's last grant of which this
+    server knows; 0 where it knows of none, or nothing is told again."""
+    granted = unit.told - 2000 * book.life
+    return granted + 1000 * floor + 2 * book.skew if granted >= 0 and floor != 0 else 0
+
+
+def named_units(book, message):
+    """The units that a message names and that are its client's own, each under the IAID by which it names it."""
+    named = [(book.table.get(prefix), association.identifier) for association in message.associations
+             for prefix in association.prefixes]
+    return [unit for unit, identifier in named if unit is not None and unit.holds(message.client, identifier)]
+
+
+def is_early(book, floor, message, clock):
+    """Whether nothing is done of a message, a RELEASE that is early for one of the prefixes that it names. What the
+    clock itself shows is compared, though the journal's last reading be greater."""
+    return message.kind == messages.RELEASE and any(clock < early_until(book, floor, unit)
+                                                    for unit in named_units(book, message))
 
 
 def leaves_lines(book, message, manner, denied):

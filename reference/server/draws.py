@@ -221,6 +221,16 @@ class Draws:
             return head[:self.random.randrange(1, 35)]
         return head + self.relay_options(inner)
 
+    def message(self, kind, client, wanted):
+        """A client's message with these IA_PDs: each an identifier and the prefixes that it names, or None for one."""
+        parts = [option(messages.CLIENT_IDENTIFIER, client)]
+        for identifier, *prefixes in wanted:
+            data = identifier.to_bytes(4, "big") + bytes(8) + b"".join(map(prefix_named, prefixes))
+            parts.append(option(messages.IA_PD, data))
+        if kind != messages.REBIND:
+            parts.append(option(messages.SERVER_IDENTIFIER, self.own))
+        return bytes([kind]) + self.transaction() + b"".join(parts)
+
     def depth(self):
         if self.amiss(0.1):
             return self.random.choice((31, 32, 33, 33, 34, 40))
@@ -283,3 +293,11 @@ class Draws:
         """A message that is always answered."""
         octets = bytes([messages.SOLICIT]) + self.transaction() + option(messages.CLIENT_IDENTIFIER, b"sentinel")
         return octets + option(messages.IA_PD, bytes(12))
+
+
+def prefix_named(prefix):
+    """The option by which a client names a prefix; nothing where it names none."""
+    if prefix is None:
+        return b""
+    address, length = prefix
+    return option(messages.IA_PREFIX, bytes(8) + bytes([length]) + address.to_bytes(16, "big"))

@@ -4,8 +4,7 @@ from .book import Book
 from .draws import LARGEST_BY_IPV4, LARGEST_BY_IPV6, Draws
 from .life_ports import behind, drawn_ports
 from .limits import Limits
-from .messages import (CLIENT_IDENTIFIER, IA_PD, IA_PREFIX, INFORMATION_REQUEST, REBIND, RELEASE, RENEW, REQUEST,
-                       SERVER_IDENTIFIER, SOLICIT, option)
+from .messages import INFORMATION_REQUEST, REBIND, RELEASE, RENEW, REQUEST, SOLICIT
 from .program import LEAST_TRANSIT, now
 from .units import FREE
 from .values import Line, Settings, prefix_of
@@ -16,6 +15,7 @@ OWN = bytes.fromhex("00030001020000000009")
 WAITS = (40, 400)
 NEAR = 2
 FAULTS = 0.03
+ASKING = (REQUEST, RENEW, REBIND)
 # A port, and then where its client may move to: the link, relays that don't tell, and other ports.
 FIXED_PORTS = ((bytes(16), b"one port", None), None, (bytes(16), None, None), (b"elsewhere" + bytes(7), None, None),
                (bytes(16), None, b""), (bytes(16), b"one port", b""))
@@ -63,8 +63,11 @@ class LifeDraws(Draws):
     def await_bounds(self, bounds):
         """Has the clients of the book's grants ask when these are as old as one of the bounds."""
         grants = [line for line in self.book.lines if line.event[0] == "grant"]
-        moments = [(line.reading + bound, *line.event[1:4]) for line in grants for bound in bounds]
-        self.moments = sorted(moments, reverse=True)
+        self.await_moments((line.reading + bound, *line.event[1:4], ASKING) for line in grants for bound in bounds)
+
+    def await_moments(self, moments):
+        """Has clients ask at moments: each is a reading, a client, an identifier, a prefix, and what may be asked."""
+        self.moments = sorted([*self.moments, *moments], reverse=True)
 
     def timely(self):
         """What the client of a grant asks whose moment is now; None where there is none."""
@@ -72,17 +75,8 @@ class LifeDraws(Draws):
             self.moments.pop()
         if not self.moments or self.moments[-1][0] > now() + NEAR:
             return None
-        _, self.asking, identifier, prefix = self.random.choice(self.moments[-2:])
-        return self.message(self.random.choice((REQUEST, RENEW, REBIND)), self.asking, [(identifier, prefix)])
-
-    def message(self, kind, client, wanted):
-        """A client's message with these IA_PDs, pairs of an identifier and a prefix, or None where none is named."""
-        parts = [option(CLIENT_IDENTIFIER, client)]
-        parts += [option(IA_PD, identifier.to_bytes(4, "big") + bytes(8) + prefix_named(prefix))
-                  for identifier, prefix in wanted]
-        if kind != REBIND:
-            parts.append(option(SERVER_IDENTIFIER, self.own))
-        return bytes([kind]) + self.transaction() + b"".join(parts)
+        _, self.asking, identifier, prefix, kinds = self.random.choice(self.moments[-2:])
+        return self.message(self.random.choice(kinds), self.asking, [(identifier, prefix)])
 
     def asked(self, kind, client, identifiers, port):
         """What a client asks for these identity associations, behind a port."""
@@ -118,14 +112,6 @@ class LifeDraws(Draws):
         if self.amiss(0.5):
             octets, name = self.mutated(octets), "mutated"
         return octets[:self.largest], name
-
-
-def prefix_named(prefix):
-    """The option by which a client names a prefix; nothing where it names none."""
-    if prefix is None:
-        return b""
-    address, length = prefix
-    return option(IA_PREFIX, bytes(8) + bytes([length]) + address.to_bytes(16, "big"))
 
 
 def drawn_times(source, has_past=False):

@@ -5,9 +5,11 @@ import time
 
 from . import frames, stories
 from .frames import Frame
+from .life_draws import WAITS
 from .lives import Life
+from .messages import RELEASE
 from .partner import A_MOMENT, Partner
-from .program import PATIENCE
+from .program import PATIENCE, now
 from .units import ACTIVE, BACKUP, RELEASED
 from .values import NOBODY
 
@@ -15,6 +17,9 @@ from .values import NOBODY
 STEPS = {ACTIVE: ("known", "known", "known", "given_by_partner", "given_back_at_partner"),
          RELEASED: ("known", "known", "known", "expired_at_partner"),
          BACKUP: ("known", "given_by_partner", "given_by_partner")}
+# How far ahead, in milliseconds, the bound of a RELEASE is laid; and how long behind it the client gives back.
+AHEAD = 30
+LATE = (-40, -5, -2, -1, -1, 0, 0, 1)
 
 
 class LifePartner(Partner):
@@ -87,8 +92,33 @@ class LifePartner(Partner):
         return last if last is not None and self.draws.chance(0.8) else self.draws.holder()
 
     def given_by_partner(self, unit):
-        end = self.life.book.lines[-1].reading + 2000 * self.life.book.life
-        self.say(stories.partners_update(unit, "active", end, self.holder(unit)))
+        """Tells of a grant of just now; or of one whose RELEASE isn't early any more, or soon; or an end that tells no
+        reading."""
+        reading, holder = now(), self.holder(unit)
+        way = self.draws.pick(4, "now", 2, "once", 2, "soon", 1, "never")
+        if way == "now":
+            self.tell_grant(unit, holder, reading)
+        elif way == "once":
+            self.tell_grant(unit, holder, reading - self.window() - self.random.randrange(5000))
+        elif way == "soon":
+            bound = reading + self.random.randrange(*WAITS)
+            self.tell_bound(unit, holder, bound)
+            self.draws.await_moments([(bound, *holder, unit.prefix, (RELEASE,))])
+        else:
+            most = 2000 * self.life.book.life
+            self.tell_grant(unit, holder, -self.random.choice((0, 1, most - 1, self.random.randrange(most))))
+
+    def window(self):
+        """How long behind the partner's grant a RELEASE is early, in milliseconds."""
+        return 1000 * self.life.limits.renew_floor + 2 * self.life.book.skew
+
+    def tell_grant(self, unit, holder, reading):
+        """Tells the end of a grant at a reading; it may be one of before any clock."""
+        self.say(stories.partners_update(unit, "active", reading + 2000 * self.life.book.life, holder))
+
+    def tell_bound(self, unit, holder, bound):
+        """Tells of a grant whose RELEASE is early until the clock shows the bound."""
+        self.tell_grant(unit, holder, bound - self.window())
 
     def given_back_at_partner(self, unit):
         self.say(stories.partners_update(unit, "released", 0, (unit.client, unit.identifier)))
@@ -155,6 +185,20 @@ class LinkedLife(Life):
                 self.partner.step()
                 self.hear()
         super().put(octets, name)
+        unit = self.partner.unit()
+        if unit.status in (ACTIVE, BACKUP) and self.draws.chance(self.often / 8):
+            self.release_near_bound(unit, self.draws.random.choice(LATE))
+
+    def release_near_bound(self, unit, late):
+        """Has the partner tell of a grant whose RELEASE is early up to a moment that is soon, and the client give it
+        back so many milliseconds behind that."""
+        client, identifier = self.partner.holder(unit)
+        until = now() + AHEAD
+        self.partner.tell_bound(unit, (client, identifier), until - late)
+        self.hear()
+        while now() < until:
+            time.sleep(0.0002)
+        super().put(self.draws.message(RELEASE, client, [(identifier, unit.prefix)]), "near a bound")
 
     def roll(self):
         self.hear()

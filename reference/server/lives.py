@@ -207,7 +207,7 @@ class Life:
         return left
 
     def readings(self, exchange):
-        """The readings at which a message can have been served."""
+        """What the clock can have shown as a message was served; a line of it has no reading below the last."""
         last = self.book.lines[-1].reading
         if not exchange.lines:
             return range(exchange.before, exchange.after + 1)
@@ -231,7 +231,8 @@ class Life:
         else:
             while left and not self.fits(exchange, message):
                 self.take_unasked([left.pop(0)])
-            self.judge_if_heard(exchange, message)
+            if not self.is_early(exchange, message):
+                self.judge_if_heard(exchange, message)
         self.take_unasked(left)
         self.expect_ended()
 
@@ -248,6 +249,9 @@ class Life:
         """Whether what became of a message without lines may be so before the next line that no client asked for."""
         if exchange.lines:
             return True
+        early = self.early(exchange, message)
+        if all(early) or (any(early) and exchange.answer is None):
+            return exchange.answer is None
         denied = self.policy.denied(self.book, message, port_of(message))
         if not again.leaves_lines(self.book, message, self.manner, denied):
             answer = answers.serve(self.book, self.own, message, exchange.before, self.manner, denied)
@@ -255,6 +259,32 @@ class Life:
                 return True
         found = [self.told_again(message, at, denied) for at in self.readings(exchange)]
         return exchange.answer in [self.small(answer) for answer in found if answer is not None]
+
+    def early(self, exchange, message):
+        """Whether nothing is done of a message, by each clock by which it can have been looked at."""
+        return [again.is_early(self.book, self.limits.renew_floor, message, at) for at in self.readings(exchange)]
+
+    def is_early(self, exchange, message):
+        """Whether nothing was done of a message, an early RELEASE, which counts for nothing then."""
+        if message.kind != messages.RELEASE:
+            return False
+        early = self.early(exchange, message)
+        is_silent = exchange.answer is None and not exchange.lines
+        if all(early) and not is_silent:
+            self.fault("awaited that nothing is done of an early RELEASE")
+        self.count_release(exchange, message, is_silent and any(early))
+        return is_silent and any(early)
+
+    def count_release(self, exchange, message, is_early):
+        """Counts a RELEASE of a unit of which the partner told, and how near to its bound it came."""
+        bound = max((again.early_until(self.book, self.limits.renew_floor, unit)
+                     for unit in again.named_units(self.book, message)), default=0)
+        near = {at - bound for at in self.readings(exchange)}
+        self.tally["RELEASEs that are early"] += is_early
+        self.tally["RELEASEs that are early by the clock alone"] += is_early and bound <= self.book.lines[-1].reading
+        self.tally["RELEASEs that were early once"] += bound > 0 and not is_early
+        self.tally["RELEASEs a millisecond before their bound"] += bound > 0 and near == {-1}
+        self.tally["RELEASEs at their bound"] += bound > 0 and near == {0}
 
     def judge_if_heard(self, exchange, message):
         is_counted = self.limits.client_rate != 0 and message.kind != messages.INFORMATION_REQUEST
@@ -297,19 +327,26 @@ class Life:
         if not exchange.lines and exchange.answer in [self.small(answer) for answer in found if answer is not None]:
             self.tally["messages told again"] += 1
             self.tally["told again, of grants that share a reading"] += self.shares_reading(message)
+            self.tally["told again, of what the partner told"] += any(unit.told for unit in self.asked_units(message))
             return
         if None not in found:
             self.fault(f"awaited what remains: {found[-1].hex()}")
         at = self.readings(exchange)[found.index(None)]
+        self.tally["ordered, the partner's acknowledgement being due"] += message.kind in again.KINDS and any(
+            unit.standing and not again.is_settled(unit) for unit in self.asked_units(message))
         count = len(self.book.lines)
         answer = answers.serve(self.book, self.own, message, at, self.manner, denied)
         self.expect(exchange, self.small(answer), "its orders", self.book.lines[count:])
         self.note_grants(self.book.lines[count:], port_of(message))
 
+    def asked_units(self, message):
+        """The units that a message's client has and asks for."""
+        units = [self.book.bound(*order[1:]) for order in answers.orders_of(message)]
+        return [unit for unit in units if unit is not None]
+
     def shares_reading(self, message):
         """Whether a unit that a message asks for has other grants at the reading of its standing one."""
-        units = [self.book.bound(*order[1:]) for order in answers.orders_of(message)]
-        lines = [unit.standing for unit in units if unit is not None and unit.standing is not None]
+        lines = [unit.standing for unit in self.asked_units(message) if unit.standing is not None]
         grants = Counter((line.reading, line.event[3]) for line in self.book.lines if line.event[0] == "grant")
         return any(grants[line.reading, line.event[3]] > 1 for line in lines)
 

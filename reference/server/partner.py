@@ -6,6 +6,7 @@ from . import frames
 from .book import BookRefusal
 from .down import exchange, note, wants_answer
 from .frames import Frame
+from .messages import RELEASE
 from .program import Difference, now
 from .units import ACTIVE, BACKUP, EXPIRED, RELEASED
 
@@ -68,8 +69,17 @@ class Partner:
             self.link.send(*again)
             self.tally["frames sent again"] += len(again)
 
+    def release_of_told(self):
+        """A RELEASE of a unit of which we told an end, None mostly: to `run` it is never early."""
+        told = [unit for unit in self.view.table.ordered if unit.status == ACTIVE and unit.told > 0]
+        if not told or not self.draws.chance(0.05):
+            return None
+        unit = self.random.choice(told)
+        self.tally["RELEASEs of what we told of"] += 1
+        return self.draws.message(RELEASE, unit.client, [(unit.identifier, unit.prefix)])
+
     def datagram(self):
-        octets, name = self.draws.datagram()
+        octets = self.release_of_told() or self.draws.datagram()[0]
         wanted = wants_answer(octets, self.node.settings.own)
         sent = exchange(self.node, octets, wanted)
         if wanted:

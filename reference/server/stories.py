@@ -2,6 +2,7 @@
 clients ask while it is behind."""
 
 from . import rules
+from .again import early_until
 from .life_draws import LifeDraws
 from .messages import REBIND, RELEASE, RENEW, REQUEST
 from .units import ACTIVE, BACKUP, FREE, RELEASED
@@ -131,6 +132,13 @@ class StoryDraws(LifeDraws):
 
     def holder(self):
         return self.random.choice(self.clients), self.random.choice(self.identifiers)
+
+    def await_releases(self, floor):
+        """Has clients give back what they have at the moment up to which that is early."""
+        for unit in self.book.table.ordered:
+            bound = early_until(self.book, floor, unit)
+            if unit.status == ACTIVE and bound > 0:
+                self.await_moments([(bound, unit.client, unit.identifier, unit.prefix, (RELEASE,))])
 
     def client_message(self):
         return self.step() if self.chance(0.5) else super().client_message()

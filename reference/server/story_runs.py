@@ -7,7 +7,7 @@ import socket
 from dataclasses import replace
 
 from . import answers
-from .life_draws import bounds_of, drawn_ages, drawn_floor, drawn_life, drawn_times, half_of_units
+from .life_draws import WAITS, bounds_of, drawn_ages, drawn_floor, drawn_life, drawn_times, half_of_units
 from .life_partner import LinkedLife
 from .limits import Limits
 from .linkend import LinkEnd
@@ -34,6 +34,9 @@ def drawn_readings(source, settings, floor, begun):
     ahead = min(10_000, 2 * settings.skew)
     ages = drawn_ages(source, settings, floor, source.choice((0, 3, 20)), source.choice((0, ahead)))
     ages += [-source.choice((0, ahead // 8, ahead, ahead))] * source.choice((1, 3, 20))
+    early = 1000 * floor + 2 * settings.skew
+    if early < 2000 * settings.life:
+        ages += [early - source.randrange(*WAITS) for _ in range(source.choice((0, 3, 10)))]
     return sorted(begun - age for age in ages)
 
 
@@ -51,13 +54,14 @@ def serve_stories_once(program, seed, count, tally):
     """One life whose past, clients and partner are drawn."""
     source = random.Random(seed)
     settings = drawn_settings(source)
-    told = Limits(renew_floor=drawn_floor(source, settings) or None)
+    told = Limits(renew_floor=drawn_floor(source, settings) or None, client_rate=source.choice((0, 0, 0, 3)))
     floor = told.in_force(settings.life).renew_floor
     manner = replace(drawn_manner(source), releases_each=True)
     readings = drawn_readings(source, settings, floor, now())
     host, book, draws = drawn_life(source, settings, readings[0], kind=StoryDraws)
     write_stories(book, draws, readings, half_of_units(settings))
     draws.await_bounds(bounds_of(settings, floor))
+    draws.await_releases(floor)
     with partner_of(settings) as link, \
             Daemon(program, settings, manner, host, True, list(book.lines), told, link=link) as daemon:
         LinkedLife(daemon, draws, book, told, tally, manner).run(count)

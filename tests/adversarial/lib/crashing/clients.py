@@ -23,10 +23,8 @@ STATUSES = {NO_BINDING: "NoBinding", NO_PREFIX_AVAILABLE: "NoPrefixAvail"}
 TIMESTAMP_NS = 35
 # How long a client waits for an answer, and for a second offer, in seconds.
 PATIENCE, OFFERS = 1.5, 0.15
-# What a client that has a lease does, and how often; with None it is silent. One that keeps to no server gives nothing
-# back where servers tell again what a client has. Who comes and goes gives back more often.
+# What a client that has a lease does, and how often; with None it is silent. Who comes and goes gives back more often.
 DEEDS = {RENEW: 11, REBIND: 4, RELEASE: 3, None: 2}
-ROAMING = {RENEW: 11, REBIND: 4, None: 2}
 COMING_AND_GOING = {RENEW: 4, REBIND: 8, RELEASE: 8, None: 1}
 
 
@@ -109,9 +107,8 @@ def relayed(message):
 
 
 class Relay:
-    """All clients, by one socket to each server. `servers` has each side's port and identifier. Where servers tell
-    again what a client has, and clients have to keep to that, two of three keep to one server each, and the third gives
-    nothing back: docs/SAFETY.md says why."""
+    """All clients, by one socket to each server. `servers` has each side's port and identifier. With `does_keep` two of
+    three clients keep to one server each, which then often tells them again what they have."""
 
     def __init__(self, servers, count, dice, faults, does_keep=False, deeds=None):
         self.dice, self.faults, self.seen = dice, faults, collections.Counter()
@@ -155,8 +152,7 @@ class Relay:
             client.lease = None
             self.send(SOLICIT, client, self.servers_of(client), OFFERS)
             return
-        deeds = ROAMING if self.does_keep and client.home is None else self.deeds
-        kind = self.dice.choices(list(deeds), deeds.values())[0]
+        kind = self.dice.choices(list(self.deeds), self.deeds.values())[0]
         if kind is None:
             # It is silent until its lease has ended.
             self.rest(client, (lease.until - now()) / 1000 + self.dice.uniform(0, 1))
