@@ -9,7 +9,7 @@ use crate::shelf::{LinkEnd, Shelf};
 use crate::words::Words;
 use exclusive_book::ExclusivePairBook;
 use failover_message::encode;
-use failover_session::{FailoverSession, LinkInput, OutboundFrame, SessionError};
+use failover_session::{FailoverSession, LinkInput, OutboundFrame, SessionError, SessionPolicy};
 use line_words::{add_number, add_word};
 use server_book::read_settings;
 use std::alloc::Global;
@@ -59,7 +59,7 @@ pub fn add_begun(
         Ok(settings) => settings,
         Err(_) => return Err(Fault::Words),
     };
-    let mut talk = FailoverSession::new(alloc);
+    let mut talk = FailoverSession::new(alloc, SessionPolicy::Run);
     if talk.send_greeting(&named.own, &settings).is_err() {
         return Err(Fault::Memory);
     }

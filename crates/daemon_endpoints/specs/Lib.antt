@@ -1,3 +1,4 @@
 pub mod Receiving
 pub mod Saying
 pub mod Sending
+pub mod Serials

@@ -3,10 +3,12 @@
 ghost use Rattle.std.specs.Prelude.{◌≡◌, [], Some, None, IfOk, IfSome};
 ghost use Rattle.daemon_io.specs.ConnectionWrites.{IsUnused};
 ghost use Rattle.daemon_endpoints.specs.Receiving.{HasSameFiles};
+ghost use Rattle.daemon_endpoints.specs.Serials.{UsesNoSerial, UsesNoSerialApart};
 ghost use Rattle.daemon_endpoints.specs.Saying.{frames_of, SaysOver, StandsOn, MayStand};
 
 use crate::peer_connection::{PeerConnection, parting_of};
 use crate::receiving::ReceiveError;
+use binding_rules::ServerState;
 use daemon_io::{Connection, ConnectionSource, PeerRejected, PendingPeers};
 use disk_model::Folder;
 use failover_session::{OutboundFrame, SessionStage};
@@ -19,6 +21,7 @@ use server_log::{DisconnectReason, Log, LogEvent};
 use server_settings::Settings;
 use std::alloc::{AllocError, Global};
 use std::marker::Model;
+use std::time::{Duration, Instant};
 
 /// How many octets are read at once, at most.
 const READ_SIZE: usize = 65_536;
@@ -57,6 +60,23 @@ fn event_of(leaving: &PeerRejected) -> LogEvent {
         PeerRejected::Late => LogEvent::Disconnected(DisconnectReason::Unproved),
         PeerRejected::Lost => LogEvent::Disconnected(DisconnectReason::LostUnproved),
         PeerRejected::Displaced => LogEvent::Rejected,
+    }
+}
+
+/// Shows that a server lives without a serial, unless it takes its partner for down.
+#[tactic(auto, using(crate::proofs::Serials::state_uses_none, crate::proofs::Serials::same_uses_none))]
+fn show_life<F: Folder + Drop, P: Drop>(running: &mut ServerCore<F, P>, now: &Moment)
+where
+    F::File: Drop,
+    ensures files { HasSameFiles running.old running.new }
+    ensures serials { UsesNoSerial running.old running.new }
+{
+    if running.book().down().is_some() {
+        return;
+    }
+    match running.serve(now.reading, &Order::State(ServerState::Interrupted)) {
+        Ok(_receipt) => {}
+        Err(_refusal) => {}
     }
 }
 
@@ -228,8 +248,15 @@ impl<D: ConnectionSource> PartnerEndpoint<D> {
         }
     }
 
-    /// Sends the partner a contact: over the connection, where the two have joined over one; else it is a line that the
-    /// partner is told of over the next. Where the book refuses it now, nothing is done.
+    /// How long the connection has stood by the monotonic clock; none where there is none.
+    pub fn connected_for(&self, now: Instant) -> Option<Duration> {
+        Some(now.duration_since(self.standing.as_ref()?.begun.instant))
+    }
+
+    /// Shows that this server lives: by a contact, where the two have joined over the connection. Else no serial is used,
+    /// since the partner couldn't take it: what shows it then is a line `state interrupted`, unless the partner is taken
+    /// for down, which that line would end. Where the book refuses it now, nothing is done.
+    #[tactic(auto, using(crate::proofs::Serials::joined_is))]
     pub fn contact<F: Folder + Drop, P: Drop>(
         &mut self,
         running: &mut ServerCore<F, P>,
@@ -240,14 +267,28 @@ impl<D: ConnectionSource> PartnerEndpoint<D> {
         F::File: Drop,
         ensures files { HasSameFiles running.old running.new }
         ensures same { self.new ≡ self.old }
+        ensures serials { UsesNoSerialApart running.old running.new }
     {
-        match (&mut self.standing, running.stage()) {
-            (Some(standing), Some(SessionStage::Joined { .. })) => standing.send_heartbeat(
-                running, settings, now,
-            ),
-            _ => {
-                let _refused = running.serve(now.reading, &Order::SendContact);
-            }
+        match running.stage() {
+            Some(SessionStage::Joined { .. }) => self.send_heartbeat(running, settings, now),
+            _ => show_life(running, now),
+        }
+    }
+
+    /// Sends a contact over the connection.
+    fn send_heartbeat<F: Folder + Drop, P: Drop>(
+        &mut self,
+        running: &mut ServerCore<F, P>,
+        settings: &Settings,
+        now: &Moment,
+    )
+    where
+        F::File: Drop,
+        ensures files { HasSameFiles running.old running.new }
+        ensures same { self.new ≡ self.old }
+    {
+        if let Some(standing) = &mut self.standing {
+            standing.send_heartbeat(running, settings, now);
         }
     }
 
@@ -284,9 +325,16 @@ impl<D: ConnectionSource> PartnerEndpoint<D> {
     pub fn reconnect(&mut self)
         ensures { self.new ≡ self.old }
     {
+        self.part(DisconnectReason::Rolled);
+    }
+
+    /// Ends the connection behind this turn for a reason, where there is one that isn't over already.
+    pub fn part(&mut self, why: DisconnectReason)
+        ensures { self.new ≡ self.old }
+    {
         if let Some(standing) = &mut self.standing {
             if standing.parting.is_none() {
-                standing.parting = Some(DisconnectReason::Rolled);
+                standing.parting = Some(why);
             }
         }
     }

@@ -84,6 +84,7 @@ fn parting_at(stage: SessionStage) -> Option<DisconnectReason> {
         SessionStage::Greeting | SessionStage::Joined { .. } => None,
         SessionStage::Refused => Some(DisconnectReason::Refused),
         SessionStage::Ended { .. } => Some(DisconnectReason::PartnerLeft),
+        SessionStage::Short { .. } => Some(DisconnectReason::JournalOlder),
     }
 }
 
@@ -96,6 +97,15 @@ pub(crate) fn parting_of(error: SessionError) -> DisconnectReason {
     }
 }
 
+/// Why it is over by the error of a talk that has come to a stage: where this server's journal is short, the stage says
+/// so.
+fn parting_by(stage: Option<SessionStage>, error: SessionError) -> DisconnectReason {
+    match stage {
+        Some(SessionStage::Short { .. }) => DisconnectReason::JournalOlder,
+        _ => parting_of(error),
+    }
+}
+
 /// Returns whether a server can tell its partner all that it lacks.
 fn can_resend<F: Folder + Drop, P: Drop>(running: &ServerCore<F, P>, stage: &SessionStage) -> bool
 where
@@ -103,7 +113,10 @@ where
 {
     match stage {
         SessionStage::Joined { last } => running.can_resend_above(*last),
-        SessionStage::Greeting | SessionStage::Refused | SessionStage::Ended { .. } => true,
+        SessionStage::Greeting
+        | SessionStage::Refused
+        | SessionStage::Ended { .. }
+        | SessionStage::Short { .. } => true,
     }
 }
 
@@ -145,7 +158,7 @@ impl<D: ConnectionSource> PeerConnection<D> {
         let came = came(got, buffer, &mut self.quiet, &now);
         match running.handle_input(settings, now.reading, &came) {
             Ok(()) => self.look_at_stage(running),
-            Err(error) => self.parting = Some(parting_of(error)),
+            Err(error) => self.parting = Some(parting_by(running.stage(), error)),
         }
         match got {
             ReadOutcome::Octets(_) => {

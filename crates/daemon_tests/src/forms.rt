@@ -5,9 +5,11 @@ use server_status::StatusFormat;
 use std::test::Fail;
 
 const SERVING_LINES: &str = "\
+serving: yes
 role: primary
 time: 2026-11-23T19:01:45.623Z
 clock: right, 1203 ms ahead of the last line
+journal: whole
 volume: 3
 lines: 1042, 1040 on the disk
 opened: 2026-11-23T19:00:00.000Z
@@ -31,9 +33,11 @@ syncs: 61 in a minute, median 420 us, worst 1012000 us
 ";
 
 const WAITING_LINES: &str = "\
+serving: no, clock behind
 role: secondary
 time: 2026-11-23T19:00:00.000Z
 clock: behind, -105623 ms ahead of the last line
+journal: whole
 volume: 1
 lines: 2, 2 on the disk
 opened: 2026-11-23T19:00:00.000Z
@@ -57,13 +61,15 @@ syncs: none in a minute
 ";
 
 const SERVING_JSON: &str = "\
-{\"ahead_ms\":1203,\"answers\":{\"advertise\":31,\"reply\":435},\"clock\":\"right\",\"due\":7,\"held\":6,\"late\":3,\
-\"marked\":1,\"messages\":{\"rebind\":2,\"release\":5,\"renew\":400,\"request\":30,\"solicit\":31},\
+{\"ahead_ms\":1203,\"answers\":{\"advertise\":31,\"reply\":435},\"clock\":\"right\",\"due\":7,\"held\":6,\
+\"journal\":\"whole\",\"late\":3,\"marked\":1,\
+\"messages\":{\"rebind\":2,\"release\":5,\"renew\":400,\"request\":30,\"solicit\":31},\
 \"partner\":{\"connected_since_ms\":1795460500000,\"heard_ms\":1795460504419,\"link\":\"connected\",\
 \"standing\":\"normal\",\"standing_since_ms\":null},\"reading_ms\":1795460505623,\
 \"refused\":{\"bad_prefix_length\":0,\"duplicate_id\":0,\"ignored\":0,\"no_client_id\":0,\"not_ours\":9,\
 \"option_length\":0,\"server_id_missing\":0,\"server_id_present\":0,\"short\":1,\"too_deep\":0,\"too_many_ias\":0},\
-\"role\":\"primary\",\"syncs\":{\"count\":61,\"median_us\":420,\"worst_us\":1012000},\"unanswered\":2,\
+\"role\":\"primary\",\"serving\":{\"is\":true},\
+\"syncs\":{\"count\":61,\"median_us\":420,\"worst_us\":1012000},\"unanswered\":2,\
 \"units\":{\"delegated\":90,\"expired\":12,\"own\":100,\"partners\":50,\"released\":4},\
 \"volume\":{\"lines\":1042,\"number\":3,\"opened_ms\":1795460400000,\"roll\":\"unit_marked\",\"room\":\"enough\",\
 \"synced\":1040,\"written_ms\":1795460504420}}
@@ -101,6 +107,20 @@ fengtuyas_clock_timestamp_seconds 1795460505.623
 # UNIT fengtuyas_clock_ahead_seconds seconds
 # HELP fengtuyas_clock_ahead_seconds By how much the clock is ahead of the last line.
 fengtuyas_clock_ahead_seconds 1.203
+# TYPE fengtuyas_serving gauge
+# HELP fengtuyas_serving Whether clients are served.
+fengtuyas_serving 1
+# TYPE fengtuyas_not_serving gauge
+# HELP fengtuyas_not_serving Why nobody is served.
+fengtuyas_not_serving{why=\"waits_for_partner\"} 0
+fengtuyas_not_serving{why=\"clock_behind\"} 0
+fengtuyas_not_serving{why=\"journal_older\"} 0
+fengtuyas_not_serving{why=\"volume_full\"} 0
+fengtuyas_not_serving{why=\"goes_on_after_restart\"} 0
+# TYPE fengtuyas_journal stateset
+# HELP fengtuyas_journal Whether the journal has all that the partner took of it.
+fengtuyas_journal{fengtuyas_journal=\"whole\"} 1
+fengtuyas_journal{fengtuyas_journal=\"older\"} 0
 # TYPE fengtuyas_volume gauge
 # HELP fengtuyas_volume The number of the volume.
 fengtuyas_volume 3

@@ -3,8 +3,8 @@
 use binding_rules::Role;
 use lead_time::{LeadTimeError, Reading};
 use server_status::{
-    AnswerCounts, ClockState, FaultCounts, LinkState, MessageCounts, PartnerState, ServerStatus,
-    SyncSummary, Traffic, UnitCounts, VolumeStatus,
+    AnswerCounts, ClockState, FaultCounts, JournalState, LinkState, MessageCounts, NotServing,
+    PartnerState, ServerStatus, ServingState, SyncSummary, Traffic, UnitCounts, VolumeStatus,
 };
 use server_timers::{RollBlocked, RollState, Room};
 
@@ -63,6 +63,8 @@ pub(crate) fn serving() -> Result<ServerStatus, LeadTimeError> {
             median: 420,
             worst: 1_012_000,
         }),
+        serving: ServingState::Yes,
+        journal: JournalState::Whole,
     })
 }
 
@@ -89,5 +91,7 @@ pub(crate) fn waiting() -> Result<ServerStatus, LeadTimeError> {
         heard: None,
         traffic: Traffic::NONE,
         syncs: None,
+        serving: ServingState::No(NotServing::ClockBehind),
+        journal: JournalState::Whole,
     })
 }

@@ -13,8 +13,10 @@ use Rattle.failover_session.specs.declared.outbox.OutboundFrame.{OutboundFrame}
 use Rattle.failover_session.specs.OutboundFrames.{meanings_of}
 use Rattle.failover_session.specs.Messages.{body_in, message_in}
 use Rattle.failover_session.specs.declared.stage.SessionStage.{SessionStage}
-use Rattle.failover_session.specs.declared.stage.SessionStage.TheVariants.{Greeting, Refused as IsRefused, Joined, Ended}
+use Rattle.failover_session.specs.declared.stage.SessionStage.TheVariants.{Greeting, Refused as IsRefused, Joined, Ended, Short}
 use Rattle.failover_session.specs.Sessions.{Takes, SendsLines, TakesFront, Handles, HandlesFront, IsGoing, messages_in, Met, Named}
+use Rattle.failover_session.specs.declared.policy.SessionPolicy.{SessionPolicy}
+use Rattle.failover_session.specs.Shortage.{SaysWhyShort}
 use Rattle.failover_session.proofs.Saying.{says_nothing, passed_over, taken_then_says}
 use Rattle.failover_session.proofs.Hearing.{hears_of, hears_on, hears_nothing}
 
@@ -118,6 +120,16 @@ goes_on Greeting h = tt
 goes_on (Joined last) h = tt
 goes_on IsRefused h = absurd (h (λ x. x))
 goes_on (Ended named) h = absurd (h (λ x. x))
+goes_on (Short named shortage) h = absurd (h (λ x. x))
+
+-- a talk that goes on doesn't say that the journal is short
+pub going_says : (policy : SessionPolicy) (has : List Receipt) (s : SessionStage) → IsGoing s
+    → SaysWhyShort policy has s
+going_says policy has Greeting going = tt
+going_says policy has (Joined last) going = tt
+going_says policy has IsRefused going = absurd going
+going_says policy has (Ended named) going = absurd going
+going_says policy has (Short named shortage) going = absurd going
 
 -- ---- for the functions that hear
 

@@ -1,14 +1,14 @@
 -- Messages that are heard, and what is handed out where the partner is met.
-use Rattle.std.specs.Prelude.{◌≡◌, ℕ, List, [], ◌++◌, refl}
+use Rattle.std.specs.Prelude.{◌≡◌, ◌≤◌, ℕ, List, [], ◌++◌, refl}
 use Rattle.std.proofs.Common.{ap, sym, ◌∙◌, subst, append_assoc, append-nil}
 use Rattle.std.proofs.lemmas.List.Elements.{filter_map-append}
 use Rattle.binding_rules.specs.declared.message.PartnerMessage.{PartnerMessage}
 use Rattle.binding_rules.specs.declared.role.Role.{Role}
 use Rattle.locked_book.specs.declared.receipt.Receipt.{Receipt}
 use Rattle.failover_session.specs.declared.outbox.OutboundFrame.{OutboundFrame}
-use Rattle.failover_session.specs.Receipts.{last_taken, takes_of, newer_from}
+use Rattle.failover_session.specs.Receipts.{last_taken, last_sent, takes_of, newer_from}
 use Rattle.failover_session.specs.OutboundFrames.{FrameMeaning, meaning_in, meanings_of, meaning_of_receipt, sends_of, sends_above, answer}
-use Rattle.failover_session.specs.Sessions.{Takes, SendsLines, Handles, Met, Unmet, Refused, Named, first_meanings, Stays, IsUnnamed}
+use Rattle.failover_session.specs.Sessions.{Takes, SendsLines, Handles, Met, Unmet, Refused, Named, first_meanings, Stays, HasSentNamed, IsUnnamed}
 use Rattle.failover_session.proofs.Taken.{takes_more, next_on}
 
 module _ (role : Role) where
@@ -21,6 +21,11 @@ module _ (role : Role) where
   stays_same Unmet = tt
   stays_same Refused = refl
   stays_same (Named last) = refl
+
+  sent_same : (x : Met) (a : List Receipt) → HasSentNamed x x a
+  sent_same Unmet a = tt
+  sent_same Refused a = tt
+  sent_same (Named last) a = tt
 
   pub hears_nothing : (x : Met) (a b : List Receipt) (o p : List OutboundFrame) → b ≡ a → meanings_of p ≡ meanings_of o
       → Handles role [] x x a b o p
@@ -36,6 +41,7 @@ module _ (role : Role) where
             ∙ (sym (append-nil (meanings_of o ++ []))
             ∙ ap (λ xs. (meanings_of o ++ xs) ++ []) (sym (first_same x a))));
         stays = stays_same x;
+        sent = sent_same x a;
         silent = λ _. refl;
       }
 
@@ -50,14 +56,15 @@ module _ (role : Role) where
         next = h.next;
         sends = h.sends ∙ ap (λ xs. xs ++ sends_of h.added) (sym (append-nil (meanings_of o)));
         stays = refl;
+        sent = tt;
         silent = λ none. absurd none;
       }
 
   -- where it names one
-  pub hears_join : (last : ℕ) (a b : List Receipt) (o p q first again : List OutboundFrame)
+  pub hears_join : (last : ℕ) (a b : List Receipt) (o p q first again : List OutboundFrame) → last ≤ last_sent a
       → meanings_of first ≡ answer role a → meanings_of again ≡ sends_above last a
       → meanings_of p ≡ meanings_of o ++ meanings_of (first ++ again) → SendsLines a b p q → Handles role [] Unmet (Named last) a b o q
-  hears_join last a b o p q first again answers above out h =
+  hears_join last a b o p q first again sent answers above out h =
       let its : meanings_of (first ++ again) ≡ answer role a ++ sends_above last a =
       filter_map-append meaning_in first again
       ∙ (ap (λ xs. xs ++ meanings_of again) answers ∙ ap (λ xs. answer role a ++ xs) above) in
@@ -68,6 +75,7 @@ module _ (role : Role) where
         next = h.next;
         sends = h.sends ∙ ap (λ xs. xs ++ sends_of h.added) (out ∙ ap (λ xs. meanings_of o ++ xs) its);
         stays = tt;
+        sent = sent;
         silent = λ none. absurd none;
       }
 
@@ -82,6 +90,7 @@ module _ (role : Role) where
         next = tt;
         sends = out ∙ (ap (λ xs. meanings_of o ++ xs) its ∙ sym (append-nil (meanings_of o ++ answer role a)));
         stays = tt;
+        sent = tt;
         silent = λ _. refl;
       }
 
@@ -123,6 +132,16 @@ module _ (role : Role) where
   stays_on (Named k) Refused z s t = absurd cc
   stays_on (Named k) (Named l) z s t = t ∙ s
 
+  -- what was named was sent: before the partner had named it no line was added
+  sent_on : (x y z : Met) (a b h : List Receipt) → b ≡ a ++ h → Stays y z → (IsUnnamed y → h ≡ [])
+      → HasSentNamed x y a → HasSentNamed y z b → HasSentNamed x z a
+  sent_on Unmet Unmet z a b h all t silent s r =
+      subst (λ rs. HasSentNamed Unmet z rs) (all ∙ (ap (λ xs. a ++ xs) (silent tt) ∙ append-nil a)) r
+  sent_on Unmet Refused z a b h all t silent s r = subst (λ m. HasSentNamed Unmet m a) (sym t) tt
+  sent_on Unmet (Named l) z a b h all t silent s r = subst (λ m. HasSentNamed Unmet m a) (sym t) s
+  sent_on Refused y z a b h all t silent s r = tt
+  sent_on (Named k) y z a b h all t silent s r = tt
+
   unnamed_before : (y z : Met) → Stays y z → IsUnnamed z → IsUnnamed y
   unnamed_before Unmet z t unnamed = tt
   unnamed_before Refused z t unnamed = tt
@@ -157,6 +176,7 @@ module _ (role : Role) where
               ∙ (append_assoc (base ++ all) hs ks
               ∙ ap (λ xs. (base ++ all) ++ xs) (sym (filter_map-append meaning_of_receipt h.added k.added)))));
           stays = stays_on x y z h.stays k.stays;
+          sent = sent_on x y z a b h.added h.all k.stays h.silent h.sent k.sent;
           silent =
               λ unnamed.
               let first : h.added ≡ [] = h.silent (unnamed_before y z k.stays unnamed) in

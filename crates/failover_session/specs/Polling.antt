@@ -6,14 +6,16 @@ use Rattle.failover_message.specs.declared.frame.Frame.{Frame}
 use Rattle.failover_message.specs.Stream.{Splits}
 use Rattle.locked_book.specs.declared.receipt.Receipt.{Receipt}
 use Rattle.failover_session.specs.declared.outbox.OutboundFrame.{OutboundFrame}
+use Rattle.failover_session.specs.declared.policy.SessionPolicy.{SessionPolicy}
 use Rattle.failover_session.specs.declared.stage.SessionStage.{SessionStage}
 use Rattle.failover_session.specs.declared.link_input.LinkInput.{LinkInput}
 use Rattle.failover_session.specs.declared.link_input.LinkInput.TheVariants.{Octets, Idle, HeartbeatDue, Closed}
 use Rattle.failover_session.specs.Sessions.{messages_in, Met, Handles, HandlesFront}
 
--- a talk as its callers see it: the octets of a frame that hasn't come whole, how far the two ends have come, and the
+-- a talk as its callers see it: by which policy it judges, the octets of a frame that hasn't come whole, how far the two ends have come, and the
 -- frames that are to be written
 pub record SessionModel : Type 0 where
+  pub policy : SessionPolicy
   pub held : List ℕ
   pub stage : SessionStage
   pub handed : List OutboundFrame

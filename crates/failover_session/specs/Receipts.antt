@@ -3,7 +3,7 @@ use Rattle.std.specs.Prelude.{◌≡◌, ◌+◌, nat_lt, ℕ, ⊤, Option, Some
 use Rattle.std.specs.List.{filter_map}
 use Rattle.binding_rules.specs.declared.message.PartnerMessage.{PartnerMessage}
 use Rattle.journal_lines.specs.declared.event.Event.{Event}
-use Rattle.journal_lines.specs.declared.event.Event.TheVariants.{Take}
+use Rattle.journal_lines.specs.declared.event.Event.TheVariants.{Base, Send, Take}
 use Rattle.journal_lines.specs.declared.line.Line.{Line}
 use Rattle.book_state.specs.Book.{BookState}
 use Rattle.locked_book.specs.declared.receipt.Receipt.{Receipt}
@@ -23,6 +23,21 @@ taken_after last (r ∷ rs) = taken_after (taken_by last r.line.event) rs
 -- 0 where none was taken: serials are counted from 1
 abbrev pub last_taken : List Receipt → ℕ
 last_taken receipts = taken_after 0 receipts
+
+-- the serial of the last message that was sent, where before the event it was `last`: a line sends one, and the base line
+-- of a volume tells it
+abbrev pub sent_by : ℕ → Event → ℕ
+sent_by last (Send message) = message.serial
+sent_by last (Base numbers) = numbers.serial
+sent_by last _ = last
+
+abbrev pub sent_after : ℕ → List Receipt → ℕ
+sent_after last [] = last
+sent_after last (r ∷ rs) = sent_after (sent_by last r.line.event) rs
+
+-- 0 where none was sent
+abbrev pub last_sent : List Receipt → ℕ
+last_sent receipts = sent_after 0 receipts
 
 -- if the event takes a message, its serial is the next behind the last one's
 abbrev pub IsNext : ℕ → Event → Type 0

@@ -1,5 +1,5 @@
 -- What an end's talk does: which lines it adds to the book, and which frames it hands out for them.
-use Rattle.std.specs.Prelude.{◌≡◌, ⊤, ℕ, Option, Some, None, List, [], ◌++◌}
+use Rattle.std.specs.Prelude.{◌≡◌, ◌≤◌, ⊤, ℕ, Option, Some, None, List, [], ◌++◌}
 use Rattle.std.specs.List.{filter_map}
 use Rattle.binding_rules.specs.declared.message.PartnerMessage.{PartnerMessage}
 use Rattle.binding_rules.specs.declared.role.Role.{Role}
@@ -7,8 +7,8 @@ use Rattle.failover_message.specs.declared.frame.Frame.{Frame}
 use Rattle.locked_book.specs.declared.receipt.Receipt.{Receipt}
 use Rattle.failover_session.specs.declared.outbox.OutboundFrame.{OutboundFrame}
 use Rattle.failover_session.specs.declared.stage.SessionStage.{SessionStage}
-use Rattle.failover_session.specs.declared.stage.SessionStage.TheVariants.{Greeting, Refused as IsRefused, Joined, Ended}
-use Rattle.failover_session.specs.Receipts.{last_taken, AreNext, takes_of, newer_from}
+use Rattle.failover_session.specs.declared.stage.SessionStage.TheVariants.{Greeting, Refused as IsRefused, Joined, Ended, Short}
+use Rattle.failover_session.specs.Receipts.{last_taken, last_sent, AreNext, takes_of, newer_from}
 use Rattle.failover_session.specs.OutboundFrames.{FrameMeaning, meanings_of, sends_of, sends_above, answer}
 use Rattle.failover_session.specs.Messages.{message_in}
 
@@ -36,15 +36,22 @@ abbrev pub met_by : Option ℕ → Met
 met_by None = Unmet
 met_by (Some last) = Named last
 
+-- whose journal is short: by the serial that the partner named, or by what came behind it
+abbrev pub met_short : Option ℕ → Met
+met_short None = Refused
+met_short (Some last) = Named last
+
 abbrev pub met_at : SessionStage → Met
 met_at Greeting = Unmet
 met_at IsRefused = Refused
 met_at (Joined last) = Named last
 met_at (Ended named) = met_by named
+met_at (Short named shortage) = met_short named
 
 -- the talk goes on
 abbrev pub IsGoing : SessionStage → Type 0
 IsGoing (Ended named) = ⊥
+IsGoing (Short named shortage) = ⊥
 IsGoing IsRefused = ⊥
 IsGoing _ = ⊤
 
@@ -66,6 +73,11 @@ abbrev pub Stays : Met → Met → Type 0
 Stays Unmet after = ⊤
 Stays before after = after ≡ before
 
+-- a partner that is met has taken no message that was never sent
+abbrev pub HasSentNamed : Met → Met → List Receipt → Type 0
+HasSentNamed Unmet (Named last) had = last ≤ last_sent had
+HasSentNamed before after had = ⊤
+
 -- the partner named no serial that can be
 abbrev pub IsUnnamed : Met → Type 0
 IsUnnamed (Named last) = ⊥
@@ -74,7 +86,7 @@ IsUnnamed _ = ⊤
 -- Lines were added. Of the messages that were heard they take those that are newer than all before, each the next by
 -- its serial. Where the partner was met, its answer and what was sent above the serial that it named was handed out
 -- first; then what the lines send, in their order; and no other greeting and no other message. Before it named a
--- serial, no line was added.
+-- serial, no line was added; and what it named was sent.
 pub record Handles (role : Role) (heard : List PartnerMessage) (before after : Met) (had has : List Receipt)
     (was is : List OutboundFrame) : Type 0 where
   pub added : List Receipt
@@ -83,6 +95,7 @@ pub record Handles (role : Role) (heard : List PartnerMessage) (before after : M
   pub next : AreNext (last_taken had) added
   pub sends : meanings_of is ≡ meanings_of was ++ first_meanings role before after had ++ sends_of added
   pub stays : Stays before after
+  pub sent : HasSentNamed before after had
   pub silent : IsUnnamed after → added ≡ []
 
 -- the messages that frames carry

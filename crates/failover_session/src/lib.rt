@@ -14,7 +14,7 @@
 //! the added lines send, in their order.
 //!
 //! ```text
-//! let mut talk = FailoverSession::new(alloc);
+//! let mut talk = FailoverSession::new(alloc, SessionPolicy::Serve);
 //! talk.greet(&pass, &settings)?;
 //! loop {
 //!     for handed in talk.hand_out() { write(handed.frame) }
@@ -29,6 +29,7 @@ mod link_endpoint;
 mod link_input;
 mod messages;
 mod outbox;
+mod policy;
 mod recent;
 mod returning;
 mod sending;
@@ -37,6 +38,7 @@ mod session;
 mod session_state;
 mod shared;
 mod sharing;
+mod shortage;
 mod stage;
 mod taking;
 
@@ -44,6 +46,8 @@ pub use book::{PairBook, Receipts};
 pub use error::SessionError;
 pub use link_input::LinkInput;
 pub use outbox::OutboundFrame;
+pub use policy::SessionPolicy;
 pub use session::FailoverSession;
 pub use shared::LockedBook;
+pub use shortage::JournalShortage;
 pub use stage::SessionStage;

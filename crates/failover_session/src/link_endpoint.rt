@@ -8,6 +8,7 @@ ghost use Rattle.failover_session.specs.Sessions.{SendsLines, Takes};
 
 use crate::book::PairBook;
 use crate::error::SessionError;
+use crate::policy::SessionPolicy;
 use crate::session_state::SessionState;
 use binding_rules::{Outcome, PartnerMessage, Role};
 use lead_time::Reading;
@@ -23,6 +24,7 @@ pub(crate) struct LinkEndpoint<'a, B: PairBook> {
     pub alloc: Global,
     pub book: &'a B,
     pub role: Role,
+    pub policy: SessionPolicy,
     pub settings: &'a Settings,
     pub reading: Reading,
 }

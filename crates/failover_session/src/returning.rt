@@ -66,6 +66,7 @@ impl<'a, B: PairBook> LinkEndpoint<'a, B> {
     ) -> Result<(), SessionError>
         ensures { SendsLines (B.Pass.receipts pass.old) (B.Pass.receipts pass.new) duties.old.out.items duties.new.out.items }
     {
+        duties.partner_waits = true;
         self.end_down(pass, duties)?;
         self.order(pass, duties, &Order::SendContact)?;
         duties.begin_again(ResendRequest::All);

@@ -1,7 +1,7 @@
 //! What a link's end knows by its pass's receipts.
 
 ghost use Rattle.std.specs.Prelude.{◌≡◌};
-ghost use Rattle.failover_session.specs.Receipts.{last_taken};
+ghost use Rattle.failover_session.specs.Receipts.{last_taken, last_sent};
 
 use binding_rules::{BindReply, Body, Counter, Outcome, PartnerMessage, Status, Update};
 use journal_lines::{Event, KeptUnit};
@@ -18,6 +18,21 @@ pub(crate) fn last_taken(receipts: &[Receipt]) -> Counter
     for index in (0..receipts.len()).rev() {
         if let Event::Take(message) = &receipts[index].line.event {
             return message.serial;
+        }
+    }
+    Counter::ZERO
+}
+
+/// The serial of the message that was sent last: 0 where none was. It looks at the receipts behind that one alone, or
+/// behind the base line of the volume, which tells it.
+pub(crate) fn last_sent(receipts: &[Receipt]) -> Counter
+    ensures { result ≡ last_sent receipts.now }
+{
+    for index in (0..receipts.len()).rev() {
+        match &receipts[index].line.event {
+            Event::Send(message) => return message.serial,
+            Event::Base(numbers) => return numbers.serial,
+            _ => {}
         }
     }
     Counter::ZERO

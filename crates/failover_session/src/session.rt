@@ -8,12 +8,14 @@ ghost use Rattle.failover_session.specs.Receipts.{Goes};
 ghost use Rattle.failover_session.specs.OutboundFrames.{meanings_of, opening};
 ghost use Rattle.failover_session.specs.Sessions.{SendsLines, met_at, IsGoing};
 ghost use Rattle.failover_session.specs.Polling.{IsPoll, IsWholePoll};
+ghost use Rattle.failover_session.specs.Shortage.{SaysWhyShort};
 
 use crate::book::{PairBook, Receipts};
 use crate::error::SessionError;
 use crate::link_endpoint::LinkEndpoint;
 use crate::link_input::LinkInput;
 use crate::outbox::OutboundFrame;
+use crate::policy::SessionPolicy;
 use crate::sent_state::last_taken;
 use crate::session_state::SessionState;
 use crate::stage::SessionStage;
@@ -25,11 +27,12 @@ use std::alloc::Global;
 use std::marker::Model;
 use std::mem;
 
-/// The talk of one connection with the partner. Contracts see the octets that it holds of a frame that hasn't come
+/// The talk of one connection with the partner. Contracts see by which policy it judges, the octets that it holds of a frame that hasn't come
 /// whole, how far the two ends have come, and the frames that are to be written.
 #[derive(Drop)]
 pub struct FailoverSession {
     alloc: Global,
+    policy: SessionPolicy,
     feed: Feed,
     stage: SessionStage,
     duties: SessionState,
@@ -41,6 +44,7 @@ impl Model for FailoverSession {
     ghost Value = { SessionModel };
 
     ghost view = { λ t. record {
+      policy = t.policy;
       held = t.feed;
       stage = t.stage;
       handed = t.duties.out.items;
@@ -62,6 +66,7 @@ fn handle_input<B: PairBook>(
     ensures whole { OnOk result (IsGoing stage.new → IsWholePoll end.now.role came.now feed.old feed.new
         (met_at stage.old) (met_at stage.new) (B.Pass.receipts pass.old) (B.Pass.receipts pass.new)
         duties.old.out.items duties.new.out.items) }
+    ensures why { IsGoing stage.old → SaysWhyShort end.now.policy (B.Pass.receipts pass.new) stage.new }
 {
     match came {
         LinkInput::Octets(octets) => {
@@ -96,21 +101,26 @@ fn poll_session<B: PairBook>(
     ensures whole { OnOk result (IsGoing stage.new → IsWholePoll end.now.role came.now feed.old feed.new
         (met_at stage.old) (met_at stage.new) (B.Pass.receipts pass.old) (B.Pass.receipts pass.new)
         duties.old.out.items duties.new.out.items) }
+    ensures why { IsGoing stage.old → SaysWhyShort end.now.policy (B.Pass.receipts pass.new) stage.new }
 {
     handle_input(end, pass, feed, stage, duties, came)?;
     match stage {
         SessionStage::Joined { .. } => end.send_all(pass, duties),
-        SessionStage::Greeting | SessionStage::Refused | SessionStage::Ended { .. } => Ok(()),
+        SessionStage::Greeting
+        | SessionStage::Refused
+        | SessionStage::Ended { .. }
+        | SessionStage::Short { .. } => Ok(()),
     }
 }
 
 impl FailoverSession {
-    /// The talk of a connection that begins.
-    pub fn new(alloc: Global) -> FailoverSession
-        ensures { result ≡ record { held = []; stage = Greeting; handed = [] } }
+    /// The talk of a connection that begins, by a policy.
+    pub fn new(alloc: Global, policy: SessionPolicy) -> FailoverSession
+        ensures { result ≡ record { policy = policy; held = []; stage = Greeting; handed = [] } }
     {
         FailoverSession {
             alloc,
+            policy,
             feed: Feed::new(alloc),
             stage: SessionStage::Greeting,
             duties: SessionState::new(alloc),
@@ -124,6 +134,12 @@ impl FailoverSession {
         self.stage
     }
 
+    /// Returns whether the partner said over this connection that it waits for an answer: it asked for all updates
+    /// (UPDREQALL).
+    pub fn partner_waits(&self) -> bool {
+        self.duties.partner_waits
+    }
+
     /// Says what the primary says first: the serial of the last message that it took. The secondary waits for it.
     /// Where a growth is refused, nothing is said.
     pub fn send_greeting<P: Receipts>(
@@ -131,6 +147,7 @@ impl FailoverSession {
         pass: &P,
         settings: &Settings,
     ) -> Result<(), SessionError>
+        ensures policy { self.new.policy ≡ self.old.policy }
         ensures stage { self.new.stage ≡ self.old.stage }
         ensures held { self.new.held ≡ self.old.held }
         ensures said { OnOk result (meanings_of self.new.handed
@@ -156,8 +173,9 @@ impl FailoverSession {
     /// than all before, and each is the next by its serial; and what they send is handed out, in order, behind what was
     /// sent above the serial that the partner named.
     ///
-    /// `Frame` where what came is no frame or not the one that comes there, its serial jumps, or the partner has lost
-    /// its journal;
+    /// `Frame` where what came is no frame or not the one that comes there, its serial jumps, or one of the two has lost
+    /// its journal: the stage then tells that it is this one's (`Short`), and by what. The partner took a message that
+    /// was never sent; or, of a daemon's session, it is about to be taken that speaks of a change never made.
     /// `Serve` where the pass is a stranger to the book, or the book has no room for a message that came: were that
     /// passed over, a later one would be taken in its place, and this one lost. `Memory` where a growth was refused.
     /// Then the connection has to be ended, behind what was handed out. Any other refusal of the book is passed over.
@@ -172,6 +190,8 @@ impl FailoverSession {
         ensures turn { IsPoll settings.now.role came.now self.old.held (met_at self.old.stage) (met_at self.new.stage)
             (B.Pass.receipts pass.old) (B.Pass.receipts pass.new) self.old.handed self.new.handed }
         ensures next { Goes (B.Pass.receipts pass.old) (B.Pass.receipts pass.new) }
+        ensures policy { self.new.policy ≡ self.old.policy }
+        ensures why { IsGoing self.old.stage → SaysWhyShort self.old.policy (B.Pass.receipts pass.new) self.new.stage }
         ensures whole { OnOk result (IsGoing self.new.stage → IsWholePoll settings.now.role came.now self.old.held
             self.new.held (met_at self.old.stage) (met_at self.new.stage) (B.Pass.receipts pass.old)
             (B.Pass.receipts pass.new) self.old.handed self.new.handed) }
@@ -180,6 +200,7 @@ impl FailoverSession {
             alloc: self.alloc,
             book,
             role: settings.role(),
+            policy: self.policy,
             settings,
             reading: now,
         };

@@ -75,6 +75,8 @@ pub(crate) struct SessionState {
     /// What the receipts of the end's pass tell.
     pub told: SentState,
     pub again: ResendRequest,
+    /// Whether the partner asked for all updates over this connection (UPDREQALL), so that it waits for an answer.
+    pub partner_waits: bool,
     /// Whether UPDDONE is to be sent once no unit is marked.
     pub owes_done: bool,
     /// Whether a contact is to be sent once no unit is marked, since the partner's last one asks.
@@ -114,6 +116,7 @@ impl SessionState {
             out: Vec::new(alloc),
             told: SentState::nothing(alloc),
             again: ResendRequest::Nothing,
+            partner_waits: false,
             owes_done: false,
             owes_contact: false,
             awaits_units: false,

@@ -1,17 +1,20 @@
 //! What an end makes of the frames that come.
 
-ghost use Rattle.std.specs.Prelude.{◌≡◌, ◌∷◌, [], None, Some, OnOk, OnErr};
+ghost use Rattle.std.specs.Prelude.{◌≡◌, ◌∷◌, [], None, Some, IfOk, IfSome, OnOk, OnErr};
 ghost use Rattle.failover_session.specs.Messages.{body_in};
 ghost use Rattle.failover_session.specs.Sessions.{SendsLines, Takes, TakesFront, Handles, HandlesFront, IsGoing, messages_in};
 ghost use Rattle.failover_session.specs.Sessions.{met_at, Unmet, Named};
+ghost use Rattle.failover_session.specs.Shortage.{IsShortage, SaysWhyShort};
 
 use crate::book::{PairBook, Receipts};
 use crate::error::SessionError;
 use crate::link_endpoint::LinkEndpoint;
 use crate::messages::message_in;
+use crate::policy::SessionPolicy;
 use crate::sending::{answer, sent_above};
-use crate::sent_state::last_taken;
+use crate::sent_state::{last_sent, last_taken};
 use crate::session_state::{ResendRequest, SessionState};
+use crate::shortage::JournalShortage;
 use crate::stage::SessionStage;
 use binding_rules::{Acknowledgement, BindReply, Body, Counter, PartnerMessage, Role, Status};
 use failover_message::{Frame, FrameKind};
@@ -26,8 +29,8 @@ enum Next {
 
 impl<'a, B: PairBook> LinkEndpoint<'a, B> {
     /// Answers the other end, which named the message that it took last, hands out again what it didn't take, and asks
-    /// what is asked of each connection. Refused, behind the answer, where one of the two has lost its journal: the
-    /// other took what was never sent, or took less than it answered.
+    /// what is asked of each connection. The talk ends, behind the answer, where one of the two has lost its journal:
+    /// this one, where the other took what was never sent; the other, where it took less than it answered.
     #[tactic(auto, using(crate::proofs::Hearing::joining))]
     fn complete_handshake(
         &self,
@@ -37,11 +40,21 @@ impl<'a, B: PairBook> LinkEndpoint<'a, B> {
         last: Counter,
     ) -> Result<(), SessionError>
         requires { stage.old ≡ SessionStage.Greeting }
-        ensures { Handles self.now.role [] Unmet (met_at stage.new) (B.Pass.receipts pass.old)
+        ensures heard { Handles self.now.role [] Unmet (met_at stage.new) (B.Pass.receipts pass.old)
             (B.Pass.receipts pass.new) duties.old.out.items duties.new.out.items }
+        ensures why { SaysWhyShort self.now.policy (B.Pass.receipts pass.new) stage.new }
     {
         let mut first = answer(self.alloc, self.role, pass.receipts())?;
-        if last > duties.told.sent || last < duties.told.answered {
+        let sent = last_sent(pass.receipts());
+        if last > sent {
+            duties.push_frames(&first)?;
+            *stage = SessionStage::Short {
+                named: None,
+                shortage: JournalShortage::Messages { taken: last, sent },
+            };
+            return Err(SessionError::Frame);
+        }
+        if last < duties.told.answered {
             duties.push_frames(&first)?;
             *stage = SessionStage::Refused;
             return Err(SessionError::Frame);
@@ -66,6 +79,7 @@ impl<'a, B: PairBook> LinkEndpoint<'a, B> {
         ensures heard { Handles self.now.role [] Unmet (met_at stage.new) (B.Pass.receipts pass.old)
             (B.Pass.receipts pass.new) duties.old.out.items duties.new.out.items }
         ensures word { OnOk result (body_in kind.now ≡ None) }
+        ensures why { SaysWhyShort self.now.policy (B.Pass.receipts pass.new) stage.new }
     {
         match (self.role, kind) {
             (
@@ -211,7 +225,10 @@ impl<'a, B: PairBook> LinkEndpoint<'a, B> {
         duties.in_flight = 0;
         match stage {
             SessionStage::Joined { .. } => self.ask_if_needed(pass, duties),
-            SessionStage::Greeting | SessionStage::Refused | SessionStage::Ended { .. } => Ok(()),
+            SessionStage::Greeting
+            | SessionStage::Refused
+            | SessionStage::Ended { .. }
+            | SessionStage::Short { .. } => Ok(()),
         }
     }
 
@@ -232,7 +249,10 @@ impl<'a, B: PairBook> LinkEndpoint<'a, B> {
                 self.order(pass, duties, &Order::SendContact)?;
                 Ok(())
             }
-            SessionStage::Greeting | SessionStage::Refused | SessionStage::Ended { .. } => Ok(()),
+            SessionStage::Greeting
+            | SessionStage::Refused
+            | SessionStage::Ended { .. }
+            | SessionStage::Short { .. } => Ok(()),
         }
     }
 
@@ -250,6 +270,7 @@ impl<'a, B: PairBook> LinkEndpoint<'a, B> {
         ensures says { SendsLines (B.Pass.receipts pass.old) (B.Pass.receipts pass.new) duties.old.out.items
             duties.new.out.items }
         ensures named { met_at stage.new ≡ Named last }
+        ensures why { SaysWhyShort self.now.policy (B.Pass.receipts pass.new) stage.new }
     {
         match self.handle_control(pass, duties, kind)? {
             Next::GoesOn => Ok(()),
@@ -258,6 +279,64 @@ impl<'a, B: PairBook> LinkEndpoint<'a, B> {
                 Ok(())
             }
         }
+    }
+
+    /// Asks before a message is taken whether it speaks of a change of a unit that this server never made, as the
+    /// partner may where a part of this journal was lost.
+    fn shortage_in(
+        &self,
+        pass: &mut B::Pass,
+        message: &PartnerMessage,
+    ) -> Result<Option<JournalShortage>, SessionError>
+        ensures same { B.Pass.receipts pass.new ≡ B.Pass.receipts pass.old }
+        ensures found { IfOk result (λ found. IfSome found (λ s. IsShortage self.now.policy
+            (B.Pass.receipts pass.new) s)) }
+    {
+        if self.policy == SessionPolicy::Run {
+            return Ok(None);
+        }
+        let (prefix, taken) = match &message.body {
+            Body::Update(update) => (update.prefix, update.seen),
+            Body::Reply(reply) => (reply.prefix, reply.of),
+            Body::Contact { .. } => return Ok(None),
+        };
+        let look = self.look(pass, &prefix)?;
+        match &look.unit {
+            Some(unit) if taken > unit.mine => Ok(Some(JournalShortage::Change {
+                prefix,
+                taken,
+                made: unit.mine,
+            })),
+            _ => Ok(None),
+        }
+    }
+
+    /// Takes the next message of an end that has joined the other, unless it shows that this journal is short.
+    #[tactic(auto, using(crate::proofs::Front::one_message))]
+    fn take_unless_short(
+        &self,
+        pass: &mut B::Pass,
+        duties: &mut SessionState,
+        stage: &mut SessionStage,
+        last: Counter,
+        message: &PartnerMessage,
+    ) -> Result<(), SessionError>
+        requires { stage.old ≡ SessionStage.Joined last }
+        ensures front { TakesFront (message.now ∷ []) (B.Pass.receipts pass.old) (B.Pass.receipts pass.new)
+            duties.old.out.items duties.new.out.items }
+        ensures taken { OnOk result (Takes (message.now ∷ []) (B.Pass.receipts pass.old) (B.Pass.receipts pass.new)
+            duties.old.out.items duties.new.out.items) }
+        ensures named { met_at stage.new ≡ Named last }
+        ensures why { SaysWhyShort self.now.policy (B.Pass.receipts pass.new) stage.new }
+    {
+        if let Some(shortage) = self.shortage_in(pass, message)? {
+            *stage = SessionStage::Short {
+                named: Some(last),
+                shortage,
+            };
+            return Err(SessionError::Frame);
+        }
+        self.take(pass, duties, message)
     }
 
     /// Does what one frame asks of an end that has joined the other.
@@ -276,9 +355,10 @@ impl<'a, B: PairBook> LinkEndpoint<'a, B> {
         ensures whole { OnOk result (Takes (messages_in (frame.now ∷ [])) (B.Pass.receipts pass.old)
             (B.Pass.receipts pass.new) duties.old.out.items duties.new.out.items) }
         ensures named { met_at stage.new ≡ Named last }
+        ensures why { SaysWhyShort self.now.policy (B.Pass.receipts pass.new) stage.new }
     {
         match message_in(frame) {
-            Some(message) => self.take(pass, duties, &message),
+            Some(message) => self.take_unless_short(pass, duties, stage, last, &message),
             None => self.handle_control_frame(pass, duties, stage, last, &frame.kind),
         }
     }
@@ -298,6 +378,7 @@ impl<'a, B: PairBook> LinkEndpoint<'a, B> {
         ensures whole { OnOk result (IsGoing stage.new → Handles self.now.role (messages_in (frame.now ∷ []))
             (met_at stage.old) (met_at stage.new) (B.Pass.receipts pass.old) (B.Pass.receipts pass.new)
             duties.old.out.items duties.new.out.items) }
+        ensures why { IsGoing stage.old → SaysWhyShort self.now.policy (B.Pass.receipts pass.new) stage.new }
     {
         match stage {
             SessionStage::Greeting => self.handle_greeting(pass, duties, stage, &frame.kind),
@@ -305,7 +386,9 @@ impl<'a, B: PairBook> LinkEndpoint<'a, B> {
                 let last = *last;
                 self.handle_joined_frame(pass, duties, stage, last, frame)
             }
-            SessionStage::Refused | SessionStage::Ended { .. } => Ok(()),
+            SessionStage::Refused | SessionStage::Ended { .. } | SessionStage::Short { .. } => Ok(
+                (),
+            ),
         }
     }
 
@@ -324,6 +407,7 @@ impl<'a, B: PairBook> LinkEndpoint<'a, B> {
         ensures whole { OnOk result (IsGoing stage.new → Handles self.now.role (messages_in frames.now)
             (met_at stage.old) (met_at stage.new) (B.Pass.receipts pass.old) (B.Pass.receipts pass.new)
             duties.old.out.items duties.new.out.items) }
+        ensures why { IsGoing stage.old → SaysWhyShort self.now.policy (B.Pass.receipts pass.new) stage.new }
     {
         for frame in frames {
             self.handle_frame(pass, duties, stage, frame)?;

@@ -1,5 +1,5 @@
 -- With which book a server has begun.
-use Rattle.std.specs.Prelude.{◌≡◌, ℕ, Bool, true, false, not}
+use Rattle.std.specs.Prelude.{◌≡◌, ◌↔◌, IsTrue, ℕ, Bool, true, false}
 use Rattle.std.proofs.Common.{refl, sym, ◌∙◌, ap, subst}
 use Rattle.journal_lines.specs.declared.line.Journal.{Journal}
 use Rattle.order_book.specs.NextBook.{IsNextBook}
@@ -9,48 +9,60 @@ use Rattle.volume_store.specs.declared.step.ResumeStep.TheVariants.{BeginFirst, 
 use Rattle.volume_store.specs.declared.step.ResumeStep.TheVariants.{End as EndOf}
 use Rattle.server_start.specs.declared.starting.StartAction.{StartAction}
 use Rattle.server_start.specs.declared.starting.StartAction.TheVariants.{First, GoOn, End, Next}
-use Rattle.server_start.specs.Starting.{IsStart, HasRestarted}
+use Rattle.server_start.specs.Starting.{IsStart, HasRestarted, MayStart}
 use Rattle.server_core.specs.ServerStates.{CoreState}
 use Rattle.folder_start.specs.declared.pairing.Pairing.{Pairing}
-use Rattle.folder_start.specs.Pairing.{goes_on_alone, step_goes_on_alone, begins_again}
-use Rattle.folder_start.specs.Started.{GoesOnBy, StartsBook, BeginsBook, IsIdle}
+use Rattle.folder_start.specs.declared.pairing.Pairing.TheVariants.{Alone, Paired}
+use Rattle.folder_start.specs.Pairing.{StepGoesOn}
+use Rattle.folder_start.specs.Started.{GoesOnIf, GoesOnBy, FirstGoesOn, StartsBook, IsBegun, IsIdle}
 
-not_not : (b : Bool) → not (not b) ≡ b
-not_not true = refl
-not_not false = refl
+-- a book that goes on is as it was
+its_book : (goes_on : Bool) (now : ℕ) (j k : Journal) → IsTrue goes_on → GoesOnIf goes_on now j k → k ≡ j
+its_book true now j k on goes = goes
+its_book false now j k on goes = absurd cc
 
--- a server that doesn't go on alone with an open book starts with what it begins with, and its line `restart` behind
--- that
+-- a first book
+first_by : (pairing : Pairing) (now : ℕ) (opened k journal : Journal) (goes_on : Bool) → k ≡ opened
+    → (IsTrue goes_on ↔ (pairing ≡ Alone)) → GoesOnIf goes_on now k journal → FirstGoesOn pairing now opened journal
+first_by Alone now opened k journal goes_on begins iff goes =
+    its_book goes_on now k journal (iff.1 refl) goes ∙ begins
+first_by Paired now opened k journal true begins iff goes = let both = iff.0 refl in absurd cc
+first_by Paired now opened k journal false begins iff goes =
+    subst (λ (x : Journal). HasRestarted x now journal) begins goes
+
+-- it doesn't go on with an open book as that is, and begins by what is done, with its line `restart` behind that
 pub starts_by : (s : ServerSettings) (pairing : Pairing) (now : ℕ) (step : ResumeStep) (start : StartAction)
-    (k journal : Journal) → step_goes_on_alone pairing step ≡ false → IsStart s now step start → BeginsBook s now start k
-    → GoesOnBy (not (begins_again pairing start)) now k journal → StartsBook s pairing now step journal
-starts_by s pairing now BeginFirst First k journal apart is begins goes = (is, goes ∙ begins)
-starts_by s pairing now (GoOnWith j) (GoOn g) k journal apart is begins goes = (
+    (journal : Journal) → (StepGoesOn pairing step → ⊥) → IsStart s now step start
+    → IsBegun s pairing now start journal → StartsBook s pairing now step journal
+starts_by s pairing now BeginFirst First journal apart is (k, goes_on, begins, iff, goes) =
+    (is, first_by pairing now _ k journal goes_on begins iff goes)
+starts_by s pairing now (GoOnWith j) (GoOn g) journal apart is (k, goes_on, begins, iff, goes) = (
   is.0,
-  subst (λ (b : Bool). GoesOnBy b now j journal) (sym apart)
-      (subst (λ (x : Journal). HasRestarted j now x) (sym (goes ∙ begins)) is.1),
+  (
+    false,
+    ((λ on. absurd cc), (λ on. absurd (apart on))),
+    subst (λ (x : Journal). HasRestarted j now x) (sym (its_book goes_on now k journal (iff.1 tt) goes ∙ begins)) is.1,
+  ),
 )
-starts_by s pairing now (EndOf j) (End g) k journal apart is begins goes = (
+starts_by s pairing now (EndOf j) (End g) journal apart is (k, goes_on, begins, iff, goes) = (
   is.0,
   is.1,
   (
     k,
     subst (λ (x : Journal). IsNextBook x now k) is.2 begins,
-    subst (λ (x : Journal). GoesOnBy (goes_on_alone pairing x) now k journal) is.2
-        (subst (λ (b : Bool). GoesOnBy b now k journal) (not_not (goes_on_alone pairing g)) goes),
+    subst (λ (x : Journal). GoesOnBy pairing x now k journal) is.2 (goes_on, iff, goes),
   ),
 )
-starts_by s pairing now (BeginNext j) (Next g) k journal apart is begins goes = (
+starts_by s pairing now (BeginNext j) (Next g) journal apart is (k, goes_on, begins, iff, goes) = (
   is.0,
   is.1,
   (
     k,
     subst (λ (x : Journal). IsNextBook x now k) is.2 begins,
-    subst (λ (x : Journal). GoesOnBy (goes_on_alone pairing x) now k journal) is.2
-        (subst (λ (b : Bool). GoesOnBy b now k journal) (not_not (goes_on_alone pairing g)) goes),
+    subst (λ (x : Journal). GoesOnBy pairing x now k journal) is.2 (goes_on, iff, goes),
   ),
 )
-starts_by s pairing now step start k journal apart is begins goes = absurd is
+starts_by s pairing now step start journal apart is begun = absurd is
 
 -- what changes the volume alone leaves a server as it was else
 pub same_idle : {P : Type 0} (s : ServerSettings) (renew_floor : ℕ) (old new : CoreState P)
@@ -62,10 +74,9 @@ same_idle {P} s renew_floor old new same idle = record {
   talk = ap (λ (r : CoreState P). r.talk) same ∙ idle.talk;
 }
 
--- what it began with, and the line behind that, where it begins again
-pub begun_with : (s : ServerSettings) (pairing : Pairing) (now : ℕ) (start : StartAction) (again : Bool)
-    (k journal : Journal) → again ≡ begins_again pairing start → BeginsBook s now start k
-    → GoesOnBy (not again) now k journal
-    → (j : Journal) × BeginsBook s now start j × GoesOnBy (not (begins_again pairing start)) now j journal
-begun_with s pairing now start again k journal same begins goes =
-    (k, begins, subst (λ (b : Bool). GoesOnBy (not b) now k journal) same goes)
+-- it goes on with an open book as that is
+pub goes_on_with : (s : ServerSettings) (pairing : Pairing) (now : ℕ) (step : ResumeStep) (j k : Journal)
+    → step ≡ GoOnWith j → StepGoesOn pairing step → MayStart s j now → k ≡ j → StartsBook s pairing now step k
+goes_on_with s pairing now step j k is goes may same =
+    subst (λ (x : ResumeStep). StartsBook s pairing now x k) (sym is)
+    (may, (true, ((λ on. subst (λ (x : ResumeStep). StepGoesOn pairing x) is goes), (λ on. refl)), same))

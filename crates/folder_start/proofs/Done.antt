@@ -7,7 +7,7 @@ use Rattle.disk_model.specs.Disk.{Call}
 use Rattle.disk_model.specs.Names.{NameCall, names_after, AreSettled}
 use Rattle.order_book.specs.Replayed.{with_line}
 use Rattle.server_settings.specs.Settings.{ServerSettings}
-use Rattle.std.proofs.Common.{Result, Ok, Err, IfOk}
+use Rattle.std.proofs.Common.{Result, Ok, Err, IfOk, OnOk}
 use Rattle.volume_store.specs.Folder.{ResumesAsTold}
 use Rattle.volume_store.specs.declared.step.RecoveredFolder.{RecoveredFolder}
 use Rattle.volume_store.specs.declared.step.ResumeStep.{ResumeStep}
@@ -69,6 +69,10 @@ started role s now step start volumes names v is has = absurd is
 pub with_ok : {A B : Type 0} (P Q : A → Type 0) (x : Result A B) → ((a : A) → P a → Q a) → IfOk x P → IfOk x Q
 with_ok P Q (Ok a) all has = all a has
 with_ok P Q (Err e) all has = tt
+
+pub on_ok : {A B P : Type 0} (x : Result A B) → P → OnOk x P
+on_ok (Ok a) its = its
+on_ok (Err e) its = tt
 
 pub with_both : {A B : Type 0} (P Q R : A → Type 0) (x : Result A B) → ((a : A) → P a → Q a → R a) → IfOk x P
     → IfOk x Q → IfOk x R

@@ -1,3 +1,4 @@
 pub mod Allowed
 pub mod Done
 pub mod Begun
+pub mod Surviving

@@ -57,6 +57,13 @@ pub enum StartFailure {
     /// A server of these settings, by this clock, doesn't start with the book.
     #[error("{0}")]
     Start(StartError),
+    /// The settings name no partner, and the book waits for one's answer: no volume has a lease.
+    #[error("this directory was begun for a pair and never answered: begin in an empty one")]
+    NeverAnswered,
+    /// The settings name no partner, and the book waits for one's answer.
+    #[error("this directory has leases and waits for its partner's answer: give it link and link_key again and start \
+             the partner")]
+    WaitsForPartner,
     /// There are other files than those that were read.
     #[error("the volumes changed while they were read")]
     Changed,

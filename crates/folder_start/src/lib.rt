@@ -24,7 +24,7 @@ mod starting;
 mod volume_files;
 
 pub use failing::{RollFailure, StartFailure};
-pub use pairing::Pairing;
+pub use pairing::{Pairing, is_survivor};
 pub use reading::{FolderRead, LastVolume, read_folder};
 pub use starting::{StartMode, Started, start};
 pub use volume_files::VolumeFiles;

@@ -2,3 +2,4 @@ pub mod Opened
 pub mod Turned
 mod Lasting
 pub mod Begun
+pub mod Shutting

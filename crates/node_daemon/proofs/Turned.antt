@@ -7,7 +7,7 @@ use Rattle.server_clocks.specs.declared.clocks.Moment.{Moment}
 use Rattle.daemon_endpoints.specs.declared.arrival.Arrival.{Arrival}
 use Rattle.daemon_endpoints.specs.Receiving.{MayReceive, nothing, HasSameFiles, HasHeard}
 use Rattle.daemon_endpoints.specs.Saying.{MayStand, SaysOver}
-use Rattle.daemon_endpoints.proofs.Files.{same_files, heard_nothing, heard_on}
+use Rattle.daemon_endpoints.proofs.Files.{same_files, same_on, heard_nothing, heard_on}
 use Rattle.daemon_endpoints.proofs.Given.{may_stand, said_nothing}
 use Rattle.node_daemon.specs.Turning.{Ways, ways, MayRoll, SendsAfterCommit, IsTurn, Turns, more, SinceThen, HasTurned}
 
@@ -19,6 +19,14 @@ none_heard Listens a b is = subst (λ way. MayReceive Listens a way) (sym is) no
 pub heard_none : {P : Type 0} (gives : Moment → Type 0) (a b : CoreState (Arrival P)) → HasSameFiles a b
     → HasHeard gives a b
 heard_none gives a b same = heard_nothing gives a b same
+
+-- one behind the other
+pub none_then : {P : Type 0} (a b c : CoreState (Arrival P)) → HasSameFiles a b → HasSameFiles b c → HasSameFiles a c
+none_then a b c h k = same_on a b c h k
+
+-- nothing was done, nor put to the disk
+pub none_same : {P : Type 0} (a b : CoreState (Arrival P)) → b ≡ a → HasSameFiles a b
+none_same a b is = same_files a b is
 
 -- nothing was done
 pub heard_same : {P : Type 0} (gives : Moment → Type 0) (a b : CoreState (Arrival P)) → b ≡ a → HasHeard gives a b

@@ -1,25 +1,28 @@
 //! The daemon of a folder that was read, over any devices: it starts the server, and runs.
 
-ghost use Rattle.std.specs.Prelude.{◌≡◌, ℕ, List, None, Ok, IfOk};
+ghost use Rattle.std.specs.Prelude.{◌≡◌, ℕ, List, None, Ok, IfOk, OnOk, is_none};
 ghost use Rattle.disk_model.specs.Names.{names_after, AreSettled};
 ghost use Rattle.volume_store.specs.Folder.{ResumesAsTold};
 ghost use Rattle.server_clocks.specs.declared.clocks.Moment.{Moment as MomentValue};
 ghost use Rattle.folder_start.specs.Keeping.{StartsWith};
+ghost use Rattle.folder_start.specs.Pairing.{StepCanBeAnswered};
 ghost use Rattle.folder_start.specs.Reading.{IsOpened};
 ghost use Rattle.folder_start.specs.Started.{HasBegun};
 ghost use Rattle.node_daemon.specs.Turning.{ways};
+ghost use Rattle.node_daemon.specs.Service.{IsAfterStart};
 ghost use Rattle.node_daemon.specs.Beginning.{pairing_by, HasRun, HasServed};
 
 use crate::daemon::Daemon;
 use crate::error::{DaemonError, ServeFailure};
 use crate::reporting::head_lines_of;
+use crate::service::{ServiceState, service_of};
 use binding_rules::Role;
 use client_limits::{Limiter, Limits};
 use daemon_endpoints::{Arrival, ClientEndpoint, ControlServer, PartnerEndpoint};
 use daemon_io::{ConnectionSource, Control, Datagrams, Poller};
 use disk_files::AccessRecordStore;
 use disk_model::Folder;
-use folder_start::{FolderRead, Pairing, StartMode, Started, start};
+use folder_start::{FolderRead, Pairing, StartFailure, StartMode, Started, start};
 use lead_time::Transit;
 use link_auth::{HandshakeRole, LinkKey, PeerAuthenticator};
 use order_book::Book;
@@ -32,6 +35,7 @@ use server_timers::OperatorRequest;
 use std::alloc::{AllocError, Global};
 use std::net::SocketAddr;
 use std::sync::Wait;
+use std::time::Instant;
 
 /// What a daemon hears and tells by, and rests by.
 #[derive(Drop)]
@@ -105,6 +109,13 @@ where
     }
 }
 
+/// Tells that a server holds off, where it does.
+fn tell_hold_off<L: Print>(log: &Log<'_, L>, service: &ServiceState, now: Instant) {
+    if let Some(seconds) = service.seconds_left(now) {
+        log.log(&LogEvent::HoldsOff { seconds });
+    }
+}
+
 /// How a server lets its partner in: the primary calls, and the secondary is called.
 fn keeper_of(role: Role, key: Option<LinkKey>) -> PeerAuthenticator {
     let side = match role {
@@ -114,7 +125,7 @@ fn keeper_of(role: Role, key: Option<LinkKey>) -> PeerAuthenticator {
     PeerAuthenticator { side, key }
 }
 
-/// The daemon of settings and devices, for a server that has this book.
+/// The daemon of settings and devices, for a server that has this book and begins at this instant.
 fn daemon_of<
     'a,
     G: Datagrams,
@@ -132,14 +143,18 @@ fn daemon_of<
     clocks: C,
     keeper: A,
     book: &Book,
+    now: Instant,
     log: Log<'a, L>,
 ) -> Result<Daemon<'a, G, D, K, C, T, A, L>, AllocError>
     ensures datagrams { IfOk result (λ d. d.clients.datagrams ≡ devices.datagrams) }
     ensures transit { IfOk result (λ d. d.clients.transit ≡ settings.now.node.server.transit) }
     ensures link { IfOk result (λ d. d.partner ≡ None) }
+    ensures service { IfOk result (λ d. IsAfterStart book.now (is_none settings.now.node.ways.link) now d.service) }
 {
     let server = &settings.node.server;
     let limiter = limiter_of(alloc, settings.quotas, &keeper, book, &log);
+    let service = service_of(book, settings.node.ways.link.is_none(), now);
+    tell_hold_off(&log, &service, now);
     let Devices {
         datagrams,
         door,
@@ -161,6 +176,7 @@ fn daemon_of<
         watch: StateWatch::new(),
         syncs: SyncTimes::new(alloc),
         told: OperatorRequest::Nothing,
+        service,
         is_alone: settings.node.ways.link.is_none(),
         leave: None,
         head_lines: head_lines_of(book),
@@ -183,6 +199,7 @@ where
     ensures begun { IfOk result (λ s. (now : MomentValue) × C.gives now
         × HasBegun settings.now.node.server settings.now.renew_floor (pairing_by settings.now.node.ways.link)
         now.reading read.found.step s.running) }
+    ensures answered { OnOk result (StepCanBeAnswered (pairing_by settings.now.node.ways.link) read.found.step) }
     ensures keeps { IfOk result (λ s. (contents : List (List ℕ))
         → ResumesAsTold settings.now.node.server.role contents (Ok read.found)
         → StartsWith (λ x. x ≡ contents) settings.now.node.server.role s.running.names s.running.volume) }
@@ -263,6 +280,9 @@ where
     let started: Started<F, Arrival<G::Peer>> = start_server(alloc, read, settings, &clocks)?;
     tell_start(&log, settings, &key, &started);
     let Started { running, .. } = started;
+    let Some(now) = clocks.now() else {
+        return Err(ServeFailure::of_start(StartFailure::Clock));
+    };
     let Ok(daemon) = daemon_of(
         alloc,
         settings,
@@ -271,6 +291,7 @@ where
         clocks,
         keeper,
         running.book(),
+        now.instant,
         log,
     ) else {
         return Err(ServeFailure::Ended(DaemonError::Memory));

@@ -5,7 +5,7 @@ ghost use Rattle.daemon_endpoints.specs.Receiving.{HasSameFiles};
 ghost use Rattle.node_daemon.specs.declared.commands.RequestRefusal.TheVariants.{Memory};
 
 use crate::daemon::Daemon;
-use crate::reporting::{standing_of, units_of, volume_of};
+use crate::reporting::{journal_of, standing_of, units_of, volume_of};
 use binding_rules::ServerState;
 use daemon_endpoints::Arrival;
 use daemon_io::{ConnectionSource, Control, Datagrams, Poller};
@@ -18,7 +18,7 @@ use server_clocks::{Clocks, Moment};
 use server_core::ServerCore;
 use server_log::LogEvent;
 use server_status::{
-    ClockState, ControlRequest, LinkState, ServerStatus, ShutdownMode, StatusFormat,
+    ClockState, ControlRequest, LinkState, ServerStatus, ShutdownMode, StatusFormat, serving_of,
 };
 use server_timers::{OperatorRequest, RollBlocked, RollState};
 use std::alloc::AllocError;
@@ -30,15 +30,29 @@ enum RequestRefusal {
     /// The clock is too far behind the journal.
     #[error("the clock is behind the journal by more than twice the skew: set it right first")]
     ClockBehind,
+    /// The journal is short.
+    #[error("this journal lacks messages that its partner took: stop this server, and see \"A lost disk\"")]
+    JournalOlder,
     /// There is a connection with the partner.
     #[error("there is a connection with the partner: it runs")]
     PartnerConnected,
+    /// The partner is taken for down already.
+    #[error("the partner is taken for down already")]
+    IsDown,
     /// The partner is taken for down.
     #[error("no volume may follow while the partner is taken for down")]
     PartnerDown,
+    /// The same, where the volume would be closed.
+    #[error("no volume may follow while the partner is taken for down: the next start would be refused (stop without \
+             --close goes on)")]
+    CloseWhileDown,
     /// A unit that was seized isn't acknowledged.
     #[error("no volume may follow before the partner has acknowledged the units that were seized from it")]
     UnitMarked,
+    /// The same, where the volume would be closed.
+    #[error("no volume may follow before the partner has acknowledged the units that were seized from it: the next \
+             start would be refused (stop without --close goes on)")]
+    CloseWhileMarked,
     /// The book takes no such line.
     #[error("{0}")]
     Book(ServeError),
@@ -122,14 +136,13 @@ impl<
         if let ControlRequest::Status(form) = request {
             return Ok(self.status(running, now)?.text(self.alloc, form)?);
         }
-        if request != ControlRequest::Stop(ShutdownMode::Open)
-            && self.watch.clock() == ClockState::Behind
-        {
-            return Err(RequestRefusal::ClockBehind);
+        if request != ControlRequest::Stop(ShutdownMode::Open) {
+            self.may_write()?;
         }
         match request {
             ControlRequest::Status(_) => {}
-            ControlRequest::Stop(leave) => self.stop(leave, running, now)?,
+            ControlRequest::Stop(ShutdownMode::Open) => self.leave(ShutdownMode::Open),
+            ControlRequest::Stop(ShutdownMode::Closed) => return self.close(running, now),
             ControlRequest::Roll => self.ask_roll(running)?,
             ControlRequest::PartnerDown => self.take_for_down(running, now)?,
             ControlRequest::PartnerNormal => {
@@ -140,25 +153,51 @@ impl<
         Ok(String::new(self.alloc))
     }
 
-    /// Stops behind this turn, with the volume open or closed.
-    fn stop<F: Folder + Drop>(
+    /// Refuses what would write a line that the journal mustn't have now.
+    fn may_write(&self) -> Result<(), RequestRefusal> {
+        if self.watch.clock() == ClockState::Behind {
+            return Err(RequestRefusal::ClockBehind);
+        }
+        if self.service.is_shut() {
+            return Err(RequestRefusal::JournalOlder);
+        }
+        Ok(())
+    }
+
+    /// Stops behind this turn.
+    fn leave(&mut self, leave: ShutdownMode)
+        ensures clients { self.new.clients ≡ self.old.clients }
+        ensures link { self.new.partner ≡ self.old.partner }
+    {
+        self.leave = Some(leave);
+        self.log.log(&LogEvent::Stops);
+    }
+
+    /// Closes the volume and stops behind this turn, where a volume may follow: else the next start would be refused.
+    /// Of a server that is alone it says which volume that begins.
+    fn close<F: Folder + Drop>(
         &mut self,
-        leave: ShutdownMode,
         running: &mut ServerCore<F, Arrival<G::Peer>>,
         now: &Moment,
-    ) -> Result<(), RequestRefusal>
+    ) -> Result<String, RequestRefusal>
     where
         F::File: Drop,
         ensures clients { self.new.clients ≡ self.old.clients }
         ensures link { self.new.partner ≡ self.old.partner }
         ensures files { HasSameFiles running.old running.new }
     {
-        if leave == ShutdownMode::Closed {
-            order(running, now, &Order::Close)?;
+        match running.roll_blocked() {
+            Some(RollBlocked::PartnerDown) => return Err(RequestRefusal::CloseWhileDown),
+            Some(RollBlocked::UnitMarked) => return Err(RequestRefusal::CloseWhileMarked),
+            None => {}
         }
-        self.leave = Some(leave);
-        self.log.log(&LogEvent::Stops);
-        Ok(())
+        order(running, now, &Order::Close)?;
+        self.leave(ShutdownMode::Closed);
+        if !self.is_alone {
+            return Ok(String::new(self.alloc));
+        }
+        let next = running.book().head().volume().saturating_add(1);
+        Ok(format!(in self.alloc; "closed: the next start begins volume {next}\n")?)
     }
 
     /// Begins the next volume in this turn, where the rules let.
@@ -195,6 +234,9 @@ impl<
         if self.partner.connected().is_some() {
             return Err(RequestRefusal::PartnerConnected);
         }
+        if running.book().down().is_some() {
+            return Err(RequestRefusal::IsDown);
+        }
         order(running, now, &Order::State(ServerState::Down))?;
         self.log.log(&LogEvent::PartnerDown);
         Ok(())
@@ -221,13 +263,18 @@ impl<
         let book = running.book();
         let growth = self.growth(book, now);
         let owed = self.owed(running, now);
+        let (clock, journal) = (self.watch.clock(), journal_of(&self.service));
+        let standing = standing_of(book, now.reading);
+        let goes_on_in = self.service.seconds_left(now.instant);
         Ok(ServerStatus {
+            serving: serving_of(&journal, clock, goes_on_in, &standing, owed.room),
             role: book.role(),
             reading: now.reading,
-            clock: self.watch.clock(),
+            clock,
+            journal,
             volume: volume_of(book, running.kept(), &growth, &owed),
             units: units_of(book, self.settings.pools()),
-            standing: standing_of(book, now.reading),
+            standing,
             link: self.link(),
             heard: self.partner.heard(),
             traffic: self.clients.traffic(),

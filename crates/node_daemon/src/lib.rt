@@ -7,7 +7,9 @@
 //! disk by one write and one sync, and only then tells: answers to their clients, frames to the partner, and the
 //! control socket. So nothing is told that a loss of power could take back: [`Daemon::run`] promises it.
 //!
-//! While its clock is too far behind its journal (`server_start::is_behind`), it answers nobody, and says so. A disk
+//! While its clock is too far behind its journal (`server_start::is_behind`), it answers nobody, and says so. Nor does a
+//! server that goes on without `restart`, for 30 s or until its partner waits; nor, any more, one whose journal is
+//! short. A disk
 //! that fails ends it: what was held back is never told, and it goes on with what its folder leads to when it is
 //! started again.
 //!
@@ -25,7 +27,9 @@ mod daemon;
 mod error;
 mod keeping;
 mod reporting;
+mod service;
 mod serving;
+mod withholding;
 
 pub use daemon::Daemon;
 pub use error::{DaemonError, ServeFailure};

@@ -1,11 +1,14 @@
 //! How a server is: what its status says.
 
+use crate::service::{ServiceState, ShutReason};
 use binding_rules::{Body, Role};
 use book_state::Pool;
+use failover_session::JournalShortage as SessionShortage;
 use journal_lines::{Event, Line};
 use lead_time::Reading;
 use order_book::Book;
-use server_status::{PartnerState, UnitCounts, VolumeStatus};
+use server_log::LogEvent;
+use server_status::{JournalShortage, JournalState, PartnerState, UnitCounts, VolumeStatus};
 use server_timers::{DueActions, Growth};
 
 /// Counts the units of a pool.
@@ -69,6 +72,48 @@ pub(crate) fn head_lines_of(book: &Book) -> usize {
         .iter()
         .take_while(|line| is_head(&line.event))
         .count()
+}
+
+/// What a person is told where a server goes on without `restart`, as before its stop; nothing where its partner came
+/// meanwhile and all is well.
+pub(crate) fn going_on(book: &Book) -> Option<LogEvent> {
+    match (book.down(), book.next_mark(0)) {
+        (Some(since), _) => Some(LogEvent::GoesOnAlone { since }),
+        (None, Some(_)) => Some(LogEvent::MarkedGoesOn),
+        (None, None) => None,
+    }
+}
+
+/// How the journal is, by whether the server may serve.
+pub(crate) fn journal_of(service: &ServiceState) -> JournalState {
+    match service {
+        ServiceState::Open | ServiceState::HoldsOff { .. } => JournalState::Whole,
+        ServiceState::Shut(ShutReason::PartnerServes) => {
+            JournalState::Older(JournalShortage::PartnerServes)
+        }
+        ServiceState::Shut(ShutReason::Journal(shortage)) => {
+            JournalState::Older(shortage_of(shortage))
+        }
+    }
+}
+
+/// What the partner knows more of the journal.
+fn shortage_of(shortage: &SessionShortage) -> JournalShortage {
+    match shortage {
+        SessionShortage::Messages { taken, sent } => JournalShortage::Messages {
+            taken: *taken,
+            sent: *sent,
+        },
+        SessionShortage::Change {
+            prefix,
+            taken,
+            made,
+        } => JournalShortage::Change {
+            prefix: *prefix,
+            taken: *taken,
+            made: *made,
+        },
+    }
 }
 
 /// How far a book's volume has grown, which begins with so many head lines.

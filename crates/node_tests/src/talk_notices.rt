@@ -7,7 +7,7 @@ use crate::notice_books::{
 };
 use binding_rules::Role;
 use exclusive_book::{ExclusiveBook, ExclusivePairBook};
-use failover_session::{FailoverSession, LinkInput, SessionError};
+use failover_session::{FailoverSession, LinkInput, SessionError, SessionPolicy};
 use lead_time::Reading;
 use locked_book::ServeError;
 use node_threads::WatchedBook;
@@ -56,7 +56,7 @@ fn told(alloc: Global, role: Role, lines: usize, frames: &[&[u8]]) -> Result<Cou
         book: &ExclusivePairBook,
         notices: &noted,
     };
-    let mut talk = FailoverSession::new(alloc);
+    let mut talk = FailoverSession::new(alloc, SessionPolicy::Run);
     if talk.send_greeting(&own, &settings).is_err() {
         return Err(Fail::from("out of memory"));
     }

@@ -10,6 +10,7 @@ use Rattle.failover_session.specs.declared.outbox.OutboundFrame.{OutboundFrame}
 use Rattle.failover_session.specs.declared.link_input.LinkInput.{LinkInput}
 use Rattle.failover_session.specs.OutboundFrames.{FrameMeaning, meaning_in, meanings_of, sends_of, greeting_kind, opening}
 use Rattle.failover_session.specs.Receipts.{last_taken}
+use Rattle.failover_session.specs.declared.policy.SessionPolicy.TheVariants.{Run}
 use Rattle.failover_session.specs.declared.stage.SessionStage.TheVariants.{Greeting}
 use Rattle.failover_session.specs.Sessions.{Handles, Met, Unmet, met_at, IsGoing, first_meanings}
 use Rattle.failover_session.specs.Polling.{SessionModel, octets_of, IsPoll, IsWholePoll}
@@ -40,6 +41,7 @@ behind role gs fs heard x y a b behind_words =
           filter_map-append meaning_in gs fs
           ∙ (ap (λ ms. meanings_of gs ++ ms) its ∙ sym (append_assoc (meanings_of gs) first sends));
       stays = h.stays;
+      sent = h.sent;
       silent = h.silent;
     }
 
@@ -357,7 +359,7 @@ module _ {Line : Type 0} (Brings Writes : Line → List ℕ → Line → Type 0)
   opening_whole a words old new (Err e) said written = tt
 
   pub talk_begun : (s : SessionModel) (first : List FrameMeaning) (a : List Receipt) (old new : Line)
-      → s ≡ record { held = []; stage = Greeting; handed = [] }
+      → s ≡ record { policy = Run; held = []; stage = Greeting; handed = [] }
       → HasTold Brings Writes (HeardAll []) role first Unmet Unmet a a old new
       → HasTold Brings Writes (HeardAll s.held) role first Unmet (met_at s.stage) a a old new
   talk_begun s first a old new begins h =

@@ -6,6 +6,7 @@ ghost use Rattle.failover_session.specs.OutboundFrames.{opening};
 ghost use Rattle.failover_session.specs.Receipts.{Goes};
 ghost use Rattle.failover_session.specs.Sessions.{Met, Unmet, met_at, IsGoing};
 ghost use Rattle.failover_session.specs.Polling.{octets_of};
+ghost use Rattle.failover_session.specs.declared.policy.SessionPolicy.TheVariants.{Run};
 ghost use Rattle.failover_session.specs.declared.stage.SessionStage.TheVariants.{Greeting};
 ghost use Rattle.node_threads.specs.Reading.{octets_in, HeardAll, HeardOn, AllBehind};
 ghost use Rattle.node_threads.specs.Reading.{HeardFront, FrontBehind, HeardTill};
@@ -21,7 +22,7 @@ use crate::watched_book::WatchedBook;
 use crate::wire::{Got, Wire};
 use binding_rules::Counter;
 use failover_message::{Frame, FrameKind, encode};
-use failover_session::{FailoverSession, LinkInput, LockedBook, OutboundFrame};
+use failover_session::{FailoverSession, LinkInput, LockedBook, OutboundFrame, SessionPolicy};
 use locked_book::{BookName, Pass, SharedBook};
 use server_book::Settings;
 use std::alloc::Global;
@@ -198,7 +199,7 @@ impl<'a, N: BookName, R: Wait, C: Clock, V: Notices> LinkEnd<'a, N, R, C, V> {
         talk: &mut FailoverSession,
         wire: &mut W,
     ) -> Result<(), NodeError>
-        requires { talk.old ≡ record { held = []; stage = Greeting; handed = [] } }
+        requires { talk.old ≡ record { policy = Run; held = []; stage = Greeting; handed = [] } }
         ensures told { WritesInOrder W.brings W.writes W.fails HeardTill self.now.settings.now.role
             (opening self.now.settings.now.role pass.now.receipts) Unmet Unmet pass.now.receipts pass.now.receipts
             wire.old wire.new result }
@@ -307,7 +308,7 @@ pub fn serve_link<N: BookName, R: Wait, C: Clock, V: Notices, W: Wire>(
     let Ok(mut buffer) = vec![in alloc; 0u8; READ_SIZE] else {
         return Err(NodeError::Memory);
     };
-    let mut talk = FailoverSession::new(alloc);
+    let mut talk = FailoverSession::new(alloc, SessionPolicy::Run);
     let mut pauses = IdleTimer::new();
     let mut quiet = SilenceTimer::new();
     match end.greet(pass, &mut talk, wire) {

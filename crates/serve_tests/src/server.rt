@@ -62,7 +62,7 @@ where
     match stage {
         SessionStage::Joined { last } => running.can_resend_above(*last),
         SessionStage::Greeting => true,
-        SessionStage::Refused | SessionStage::Ended { .. } => false,
+        SessionStage::Refused | SessionStage::Ended { .. } | SessionStage::Short { .. } => false,
     }
 }
 

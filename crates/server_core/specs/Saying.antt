@@ -1,5 +1,5 @@
 -- What a server owes its partner: its frames are held back until the lines that they speak of are on the disk.
-use Rattle.std.specs.Prelude.{◌≡◌, ℕ, ◌-◌, List, [], ◌∷◌, ◌++◌, Option, Some, None, IfSome}
+use Rattle.std.specs.Prelude.{◌≡◌, ℕ, ◌-◌, List, [], ◌∷◌, ◌++◌, Option, Some, None, option_map, IfSome}
 use Rattle.std.specs.List.{AllByRecursion}
 use Rattle.binding_rules.specs.declared.role.Role.{Role}
 use Rattle.journal_lines.specs.declared.event.Event.{Event}
@@ -9,6 +9,9 @@ use Rattle.failover_session.specs.declared.outbox.OutboundFrame.{OutboundFrame}
 use Rattle.failover_session.specs.OutboundFrames.{FrameMeaning, Greets, Sends, meanings_of, meaning_of_receipt, greeting_kind}
 use Rattle.failover_session.specs.Receipts.{last_taken}
 use Rattle.failover_session.specs.Polling.{SessionModel}
+use Rattle.failover_session.specs.Shortage.{SaysWhyShort}
+use Rattle.failover_session.specs.declared.policy.SessionPolicy.{SessionPolicy}
+use Rattle.failover_session.specs.declared.stage.SessionStage.{SessionStage}
 
 -- One of these receipts says it by its own line; or it greets the partner by the message that was taken last of the
 -- first of these.
@@ -32,6 +35,14 @@ IsTalkBacked receipts talk = IfSome talk (λ t. AreBacked receipts t.handed)
 abbrev pub handed_of : Option SessionModel → List OutboundFrame
 handed_of None = []
 handed_of (Some t) = t.handed
+
+-- how far the two ends have come, if there is a talk
+abbrev pub stage_of : Option SessionModel → Option SessionStage
+stage_of talk = option_map (λ t. t.stage) talk
+
+-- a talk that says that the journal is short says why
+abbrev pub SaysWhyTalkIsShort : SessionPolicy → List Receipt → Option SessionModel → Type 0
+SaysWhyTalkIsShort policy has talk = IfSome talk (λ t. SaysWhyShort policy has t.stage)
 
 -- of a line: the serial of the last message that was sent before it, if it tells one
 abbrev pub before_by : Event → ℕ → ℕ

@@ -1,8 +1,9 @@
 //! The talk with the partner, over one connection after the other.
 
-ghost use Rattle.std.specs.Prelude.{◌≡◌, ◌≤◌, ◌↔◌, IsTrue, List};
+ghost use Rattle.std.specs.Prelude.{◌≡◌, ◌≤◌, ◌↔◌, IsTrue, IfSome, List};
+ghost use Rattle.failover_session.specs.Sessions.{IsGoing};
 ghost use Rattle.server_core.specs.Served.{receipts_in};
-ghost use Rattle.server_core.specs.Saying.{sent_before};
+ghost use Rattle.server_core.specs.Saying.{sent_before, stage_of, SaysWhyTalkIsShort};
 ghost use Rattle.locked_book.specs.declared.receipt.Receipt.{Receipt as ReceiptValue};
 ghost use Rattle.server_core.specs.VolumeWriters.{Grows};
 
@@ -10,7 +11,7 @@ use crate::server::ServerCore;
 use crate::volume_writer::VolumeWriter;
 use binding_rules::Counter;
 use disk_model::{Device, Folder};
-use failover_session::{FailoverSession, LinkInput, SessionError, SessionStage};
+use failover_session::{FailoverSession, LinkInput, SessionError, SessionPolicy, SessionStage};
 use journal_lines::Event;
 use lead_time::Reading;
 use locked_book::Receipt;
@@ -41,7 +42,10 @@ fn forget_by<D: Device>(volume: &mut VolumeWriter<D>, stage: &SessionStage)
         SessionStage::Joined { last } | SessionStage::Ended { named: Some(last) } => volume.forget(
             *last,
         ),
-        SessionStage::Greeting | SessionStage::Refused | SessionStage::Ended { named: None } => {}
+        SessionStage::Greeting
+        | SessionStage::Refused
+        | SessionStage::Ended { named: None }
+        | SessionStage::Short { .. } => {}
     }
 }
 
@@ -53,7 +57,7 @@ where
     pub fn connect_partner(&mut self, settings: &Settings) -> Result<(), SessionError>
         ensures { self.new ≡ record self.old { talk = self.new.talk } }
     {
-        let mut talk = FailoverSession::new(self.alloc);
+        let mut talk = FailoverSession::new(self.alloc, SessionPolicy::Serve);
         match self.volume.greet(&mut talk, settings) {
             Ok(()) => {
                 self.talk = Some(talk);
@@ -77,6 +81,9 @@ where
     ) -> Result<(), SessionError>
         ensures grows { (added : List ReceiptValue) × Grows self.old.volume self.new.volume added }
         ensures rest { self.new ≡ record self.old { volume = self.new.volume; talk = self.new.talk } }
+        // A talk that goes on says that this journal is short by what its receipts send, or by what it would take.
+        ensures why { IfSome self.old.talk (λ s. IsGoing s.stage
+            → SaysWhyTalkIsShort s.policy (receipts_in self.new.volume.served) self.new.talk) }
     {
         match &mut self.talk {
             Some(talk) => self.volume.poll(talk, settings, read, came),
@@ -113,7 +120,20 @@ where
     }
 
     /// How far the two ends of the connection have come; none where there is no connection.
-    pub fn stage(&self) -> Option<SessionStage> {
-        self.talk.as_ref().map(|talk| talk.stage())
+    pub fn stage(&self) -> Option<SessionStage>
+        ensures { result ≡ stage_of self.now.talk }
+    {
+        match &self.talk {
+            Some(talk) => Some(talk.stage()),
+            None => None,
+        }
+    }
+
+    /// Returns whether the partner said over the connection that it waits for an answer (UPDREQALL).
+    pub fn partner_waits(&self) -> bool {
+        match &self.talk {
+            Some(talk) => talk.partner_waits(),
+            None => false,
+        }
     }
 }

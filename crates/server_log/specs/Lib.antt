@@ -1,1 +1,2 @@
 pub mod RateLimits
+pub mod Watches

@@ -1,14 +1,18 @@
 //! What lasts, and is told a person once.
 
+ghost use Rattle.std.specs.Prelude.{◌≡◌};
+ghost use Rattle.server_log.specs.Watches.{journal_seen};
+
 use crate::log::Log;
 use crate::log_event::LogEvent;
-use server_status::ClockState;
+use server_status::{ClockState, JournalState};
 use server_timers::{DueActions, RollState, Room};
 
 /// What was seen last of what lasts: each change is told once.
 #[derive(Clone, Copy)]
 pub struct StateWatch {
     clock: ClockState,
+    journal: JournalState,
     roll: RollState,
     room: Room,
 }
@@ -18,6 +22,7 @@ impl StateWatch {
     pub fn new() -> StateWatch {
         StateWatch {
             clock: ClockState::Right,
+            journal: JournalState::Whole,
             roll: RollState::NotDue,
             room: Room::Enough,
         }
@@ -38,6 +43,23 @@ impl StateWatch {
             ClockState::Behind => LogEvent::ClockBehind,
             ClockState::Right => LogEvent::ClockRight,
         });
+    }
+
+    /// Whether the journal has all that the partner took of it, by what was seen so far.
+    pub fn journal(&self) -> JournalState
+        ensures { result ≡ self.now.journal }
+    {
+        self.journal
+    }
+
+    /// Sees how the journal is. Once it was older than what its partner took, it stays so.
+    pub fn see_journal<L: Print>(&mut self, journal: &JournalState, log: &Log<'_, L>)
+        ensures { self.new ≡ record self.old { journal = journal_seen self.old.journal journal.now } }
+    {
+        if let (JournalState::Whole, JournalState::Older(_)) = (self.journal, journal) {
+            self.journal = *journal;
+            log.log(&LogEvent::JournalOlder);
+        }
     }
 
     /// Sees what is owed.

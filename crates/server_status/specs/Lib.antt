@@ -1,3 +1,4 @@
 pub mod Words
 pub mod Counts
 pub mod Syncs
+pub mod Serving

@@ -1,5 +1,6 @@
 //! A status as JSON. Readings are in milliseconds since 1970, and what there isn't is `null`.
 
+use crate::serving::{NotServing, ServingState};
 use crate::status::{ServerStatus, VolumeStatus};
 use crate::sync_times::SyncSummary;
 use crate::traffic::Traffic;
@@ -24,6 +25,19 @@ fn counts_of(alloc: Global, counts: &[(&'static str, u64)]) -> Result<Value, All
         put(&mut object, alloc, name, Value::from(*count))?;
     }
     Ok(Value::Object(object))
+}
+
+/// Whether clients are served, and why not.
+fn serving_value(alloc: Global, serving: &ServingState) -> Result<Value, AllocError> {
+    match serving {
+        ServingState::Yes => json!(in alloc; { "is": true }),
+        ServingState::No(why) => match why {
+            NotServing::GoesOnIn { seconds } => {
+                json!(in alloc; { "is": false, "why": why.name(), "seconds": *seconds })
+            }
+            _ => json!(in alloc; { "is": false, "why": why.name() }),
+        },
+    }
 }
 
 fn volume_of(alloc: Global, volume: &VolumeStatus) -> Result<Value, AllocError> {
@@ -70,7 +84,7 @@ fn add<V: ToValue>(
     put(object, alloc, name, value)
 }
 
-/// Puts what the server is, and what its clock shows.
+/// Puts what the server is, what its clock shows, and whether its journal is whole.
 fn add_server(
     alloc: Global,
     object: &mut Map<String, Value>,
@@ -79,7 +93,8 @@ fn add_server(
     add(alloc, object, "role", role_name(status.role))?;
     add(alloc, object, "reading_ms", status.reading.milliseconds())?;
     add(alloc, object, "clock", status.clock.name())?;
-    add(alloc, object, "ahead_ms", status.ahead())
+    add(alloc, object, "ahead_ms", status.ahead())?;
+    add(alloc, object, "journal", status.journal.name())
 }
 
 /// Puts how many units there are of each kind, and how many changes the partner lacks.
@@ -122,6 +137,8 @@ fn add_unanswered(
 /// A status as an object.
 fn object_of(alloc: Global, status: &ServerStatus) -> Result<Map<String, Value>, AllocError> {
     let mut object = Map::new(alloc);
+    let serving = serving_value(alloc, &status.serving)?;
+    add(alloc, &mut object, "serving", serving)?;
     add_server(alloc, &mut object, status)?;
     let volume = volume_of(alloc, &status.volume)?;
     add(alloc, &mut object, "volume", volume)?;

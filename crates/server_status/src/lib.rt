@@ -2,7 +2,8 @@
 //! status as text, JSON and OpenMetrics. It doesn't touch the socket, and it doesn't carry the request out.
 //!
 //! A [`ServerStatus`] is filled in by the server, and written in a form that a person asks for: lines to read, JSON, or
-//! the text of OpenMetrics that a monitor scrapes. [`UnitCounts`], [`Traffic`] and [`SyncTimes`] count what it says.
+//! the text of OpenMetrics that a monitor scrapes. [`UnitCounts`], [`Traffic`] and [`SyncTimes`] count what it says;
+//! [`serving_of`] decides whether clients are served, and why not (specs/Serving).
 //!
 //! ```text
 //! status.text(alloc, StatusFormat::Json)
@@ -27,6 +28,7 @@ mod control_request;
 mod json;
 mod lines;
 mod metrics;
+mod serving;
 mod status;
 mod sync_times;
 mod traffic;
@@ -35,6 +37,7 @@ mod writing;
 
 pub use control_reply::{ControlReply, ControlVerdict};
 pub use control_request::{ControlRequest, PARTNER_STOPPED, ShutdownMode, StatusFormat};
+pub use serving::{JournalShortage, JournalState, NotServing, ServingState, serving_of};
 pub use status::{ClockState, LinkState, PartnerState, ServerStatus, VolumeStatus};
 pub use sync_times::{SyncSummary, SyncTime, SyncTimes};
 pub use traffic::{AnswerCounts, FaultCounts, MessageCounts, Traffic};

@@ -46,14 +46,17 @@ fn push_counts(
     out.push('\n')
 }
 
-/// Appends what the server and its clock are.
+/// Appends whether clients are served, and what the server, its clock and its journal are.
 fn push_server(out: &mut String, alloc: Global, status: &ServerStatus) -> Result<(), AllocError> {
     let role = role_name(status.role);
     let clock = status.clock.name();
     let ahead = status.ahead();
+    let (serving, journal) = (&status.serving, &status.journal);
+    writeln!(out, "serving: {serving}")?;
     writeln!(out, "role: {role}")?;
     push_at(out, alloc, "time", status.reading)?;
-    writeln!(out, "clock: {clock}, {ahead} ms ahead of the last line")
+    writeln!(out, "clock: {clock}, {ahead} ms ahead of the last line")?;
+    writeln!(out, "journal: {journal}")
 }
 
 /// Appends what the volume is.

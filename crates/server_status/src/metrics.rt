@@ -1,5 +1,6 @@
 //! A status as the text of OpenMetrics, for a monitor that scrapes it.
 
+use crate::serving::{NotServing, ServingState};
 use crate::status::{ServerStatus, VolumeStatus};
 use crate::sync_times::SyncSummary;
 use crate::traffic::Traffic;
@@ -122,6 +123,30 @@ fn push_ahead(out: &mut String, ahead: i64) -> Result<(), AllocError> {
     writeln!(
         out,
         "fengtuyas_clock_ahead_seconds {sign}{seconds}.{part:03}"
+    )
+}
+
+/// Appends whether clients are served, and each reason why they aren't.
+fn push_serving(out: &mut String, serving: &ServingState) -> Result<(), AllocError> {
+    let why = serving.why_not();
+    let serves = if why.is_none() { 1 } else { 0 };
+    push_gauge(out, "serving", "Whether clients are served.", serves)?;
+    push_family(out, "not_serving", "gauge", "Why nobody is served.")?;
+    for other in &NotServing::NAMES {
+        let holds = if why == Some(*other) { 1 } else { 0 };
+        writeln!(out, "fengtuyas_not_serving{{why=\"{other}\"}} {holds}")?;
+    }
+    Ok(())
+}
+
+/// Appends whether the journal has all that the partner took of it.
+fn push_journal(out: &mut String, journal: &str) -> Result<(), AllocError> {
+    push_states(
+        out,
+        "journal",
+        "Whether the journal has all that the partner took of it.",
+        &["whole", "older"],
+        journal,
     )
 }
 
@@ -301,6 +326,8 @@ pub(crate) fn metrics_of(alloc: Global, status: &ServerStatus) -> Result<String,
     let mut out = String::new(alloc);
     push_server(&mut out, status)?;
     push_ahead(&mut out, status.ahead())?;
+    push_serving(&mut out, &status.serving)?;
+    push_journal(&mut out, status.journal.name())?;
     push_volume(&mut out, &status.volume)?;
     push_limits(&mut out, &status.volume)?;
     push_partner(&mut out, status)?;

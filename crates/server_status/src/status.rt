@@ -6,6 +6,7 @@ use crate::control_request::StatusFormat;
 use crate::json::json_of;
 use crate::lines::lines_of;
 use crate::metrics::metrics_of;
+use crate::serving::{JournalState, ServingState};
 use crate::sync_times::SyncSummary;
 use crate::traffic::Traffic;
 use crate::units::UnitCounts;
@@ -29,6 +30,10 @@ pub struct ServerStatus {
     pub traffic: Traffic,
     /// Of the last minute; none where nothing was synced.
     pub syncs: Option<SyncSummary>,
+    /// Whether clients are served, and why not ([`serving_of`](crate::serving_of)).
+    pub serving: ServingState,
+    /// Whether it has all that its partner took of it.
+    pub journal: JournalState,
 }
 
 /// Whether the clock may go on with the journal.

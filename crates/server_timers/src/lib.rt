@@ -2,10 +2,10 @@
 //! volume is nearly full. `due_actions` computes it from the settings, the clock and the volume's size. It does none
 //! of it and keeps no state.
 //!
-//! A server that wrote nothing for `heartbeat` seconds orders a contact, link or no link, so that its partner and its
-//! journal know that it lives. A volume rolls after so many lines behind its head lines, after so many hours, or when
-//! told, but only where the rules let: not while the partner is taken for down, and not before it has acknowledged each
-//! unit that was seized from it. A book that is full takes a close line alone: that is known an hour ahead, by the rate
+//! A server that wrote nothing for `heartbeat` seconds owes a contact, so that its partner and its journal know that it
+//! lives; until it has joined its partner, another line takes its place. A volume rolls after so many lines behind its
+//! head lines, after so many hours, or when told, but only where the rules let: not while the partner is taken for down,
+//! and not before it has acknowledged each unit that was seized from it. A book that is full takes a close line alone: that is known an hour ahead, by the rate
 //! at which lines were written so far.
 //!
 //! ```text

@@ -6,7 +6,7 @@ use client_service::{
 use dhcp6_pd::decode;
 use exclusive_book::{ExclusiveBook, ExclusivePairBook};
 use failover_message::encode;
-use failover_session::{FailoverSession, LinkInput};
+use failover_session::{FailoverSession, LinkInput, SessionPolicy};
 use lead_time::Reading;
 use prefix_range::Prefix;
 use server_book::{Book, LeaseRequest, Order, Reply, ReplyPolicy, Settings, read_settings};
@@ -44,7 +44,7 @@ impl Server {
         Ok(Server {
             own: ExclusiveBook::new(alloc, book),
             settings,
-            talk: FailoverSession::new(alloc),
+            talk: FailoverSession::new(alloc, SessionPolicy::Serve),
             coming: Vec::new(alloc),
         })
     }
@@ -114,7 +114,7 @@ impl Server {
 
     /// Begins another connection; what was under way on the last one is lost.
     pub fn connect(&mut self, alloc: Global, wire: &mut Vec<u8>) -> Result<(), Fail> {
-        self.talk = FailoverSession::new(alloc);
+        self.talk = FailoverSession::new(alloc, SessionPolicy::Serve);
         self.coming = Vec::new(alloc);
         if self.talk.send_greeting(&self.own, &self.settings).is_err() {
             return Err(Fail::from("out of memory"));

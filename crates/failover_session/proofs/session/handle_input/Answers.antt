@@ -6,3 +6,6 @@ returns-in-Ok-clause-turn g c =
     turn_heard _ c.args.came.now c.args.feed.now c.feed.new.self c.deref.result.now _ _ _ _ _ _
     (octets_are c.args.came.now c.in-Octets.octets c.args.feed.now c.feed.new.self c.deref.result.now c.in-Octets.is
     (rw (c.deref.ensures.value) c.in-Ok.ensures.split)) c.handle_frames.ensures.front
+
+pub returns-in-Closed-clause-why : goal.returns-in-Closed-clause-why
+returns-in-Closed-clause-why g c = λ going. c.ended.ensures.why c.args.end.now.policy (g.B.Pass.Receipts.receipts c.args.pass.now) going

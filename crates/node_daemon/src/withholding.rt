@@ -1,0 +1,140 @@
+//! What a daemon does while it may not serve.
+
+ghost use Rattle.std.specs.Prelude.{◌≡◌};
+ghost use Rattle.server_core.specs.Saying.{stage_of};
+ghost use Rattle.daemon_endpoints.specs.Receiving.{MayReceive, HasSameFiles};
+ghost use Rattle.daemon_endpoints.specs.Saying.{MayStand};
+ghost use Rattle.node_daemon.specs.Service.{IsShort, IsShut};
+
+use crate::daemon::Daemon;
+use crate::error::DaemonError;
+use crate::reporting::{going_on, journal_of};
+use crate::service::{PartnerView, ServiceState};
+use daemon_endpoints::Arrival;
+use daemon_io::{ConnectionSource, Control, Datagrams, Poller};
+use disk_files::AccessRecordStore;
+use disk_model::Folder;
+use order_book::Book;
+use server_clocks::{Clocks, Moment};
+use server_core::ServerCore;
+use server_log::DisconnectReason;
+use server_start::is_behind;
+use server_status::ClockState;
+
+impl<
+    G: Datagrams,
+    D: ConnectionSource,
+    K: Control,
+    C: Clocks,
+    T: Poller,
+    A: AccessRecordStore,
+    L: Print,
+> Daemon<'_, G, D, K, C, T, A, L> {
+    /// Looks whether the clock may go on with the journal.
+    pub(crate) fn check_clock(&mut self, book: &Book, now: &Moment)
+        ensures clients { self.new.clients ≡ self.old.clients }
+        ensures link { self.new.partner ≡ self.old.partner }
+        ensures service { self.new.service ≡ self.old.service }
+    {
+        let is_behind = match book.journal().last() {
+            Some(line) => is_behind(now.reading, line.reading, self.settings.skew()),
+            None => false,
+        };
+        let clock = if is_behind {
+            ClockState::Behind
+        } else {
+            ClockState::Right
+        };
+        self.watch.see_clock(clock, &self.log);
+    }
+
+    /// Sees what the partner shows of this journal over the connection, and tells a person where that changes whether
+    /// the server may serve.
+    #[tactic(auto, using(crate::proofs::Shutting::shut_stays, crate::proofs::Shutting::short_shuts))]
+    pub(crate) fn see_partner<F: Folder + Drop>(
+        &mut self,
+        running: &ServerCore<F, Arrival<G::Peer>>,
+        now: &Moment,
+    )
+    where
+        F::File: Drop,
+        ensures clients { self.new.clients ≡ self.old.clients }
+        ensures link { self.new.partner ≡ self.old.partner }
+        ensures shut { IsShut self.old.service → self.new.service ≡ self.old.service }
+        ensures short { IsShort (stage_of running.now.talk) → IsShut self.new.service }
+    {
+        let partner = PartnerView {
+            stage: running.stage(),
+            waits: running.partner_waits(),
+            connected_for: self.partner.connected_for(now.instant),
+        };
+        let before = self.service;
+        self.service = before.next(&partner, now.instant);
+        if before != self.service {
+            self.tell_service(running.book());
+        }
+    }
+
+    /// Tells that a server goes on, or serves nobody any more; then its connection ends.
+    fn tell_service(&mut self, book: &Book)
+        ensures clients { self.new.clients ≡ self.old.clients }
+        ensures link { self.new.partner ≡ self.old.partner }
+        ensures service { self.new.service ≡ self.old.service }
+    {
+        match self.service {
+            ServiceState::Open => {
+                if let Some(event) = going_on(book) {
+                    self.log.log(&event);
+                }
+            }
+            ServiceState::HoldsOff { .. } => {}
+            ServiceState::Shut(_) => {
+                self.watch
+                    .see_journal(&journal_of(&self.service), &self.log);
+                self.partner.part(DisconnectReason::OldCopy);
+            }
+        }
+    }
+
+    /// Passes clients over, and hears no partner: does what is asked alone. Returns whether anything came.
+    #[tactic(auto, using(crate::proofs::Turned::nobody_came, crate::proofs::Turned::none_same, crate::proofs::Turned::none_then))]
+    pub(crate) fn pass_over<F: Folder + Drop>(
+        &mut self,
+        running: &mut ServerCore<F, Arrival<G::Peer>>,
+        now: &Moment,
+    ) -> Result<bool, DaemonError>
+    where
+        F::File: Drop,
+        ensures hears { MayReceive G.listens self.old.clients.datagrams self.new.clients.datagrams }
+        ensures stands { MayStand self.old.partner self.new.partner }
+        ensures transit { self.new.clients.transit ≡ self.old.clients.transit }
+        ensures files { HasSameFiles running.old running.new }
+    {
+        let count = self.clients.discard()?;
+        let was_asked = self.handle_request(running, now);
+        Ok(count > 0 || was_asked)
+    }
+
+    /// Passes clients over, hears the partner, and does what is asked. Returns whether anything came.
+    #[tactic(auto, using(crate::proofs::Turned::nobody_came, crate::proofs::Turned::none_same, crate::proofs::Turned::none_then))]
+    pub(crate) fn hold_off<F: Folder + Drop>(
+        &mut self,
+        running: &mut ServerCore<F, Arrival<G::Peer>>,
+        now: &Moment,
+    ) -> Result<bool, DaemonError>
+    where
+        F::File: Drop,
+        ensures hears { MayReceive G.listens self.old.clients.datagrams self.new.clients.datagrams }
+        ensures stands { MayStand self.old.partner self.new.partner }
+        ensures transit { self.new.clients.transit ≡ self.old.clients.transit }
+        ensures files { HasSameFiles running.old running.new }
+    {
+        let count = self.clients.discard()?;
+        let has_come = self
+            .partner
+            .receive(running, self.settings, now, &self.clocks, &mut self.log)?;
+        self.see_partner(running, now);
+        let was_asked = self.handle_request(running, now);
+        Ok(count > 0 || has_come || was_asked)
+    }
+}
