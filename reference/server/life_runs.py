@@ -9,6 +9,7 @@ from .life_draws import (WAITS, LifeDraws, bounds_of, drawn_ages, drawn_ahead, d
                          drawn_records, drawn_short_times, drawn_tail, drawn_times, end_bound, half_of_units,
                          write_past)
 from .limits import NOT_SAID, Limits
+from .linkend import partner_of
 from .lives import Life
 from .manner_draws import drawn_manner
 from .program import Daemon, now
@@ -31,8 +32,13 @@ def serve_floor_once(program, seed, count, tally):
     draws.await_bounds(bounds_of(settings, floor))
     has_link = source.random() < 0.2
     past = list(book.lines) if readings else []
-    with Daemon(program, settings, manner, host, has_link, past, told) as daemon:
-        Life(daemon, draws, book, told, tally, manner).run(count)
+    is_answered = has_link and not past
+    with partner_of(settings) as link, \
+            Daemon(program, settings, manner, host, has_link, past, told, link=link if is_answered else None) as daemon:
+        life = Life(daemon, draws, book, told, tally, manner)
+        if is_answered:
+            life.be_answered(link)
+        life.run(count)
     daemon.count(tally, "lives by the clock")
 
 
@@ -91,11 +97,17 @@ def serve_limits_once(program, seed, count, tally):
 
 def serve_scripts(program, tally):
     """Lives whose datagrams are given: one of a server whose settings name no limit, whose clients ask for what they
-    may have and more; and one of clients that move from one relay port to another."""
-    for told, script in ((NOT_SAID, LifeDraws.up_to_usual_limits), (Limits(units_per_port=1), LifeDraws.moving)):
+    may have and more; and two of clients that move from one relay port to another, in one of which the server has a
+    partner."""
+    for told, script, has_link in ((NOT_SAID, LifeDraws.up_to_usual_limits, False),
+                                   (Limits(units_per_port=1), LifeDraws.moving, False),
+                                   (Limits(units_per_port=1), LifeDraws.moving, True)):
         host, book, draws = drawn_life(random.Random(1), plain_settings(), now())
-        with Daemon(program, plain_settings(), answers.PLAIN, host, False, [], told) as daemon:
+        with partner_of(plain_settings()) as link, \
+                Daemon(program, plain_settings(), answers.PLAIN, host, has_link, [], told, link=link) as daemon:
             life = Life(daemon, draws, book, told, tally, answers.PLAIN)
+            if has_link:
+                life.be_answered(link)
             for octets in script(draws):
                 life.put(octets, "scripted")
             life.run(0)

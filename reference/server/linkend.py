@@ -1,13 +1,16 @@
 """Our end of the link to a node: connections over TCP, frames in pieces, and what went over each."""
 
+import contextlib
 import select
 import socket
 import time
+from random import Random
 
 from . import frames
 from .frames import Frame, LinkFault
-from .program import PATIENCE, Difference
+from .program import PATIENCE, Difference, free_port
 
+LINK_HOST = "127.0.0.1"
 ROLE_CODES = {"A": 1, "B": 2}
 OTHER = {"A": "B", "B": "A"}
 
@@ -23,6 +26,15 @@ class Connection:
         self.reached = 0
 
 
+def listener_at(address):
+    """A listener at a port that was free: a child of another thread's may have that still, until it is a program."""
+    for _ in range(PATIENCE * 50):
+        with contextlib.suppress(OSError):
+            return socket.create_server(address)
+        time.sleep(0.02)
+    raise Difference(f"nobody can listen at {address}")
+
+
 class LinkEnd:
     """The partner of a node of the role: it waits for the primary, and connects to the secondary."""
 
@@ -36,7 +48,7 @@ class LinkEnd:
         self.connections = []
         self.listener = None
         if role == "A":
-            self.listener = socket.create_server(address)
+            self.listener = listener_at(address)
             self.listener.settimeout(PATIENCE)
 
     def close(self):
@@ -47,13 +59,14 @@ class LinkEnd:
     def leave(self):
         """Closes the connection, and those that came meanwhile."""
         self.close()
-        while select.select([self.listener], [], [], 0)[0]:
+        while self.listener is not None and select.select([self.listener], [], [], 0)[0]:
             self.listener.accept()[0].close()
 
     def end(self):
         self.close()
         if self.listener is not None:
             self.listener.close()
+            self.listener = None
 
     @property
     def connection(self):
@@ -136,6 +149,27 @@ class LinkEnd:
                 break
         return self.waiting.pop(0) if self.waiting else None
 
+    def answer_and_leave(self, book):
+        """Joins a node that waits, which has taken nothing of ours and has nothing due, answers it, and leaves for
+        good; the events that this leaves."""
+        term = book.term
+        self.open(book.serial)
+        told = ("contact", 0, 0)
+        self.send(frames.message_frame(term, 1, told))
+        asking = self.next_frame()
+        while asking is not None and asking.kind != frames.CONTACT:
+            asking = self.next_frame()
+        wanted = frames.message_frame(term, book.serial + 1, book.contact())
+        if asking != wanted:
+            raise Difference(f"a node that waits says {asking}, awaited {wanted}")
+        answer = ("contact", 0, book.restart)
+        self.send(frames.message_frame(term, 2, answer), Frame(frames.DISCONNECT))
+        if not self.ended():
+            raise Difference("DISCONNECT doesn't end the connection")
+        self.end()
+        return [("take", term, 1, told), ("send", term, wanted.serial, wanted.body),
+                ("take", term, 2, answer)]
+
     def second(self):
         """Whether the node closes a second connection while one stands."""
         with socket.create_connection(self.address, PATIENCE) as other:
@@ -157,3 +191,13 @@ class LinkEnd:
             if not self.read(until - time.monotonic()):
                 return True
         return False
+
+
+@contextlib.contextmanager
+def partner_of(settings):
+    """The partner's end of a link, for as long as a daemon lives."""
+    link = LinkEnd(settings.role, (LINK_HOST, free_port(LINK_HOST, socket.SOCK_STREAM)), Random(1))
+    try:
+        yield link
+    finally:
+        link.end()

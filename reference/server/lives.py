@@ -8,6 +8,7 @@ import time
 from collections import Counter
 
 from . import access, again, answers, journal, matching, messages, rolling, rules
+from .beginning import first_events
 from .book import BookRefusal
 from .life_ports import port_of
 from .limiting import Hearing, Policy, named
@@ -77,15 +78,16 @@ class Life:
     def look_at_opening(self, rows):
         """The volume has the lines that it goes on with, or an opening of the daemon's own reading."""
         lines = [journal.spelled_line_of(row) for row in rows[1:]]
+        opened = self.book if self.daemon.past else matching.opened(self.daemon.settings, lines)
+        self.draws.book = self.book = opened
+        for event in first_events(opened, self.daemon.has_link):
+            line = lines[len(opened.lines)] if len(opened.lines) < len(lines) else None
+            if line is None or line.event != event:
+                self.fault(f"awaited {event}, found {line}")
+            self.look_at_restart(line.reading)
+            opened.append(line)
         if self.daemon.past:
-            opened = self.book
-            if self.daemon.has_link:
-                self.look_at_restart(lines[len(opened.lines)].reading)
-                opened.add(lines[len(opened.lines)].reading, ("restart", opened.restart + 1))
             self.take_unasked(lines[len(opened.lines):])
-        else:
-            opened = matching.opened(self.daemon.settings, lines)
-            self.draws.book = self.book = opened
         if rows != journal.write_open(opened.role, opened.lines).splitlines():
             self.fault("the volume doesn't begin as awaited")
         if not self.daemon.past and not self.daemon.began <= lines[0].reading <= now():
@@ -114,6 +116,17 @@ class Life:
                 self.fault(f"{journal.line_text(line)}: {refusal}")
             self.tally["leases that ended"] += line.event[0] == "expire"
 
+    def be_answered(self, link):
+        """Our end of the link joins a server that waits, answers it and leaves, so that it serves."""
+        events = link.answer_and_leave(self.book)
+        self.ask()
+        lines = self.new_lines()
+        if [line.event for line in lines] != events:
+            self.fault(f"a server is answered by {lines}, awaited {events}")
+        for line in lines:
+            self.book.append(line)
+        self.tally["first volumes that were answered"] += 1
+
     def past_records(self, wanted):
         """The file of records has what it goes on with."""
         if self.records.rows() != wanted:
@@ -132,8 +145,8 @@ class Life:
         self.policy, self.hearing = Policy(self.limits), Hearing(self.limits.client_rate)
         self.ask()
         lines = self.new_lines()
-        if self.daemon.has_link:
-            restart = next((line for line in lines if line.event == ("restart", self.book.restart + 1)), None)
+        for event in first_events(self.book, self.daemon.has_link):
+            restart = next((line for line in lines if line.event == event), None)
             if restart is None:
                 self.fault("a server that begins again says so")
             self.take_unasked(lines[:lines.index(restart)])

@@ -23,8 +23,10 @@ WITHOUT_TRANSIT = 1
 WARNING = ("<4>node: its volumes have no transit: an answer is assumed to reach its client at once. "
            "It can be set only in a new directory.")
 LATE = "sent no answer: its line was on the disk too late"
+# What a volume has before anything happens.
+HEAD = ("open", "pool", "transit")
 # No line of `serve` comes of itself.
-NO_HEARTBEAT = ("heartbeat = 31536000",)
+NO_HEARTBEAT = 31_536_000
 
 
 class Difference(Exception):
@@ -163,9 +165,9 @@ class Node(Program):
         return self.output.read().decode()
 
 
-def serve_settings_text(settings, listen, rows, limits=UNLIMITED):
+def serve_settings_text(settings, listen, rows, limits=UNLIMITED, heartbeat=NO_HEARTBEAT):
     """The settings as `serve` reads them; `rows` are those beside prefixes and of the link."""
-    told = (*NO_HEARTBEAT, *limits.rows(), *rows)
+    told = (f"heartbeat = {heartbeat}", *limits.rows(), *rows)
     return "".join(row + "\n" for row in told) + settings_text(settings, listen)
 
 
@@ -173,25 +175,27 @@ class Daemon(Program):
     """`serve` in a directory of its own: it is alone, or names a partner, which doesn't listen but where `link` is its
     end.
 
-    With the lines of a past it goes on with these. Without a transit it needs some, and is warned at each start; a life
-    of it in which an answer was too late for that is given up.
+    With the lines of a past it goes on with these; where they are a head alone, it begins in their place. Without a
+    transit it needs some, and is warned at each start; a life of it in which an answer was too late for that is given
+    up.
     """
 
     def __init__(self, program, settings, manner, host="127.0.0.1", has_link=False, past=(), limits=UNLIMITED,
-                 records="", link=None):
+                 records="", link=None, heartbeat=NO_HEARTBEAT):
         self.program = program
         self.settings = settings
         self.past = past
         self.is_given_up = False
         self.has_link = has_link
         self.link = link
-        self.listens = "goes on with volume 1" if past else "begins volume 1"
+        self.goes_on = any(line.event[0] not in HEAD for line in past)
+        self.listens = "goes on with volume 1" if self.goes_on else "begins volume 1"
         self.folder = tempfile.TemporaryDirectory()
         self.address = (host, free_port(host))
         other = link.address if link else (host, free_port(host, socket.SOCK_STREAM))
         named = [f'link = "{address_text(*other)}"', 'link_key = "none"'] if has_link else ["alone = true"]
         rows = settings_rows(manner, "silent" if has_link else "no-binding") + named
-        self.text = serve_settings_text(settings, address_text(*self.address), rows, limits)
+        self.text = serve_settings_text(settings, address_text(*self.address), rows, limits, heartbeat)
         (pathlib.Path(self.folder.name) / "settings.toml").write_text(self.text)
         self.number = 0
         self.follow()
@@ -241,9 +245,17 @@ class Daemon(Program):
         self.volume = pathlib.Path(self.folder.name) / f"{self.settings.role}-{self.number:07}.journal"
         self.records = self.volume.with_suffix(".access")
 
+    def control(self, *words):
+        """What the program says that tells or asks the daemon something by its control socket."""
+        return subprocess.run([self.program, *words, "--dir", self.folder.name], capture_output=True, text=True,
+                              check=False)
+
     def told(self, *words):
-        """Tells the daemon something by its control socket."""
-        subprocess.run([self.program, *words, "--dir", self.folder.name], check=True, stdout=subprocess.DEVNULL)
+        """Tells the daemon something that it doesn't refuse; the text of its answer."""
+        said = self.control(*words)
+        if said.returncode != 0:
+            raise Difference(f"{words}: status {said.returncode}, {said.stdout}{said.stderr}")
+        return said.stdout
 
     def stop(self, *words):
         """Stops it; since its start it has warned that it has no transit, or has one."""

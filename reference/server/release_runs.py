@@ -8,13 +8,13 @@ from . import answers
 from .life_draws import drawn_life
 from .life_partner import LATE, LinkedLife
 from .life_ports import behind
+from .linkend import partner_of
 from .lives import Life
 from .limits import Limits
 from .messages import REBIND, RELEASE, RENEW, REQUEST, SOLICIT
 from .program import Daemon, now
 from .serving import plain_settings
 from .stories import Story, StoryDraws
-from .story_runs import partner_of
 
 FLOOR = 600
 ROUNDS = 3

@@ -7,8 +7,10 @@ import random
 from dataclasses import replace
 
 from . import answers, journal, messages
+from .beginning import first_events
 from .book import Book
 from .draws import LARGEST_BY_IPV4, LARGEST_BY_IPV6, Draws
+from .linkend import partner_of
 from .manner import handed_out, settings_rows
 from .manner_draws import drawn_manner
 from .program import LEAST_TRANSIT, Daemon, Difference, Node, now, settings_line
@@ -183,7 +185,8 @@ def drawn_past(source, book, draws):
 
 
 def serve_daemon_once(program, seed, count, tally, settings=None, manner=None, given=()):
-    """One life of the daemon under drawn settings and a drawn manner; some name a partner, which never comes."""
+    """One life of the daemon under drawn settings and a drawn manner; some name a partner, which answers it and leaves,
+    as it has to wait."""
     source = random.Random(seed)
     settings = settings or drawn_daemon_settings(source)
     manner = replace(manner or drawn_manner(source), releases_each=True)
@@ -191,7 +194,13 @@ def serve_daemon_once(program, seed, count, tally, settings=None, manner=None, g
     has_link = source.random() < 0.2
     has_past = settings.role == "A" and not has_link and source.random() < 0.5 and drawn_past(source, book, draws)
     past = book.lines if has_past else []
-    with Daemon(program, settings, manner, host, has_link, past) as daemon:
+    with partner_of(settings) as link, \
+            Daemon(program, settings, manner, host, has_link, past, link=link if has_link else None) as daemon:
+        for event in first_events(book, has_link):
+            book.add(now(), event)
+            for told in link.answer_and_leave(book):
+                book.add(now(), told)
+            tally["first volumes that were answered"] += 1
         Session(daemon, draws, book, tally, manner).run(count, given)
     daemon.count(tally, "lives of the daemon")
 

@@ -1,23 +1,19 @@
 """Lives of a server that tells again, has a partner, and whose clock stepped back: many lines of a unit share a
 reading."""
 
-import contextlib
 import random
-import socket
 from dataclasses import replace
 
 from . import answers
 from .life_draws import WAITS, bounds_of, drawn_ages, drawn_floor, drawn_life, drawn_times, half_of_units
 from .life_partner import LinkedLife
 from .limits import Limits
-from .linkend import LinkEnd
+from .linkend import partner_of
 from .manner_draws import drawn_manner
 from .messages import RENEW
-from .program import Daemon, free_port, now
+from .program import Daemon, now
 from .serving import plain_settings
 from .stories import WAYS, Story, StoryDraws, write_stories
-
-LINK_HOST = "127.0.0.1"
 
 
 def drawn_settings(source):
@@ -38,16 +34,6 @@ def drawn_readings(source, settings, floor, begun):
     if early < 2000 * settings.life:
         ages += [early - source.randrange(*WAITS) for _ in range(source.choice((0, 3, 10)))]
     return sorted(begun - age for age in ages)
-
-
-@contextlib.contextmanager
-def partner_of(settings):
-    """The partner's end of a link, for as long as a daemon lives."""
-    link = LinkEnd(settings.role, (LINK_HOST, free_port(LINK_HOST, socket.SOCK_STREAM)), random.Random(1))
-    try:
-        yield link
-    finally:
-        link.end()
 
 
 def serve_stories_once(program, seed, count, tally):
