@@ -45,6 +45,20 @@ def free_port(kind):
         return probe.getsockname()[1]
 
 
+def is_waiting(text):
+    """Whether a server waits for its partner's answer, by its last volume as it is written."""
+    number, waits = "0", False
+    for row in text.splitlines():
+        match row.split()[2:]:
+            case ["base", _, _, number, waiting, _]:
+                waits = waiting == "1"
+            case ["restart", number]:
+                waits = True
+            case ["take", _, _, "contact", _, answer] if answer == number:
+                waits = False
+    return waits
+
+
 def short_disk(octets):
     """What lets a program write so many octets to a file and then fails its writes, as a full disk does."""
     # A write past the limit fails then and sends no signal, as the signal is ignored here.
@@ -88,6 +102,10 @@ class Daemon:
     def last_volume(self):
         """The file of the last volume, None before there is one."""
         return max(self.folder.glob(f"{self.side}-*.journal"), default=None)
+
+    def is_waiting(self):
+        """Whether it serves nobody until its partner has answered, as once it has begun again; a first volume may too."""
+        return is_waiting(self.last_volume().read_text(errors="replace"))
 
     def start(self, room=None):
         """Starts it; with `room` its disk is full once its last volume has grown by so many octets."""

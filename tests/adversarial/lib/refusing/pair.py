@@ -9,7 +9,7 @@ from server.values import prefix_text
 
 from .judging import fit, judged
 from .lone import ended
-from .servers import Server, Talker
+from .servers import TRIES, Server, Talker
 
 # How long the two may take to be together, or to tell, in seconds: a primary whose call came to none calls again two seconds later.
 TOGETHER = 15
@@ -50,8 +50,11 @@ class Pair:
             talker.end()
 
     def start(self, servers, environment=None):
+        """Starts both, and waits until each is answered, so that no client asks in vain; where one is down nobody waits."""
         for side in "BA":
             servers[side].start(environment if side == self.watched else None)
+        both = servers.values()
+        waits(TOGETHER, lambda: not all(each.is_up() for each in both) or not any(each.is_waiting() for each in both))
 
     @staticmethod
     def has_taken(server, prefix):
@@ -83,12 +86,13 @@ class Pair:
             talker.answer(one, RENEW, first, given)
 
     def served(self, servers, server, talker, client):
-        """A lease, once the two have shared their units: clients ask again until then. Where one is down nobody waits for that."""
+        """A lease, once the two have shared their units: clients ask again until then. Where one is down nobody waits for
+        that, and a client asks once: the other serves nobody where it was never answered."""
         found = []
 
         def asks():
             are_up = all(each.is_up() for each in servers.values())
-            found.append(talker.lease(server, client))
+            found.append(talker.lease(server, client, TRIES if are_up else 1))
             return found[-1] is not None or not are_up
 
         waits(TOGETHER, asks)

@@ -8,6 +8,7 @@ import subprocess
 import time
 
 from crashing.clients import Answer, Client, GivenBack, message_of, relayed
+from crashing.daemons import is_waiting
 from server.messages import (
     ADVERTISE, IA_PD, IA_PREFIX, REBIND, RELAY_MESSAGE, RELEASE, REPLY, REQUEST, SOLICIT, STATUS_CODE, options,
 )
@@ -110,6 +111,11 @@ class Server:
 
     def last_volume(self):
         return max(self.volumes(), default=None)
+
+    def is_waiting(self):
+        """Whether it serves nobody until its partner has answered, as once it has begun again; a first volume may too."""
+        volume = self.last_volume()
+        return volume is not None and is_waiting(volume.read_text(errors="replace"))
 
     def told(self, *words):
         """Tells it something: the status, and what it said."""
@@ -229,9 +235,9 @@ class Talker:
             self.releases.append((server.side, GivenBack(client.key(), prefix, sent)))
         return number, (inner[0], found)
 
-    def lease(self, server, client):
+    def lease(self, server, client, tries=TRIES):
         """A client solicits and requests: the prefix, or None where it gets none."""
-        offer = self.answer(server, SOLICIT, client)
+        offer = self.answer(server, SOLICIT, client, tries=tries)
         if offer is None or offer[0] != ADVERTISE or offer[1] is None:
             return None
         got = self.answer(server, REQUEST, client, offer[1])
