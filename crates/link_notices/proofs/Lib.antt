@@ -8,5 +8,6 @@ pub mod WordTests
 pub mod WordLaws
 pub mod NoticeLaws
 pub mod TextLaws
+pub mod TextLengths
 pub mod Joining
 pub mod PoolLaws

@@ -1,10 +1,13 @@
--- What holds of all streams of frames and notices, and of the chunks in which they come.
+-- What holds of all streams of frames and notices, of the chunks in which they come, and of the texts of notices.
 use Rattle.std.specs.Prelude.{◌≡◌, ℕ, List, [], ◌∷◌, ◌++◌}
 use Rattle.std.specs.List.{flat_map, AllByRecursion}
 use Rattle.link_notices.specs.declared.stream_part.StreamPart.{StreamPart}
 use Rattle.link_notices.specs.declared.stream_part.StreamPart.TheVariants.{Frames, Notice}
 use Rattle.link_notices.specs.Parting.{Place, start, parted, tokens_of}
 use Rattle.link_notices.specs.Items.{Item, IsItem, stream_of, sent_tokens, frame_octets, contents_in, notices_in}
+use Rattle.link_notices.specs.Items.{IsNoticeText}
+use Rattle.link_notices.specs.Spelling.{notice_text, IsNotice}
+use Rattle.link_notices.specs.declared.notice.Notice.{Notice as NoticeValue}
 
 -- ---- chunks
 
@@ -59,3 +62,9 @@ pub record IsGivenBack (items : List Item) (feds : List Fed) (after : Place) : T
 abbrev pub CutIsGiven : Type 0
 CutIsGiven = (items : List Item) (feds : List Fed) (after : Place) → AllByRecursion IsItem items
     → chunks_of feds ≡ stream_of items → Feeds start feds after → IsGivenBack items feds after
+
+-- ---- texts
+
+-- each notice has a text that may go over a link
+abbrev pub TextsFit : Type 0
+TextsFit = (n : NoticeValue) → IsNotice n → IsNoticeText (notice_text n)

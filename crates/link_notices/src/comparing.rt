@@ -1,19 +1,25 @@
 //! In what the settings of two partners differ.
 
-ghost use Rattle.std.specs.Prelude.{◌≡◌, ◌↔◌, ◌++◌, IsTrue, IfOk, OnOk};
-ghost use Rattle.link_notices.specs.Comparing.{is_same_pool, begin_alike, told, differences, KeepsApart};
+ghost use Rattle.std.specs.Prelude.{◌≡◌, ◌↔◌, ◌++◌, IsTrue, IfOk, OnOk, Some};
+ghost use Rattle.link_notices.specs.Comparing.{is_same_pool, begin_alike, has_pool, are_among, pool_difference, told};
+ghost use Rattle.link_notices.specs.Comparing.{differences, KeepsApart, difference_name, difference_values};
+ghost use Rattle.link_notices.specs.Comparing.{difference_text};
 
 use crate::notice::{PairSettings, UnitPool};
 use lead_time::{Skew, Transit};
 use std::alloc::{AllocError, Global};
+use std::fmt;
+use std::fmt::Write;
 
 /// A setting in which this server and its partner differ.
 #[derive(Clone, Copy, Debug, PartialEq, Eq)]
 pub enum SettingsDifference {
     /// The maximum client lead times, in seconds.
     Mclt { own: u32, other: u32 },
-    /// The pools: neither list begins with the other.
+    /// The pools: neither list begins with the other, nor is it an order of the other's pools.
     Pools,
+    /// The order of the pools: both lists have the same ones, and neither begins with the other.
+    PoolOrder,
     /// How far clocks may be off.
     Skew { own: Skew, other: Skew },
     /// How long answers may be under way.
@@ -29,11 +35,60 @@ impl SettingsDifference {
         ensures { IsTrue result ↔ KeepsApart self.now }
     {
         match self {
-            SettingsDifference::Mclt { .. } | SettingsDifference::Pools => true,
+            SettingsDifference::Mclt { .. }
+            | SettingsDifference::Pools
+            | SettingsDifference::PoolOrder => true,
             SettingsDifference::Skew { .. }
             | SettingsDifference::Transit { .. }
             | SettingsDifference::Life { .. } => false,
         }
+    }
+
+    /// The name of the setting, as a list of differing settings says it.
+    pub fn name(&self) -> &'static str
+        ensures { result.now ≡ difference_name self.now }
+    {
+        match self {
+            SettingsDifference::Mclt { .. } => "mclt",
+            SettingsDifference::Pools => "pools",
+            SettingsDifference::PoolOrder => "pool_order",
+            SettingsDifference::Skew { .. } => "skew_ms",
+            SettingsDifference::Transit { .. } => "transit_ms",
+            SettingsDifference::Life { .. } => "life",
+        }
+    }
+
+    /// The values of the setting here and there, in its own unit: `None` of pools.
+    fn values(&self) -> Option<(u64, u64)>
+        ensures { result ≡ difference_values self.now }
+    {
+        match *self {
+            SettingsDifference::Mclt { own, other } | SettingsDifference::Life { own, other } => {
+                Some((u64::from(own), u64::from(other)))
+            }
+            SettingsDifference::Pools | SettingsDifference::PoolOrder => None,
+            SettingsDifference::Skew { own, other } => Some((
+                own.milliseconds(),
+                other.milliseconds(),
+            )),
+            SettingsDifference::Transit { own, other } => Some((
+                own.milliseconds(),
+                other.milliseconds(),
+            )),
+        }
+    }
+}
+
+impl fmt::Display for SettingsDifference {
+    ghost output = { λ d. Some (difference_text d) };
+
+    /// The name of the setting, and its values: `mclt: 3600 here, 7200 there`. Of pools the name alone.
+    fn fmt<W: Write>(&self, f: &mut fmt::Formatter<W>) -> fmt::Result {
+        f.write_str(self.name())?;
+        if let Some((own, other)) = self.values() {
+            write!(f, ": {own} here, {other} there")?;
+        }
+        Ok(())
     }
 }
 
@@ -55,6 +110,31 @@ pub fn begin_alike(own: &[UnitPool], other: &[UnitPool]) -> bool
             [] => true,
         },
         [] => true,
+    }
+}
+
+/// Returns whether a list has the pool.
+fn has_pool(pools: &[UnitPool], pool: &UnitPool) -> bool
+    ensures { result ≡ has_pool pools.now pool.now }
+{
+    pools.iter().any(|next| is_same(pool, next))
+}
+
+/// Returns whether a list has each of some pools.
+fn are_among(some: &[UnitPool], pools: &[UnitPool]) -> bool
+    ensures { result ≡ are_among some.now pools.now }
+{
+    some.iter().all(|pool| has_pool(pools, pool))
+}
+
+/// How two lists of pools differ of which neither begins with the other.
+fn pool_difference(own: &[UnitPool], other: &[UnitPool]) -> SettingsDifference
+    ensures { result ≡ pool_difference own.now other.now }
+{
+    if own.len() == other.len() && are_among(own, other) && are_among(other, own) {
+        SettingsDifference::PoolOrder
+    } else {
+        SettingsDifference::Pools
     }
 }
 
@@ -88,7 +168,8 @@ pub fn differences(
     };
     tell(&mut found, own.mclt == other.mclt, mclt)?;
     let alike = begin_alike(own.pools.as_slice(), other.pools.as_slice());
-    tell(&mut found, alike, SettingsDifference::Pools)?;
+    let pools = pool_difference(own.pools.as_slice(), other.pools.as_slice());
+    tell(&mut found, alike, pools)?;
     let skew = SettingsDifference::Skew {
         own: own.skew,
         other: other.skew,

@@ -1,17 +1,18 @@
 //! Texts of notices, written; and their octets on a link.
 
-ghost use Rattle.std.specs.Prelude.{◌≡◌, ◌<◌, ◌↔◌, ◌⊎◌, ◌++◌, length, OnOk, IsErrOf, IfErr};
+ghost use Rattle.std.specs.Prelude.{◌≡◌, ◌<◌, ◌≤◌, ◌↔◌, ◌⊎◌, ◌++◌, length, OnOk, IfOk, IsErrOf, IfErr};
 ghost use Rattle.std.specs.List.{flat_map};
 ghost use Rattle.link_notices.specs.Items.{notice_octets};
 ghost use Rattle.link_notices.specs.Words.{AddsWords};
 ghost use Rattle.link_notices.specs.Spelling.{pool_words, settings_words, notice_name, notice_values, notice_text};
+ghost use Rattle.link_notices.specs.Spelling.{IsNotice};
 ghost use Rattle.link_notices.specs.declared.error.NoticeError.TheVariants.{Length, Memory};
 
 use crate::error::NoticeError;
 use crate::notice::{Notice, PairSettings, UnitPool};
 use crate::stage::{MOST_OCTETS, NOTICE};
 use crate::words::{add_number, add_prefix, add_word};
-use std::alloc::AllocError;
+use std::alloc::{AllocError, Global};
 
 fn add_pool(out: &mut Vec<u8>, pool: &UnitPool) -> Result<(), AllocError>
     ensures { OnOk result (AddsWords (pool_words pool.now) out.old.items out.new.items) }
@@ -100,4 +101,21 @@ pub fn push_notice(out: &mut Vec<u8>, text: &[u8]) -> Result<(), NoticeError>
     out.extend_from_slice(&[NOTICE, (octets / 256) as u8, (octets % 256) as u8])?;
     out.extend_from_slice(text)?;
     Ok(())
+}
+
+/// What goes over a link of a notice. `Length` where its text has more than 4,096 octets: it has fewer where the notice
+/// is one that is read ([`crate::read_notice`]), and so has each that asks for a clock or answers.
+#[tactic(auto, using(crate::proofs::TextLengths::never_long))]
+pub fn encode_notice(alloc: Global, notice: &Notice) -> Result<Vec<u8>, NoticeError>
+    ensures written { IfOk result (λ octets. octets.items ≡ notice_octets (notice_text notice.now)) }
+    ensures fits { IfOk result (λ octets. length (notice_text notice.now) ≤ 4096) }
+    ensures length { IsErrOf result NoticeError.Length → 4096 < length (notice_text notice.now) }
+    ensures sent { IsNotice notice.now → IsErrOf result NoticeError.Length → ⊥ }
+    ensures faults { IfErr result (λ e. (e ≡ Length) ⊎ (e ≡ Memory)) }
+{
+    let mut text = Vec::new(alloc);
+    push_notice_text(&mut text, notice)?;
+    let mut octets = Vec::new(alloc);
+    push_notice(&mut octets, text.as_slice())?;
+    Ok(octets)
 }

@@ -1,0 +1,4 @@
+pub mod Beginnings
+pub mod SaidItems
+pub mod Whole
+pub mod SoFar
