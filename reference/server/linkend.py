@@ -36,7 +36,10 @@ def listener_at(address):
 
 
 class LinkEnd:
-    """The partner of a node of the role: it waits for the primary, and connects to the secondary."""
+    """The partner of a node of the role: it waits for the primary, and connects to the secondary. It has no key, and
+    speaks no notices."""
+
+    key = None
 
     def __init__(self, role, address, random):
         self.role = role
@@ -83,13 +86,23 @@ class LinkEnd:
                 time.sleep(0.02)
         raise Difference("the secondary doesn't listen")
 
-    def open(self, last, role=None):
-        """Begins a connection, telling the node our role and the last serial that we took; whether it is joined."""
+    def meet(self):
+        """A connection over which frames may go; whether there is one."""
         self.close()
         self.socket = self.joined()
         self.socket.setsockopt(socket.IPPROTO_TCP, socket.TCP_NODELAY, 1)
         self.feed = frames.Feed()
         self.waiting = []
+        return True
+
+    def vouch(self, daemon):
+        """Says our clock to a daemon that asks before it begins: without a key none does."""
+
+    def open(self, last, role=None):
+        """Begins a connection, telling the node our role and the last serial that we took; whether it is joined."""
+        if not self.meet():
+            self.close()
+            return False
         mine = ROLE_CODES[role or OTHER[self.role]]
         if self.role == "B":
             self.write(frames.encode(Frame(frames.CONNECT, 0, 0, (mine, last))))

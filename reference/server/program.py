@@ -193,7 +193,9 @@ class Daemon(Program):
         self.folder = tempfile.TemporaryDirectory()
         self.address = (host, free_port(host))
         other = link.address if link else (host, free_port(host, socket.SOCK_STREAM))
-        named = [f'link = "{address_text(*other)}"', 'link_key = "none"'] if has_link else ["alone = true"]
+        named = ["alone = true"]
+        if has_link:
+            named = [f'link = "{address_text(*other)}"', f'link_key = "{self.key_name()}"']
         rows = settings_rows(manner, "silent" if has_link else "no-binding") + named
         self.text = serve_settings_text(settings, address_text(*self.address), rows, limits, heartbeat)
         (pathlib.Path(self.folder.name) / "settings.toml").write_text(self.text)
@@ -207,12 +209,28 @@ class Daemon(Program):
         self.words = [program, "serve", "--dir", self.folder.name]
         super().__init__(self.words, settings, host)
 
+    def key_name(self):
+        """How the settings name the link's key, which is written beside them where there is one."""
+        if self.link is None or self.link.key is None:
+            return "none"
+        path = pathlib.Path(self.folder.name) / "link.key"
+        path.touch(0o600)
+        path.write_text(self.link.key.hex() + "\n")
+        return path.name
+
+    def __enter__(self):
+        if self.link is not None:
+            self.link.vouch(self)
+        return super().__enter__()
+
     def begin_again(self):
         """Stops it with its volume open, and starts it once more."""
         self.stop()
         self.leave()
         self.errors = tempfile.NamedTemporaryFile()
         self.process = subprocess.Popen(self.words, stdin=subprocess.DEVNULL, stdout=self.output, stderr=self.errors)
+        if self.link is not None:
+            self.link.vouch(self)
         self.wait_for(f"goes on with volume {self.number}")
 
     def __exit__(self, kind, fault, trace):

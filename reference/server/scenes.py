@@ -249,11 +249,21 @@ def settings_of(role):
     return replace(plain_settings(), role=role)
 
 
+class Beside(str):
+    """A program, with what makes its partner's end of the link from its settings."""
+
+    def __new__(cls, program, partner):
+        found = super().__new__(cls, program)
+        found.partner = partner
+        return found
+
+
 @contextlib.contextmanager
 def scene_of(program, settings, book=None, heartbeat=NO_HEARTBEAT):
     """A daemon with a partner, which goes on with a book where there is one."""
     past = list(book.lines) if book else []
-    with partner_of(settings) as link, \
+    partner = program.partner if isinstance(program, Beside) else partner_of
+    with partner(settings) as link, \
             Daemon(program, settings, answers.PLAIN, has_link=True, past=past, link=link,
                    heartbeat=heartbeat) as daemon:
         yield Scene(daemon, link)

@@ -33,6 +33,8 @@ unit = 56
 """
 # What a server says once it has started.
 STARTED = re.compile("node: (goes on with|begins) volume")
+# What it says before that where it has a partner and a key.
+ASKS = "node: asks its partner's clock before it begins"
 # The status of a server whose disk failed, and that of one which doesn't start.
 DISK_FAILED, NOT_STARTED = 3, 1
 # How long a server may take to stop, and both to serve once they have begun again, in seconds: the primary calls every ten.
@@ -98,6 +100,10 @@ class Daemon:
 
     def has_started(self):
         return STARTED.search(self.said()) is not None
+
+    def is_heard(self):
+        """Whether it has started, or asks its partner's clock before that."""
+        return self.has_started() or ASKS in self.said()
 
     def last_volume(self):
         """The file of the last volume, None before there is one."""

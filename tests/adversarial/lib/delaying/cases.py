@@ -35,12 +35,13 @@ def slow_disk(trial):
 def clock_steps(trial):
     """How late an answer is says the steady clock, whatever the other does within the skew."""
     with SlowServer(trial, "clock-steps", 2000) as server:
-        server.delays.shift(SKEW)
+        server.delays.shift(SKEW / 2)
         if not server.start():
             yield f"doesn't start: {server.said()!r}"
             return
-        yield from server.wrong_answer(1600, False, step=-2 * SKEW)
-        yield from server.wrong_answer(500, True, step=2 * SKEW)
+        # (a step of more than the skew would end its service: by the other clock neither would be as wanted)
+        yield from server.wrong_answer(1300, False, step=-SKEW)
+        yield from server.wrong_answer(700, True, step=SKEW)
 
 
 def no_transit(trial):
@@ -98,6 +99,8 @@ def new_directory(trial):
 def restart_reading(trial):
     """A restart is read behind the last file: what was read before may be from before the partner's last message."""
     with SlowServer(trial, "restart-reading", 2000, partner=True) as server:
+        # (without a key it doesn't ask its partner's clock before it begins)
+        server.put("link_key", '"none"')
         # a closed volume, and an open one with a line behind its head
         for words in (["--close"], []):
             if not server.start() or not server.stop(*words):

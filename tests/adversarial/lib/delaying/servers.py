@@ -85,6 +85,11 @@ class SlowServer(Server):
         path = self.folder / "settings.toml"
         path.write_text(re.sub(rf"^{key} = .*\n", "", path.read_text(), flags=re.MULTILINE))
 
+    def put(self, key, value):
+        """Its settings have another value."""
+        path = self.folder / "settings.toml"
+        path.write_text(re.sub(rf"^{key} = .*$", f"{key} = {value}", path.read_text(), flags=re.MULTILINE))
+
     def late(self):
         """How many answers were too late to be sent, by what it tells."""
         return (self.status() or {}).get("late", 0)

@@ -1,8 +1,7 @@
-/* A library that is preloaded into a server: it shifts the clock of the time, steps it in the midst of a sync, and lets
- * syncs and reads of journals take as long as a file says. DELAYS names that file, which the trial changes meanwhile:
+/* A library that is preloaded into a server: it shifts the clock of the time and the steady one, steps the former in the
+ * midst of a sync, and lets syncs and reads of journals take as long as a file says. DELAYS names that file, which the trial changes meanwhile:
  * see shim.py for its words. */
 #define _GNU_SOURCE
-#include <dlfcn.h>
 #include <fcntl.h>
 #include <stdatomic.h>
 #include <stdint.h>
@@ -15,14 +14,10 @@
 #include <unistd.h>
 
 /* times are nanoseconds; `READ_ENDED` and `WRITTEN` are told by this library, by the clock that it shows */
-enum { SHIFT, SYNC, STEP, READ, SLOW_READS, READ_ENDED, WRITTEN, WORDS = 8 };
+enum { SHIFT, SYNC, STEP, READ, SLOW_READS, READ_ENDED, WRITTEN, STEADY, WORDS };
 enum { SECOND = 1000000000 };
 static _Atomic int64_t none[WORDS];
 static _Atomic int64_t *words = none;
-
-#define REAL(result, name, parameters) \
-    static result (*real) parameters; \
-    if (!real) real = (result (*) parameters)dlsym(RTLD_NEXT, #name)
 
 __attribute__((constructor)) static void begin(void) {
     const char *path = getenv("DELAYS");
@@ -35,10 +30,10 @@ __attribute__((constructor)) static void begin(void) {
 }
 
 int clock_gettime(clockid_t clock, struct timespec *out) {
-    REAL(int, clock_gettime, (clockid_t, struct timespec *));
-    int done = real(clock, out);
-    if (done || clock != CLOCK_REALTIME) return done;
-    int64_t reading = out->tv_sec * INT64_C(1000000000) + out->tv_nsec + words[SHIFT];
+    int done = (int)syscall(SYS_clock_gettime, clock, out);
+    if (done || (clock != CLOCK_REALTIME && clock != CLOCK_MONOTONIC)) return done;
+    int64_t shift = words[clock == CLOCK_REALTIME ? SHIFT : STEADY];
+    int64_t reading = out->tv_sec * INT64_C(1000000000) + out->tv_nsec + shift;
     out->tv_sec = reading / SECOND;
     out->tv_nsec = reading % SECOND;
     return done;
@@ -73,15 +68,13 @@ static void before_sync(int file) {
 }
 
 int fsync(int file) {
-    REAL(int, fsync, (int));
     before_sync(file);
-    return real(file);
+    return (int)syscall(SYS_fsync, file);
 }
 
 int fdatasync(int file) {
-    REAL(int, fdatasync, (int));
     before_sync(file);
-    return real(file);
+    return (int)syscall(SYS_fdatasync, file);
 }
 
 static int before_read(int file) {
@@ -99,25 +92,21 @@ static ssize_t behind_read(int is_read, ssize_t count) {
 }
 
 ssize_t read(int file, void *buffer, size_t size) {
-    REAL(ssize_t, read, (int, void *, size_t));
     int is_read = before_read(file);
-    return behind_read(is_read, real(file, buffer, size));
+    return behind_read(is_read, syscall(SYS_read, file, buffer, size));
 }
 
 ssize_t pread(int file, void *buffer, size_t size, off_t place) {
-    REAL(ssize_t, pread, (int, void *, size_t, off_t));
     int is_read = before_read(file);
-    return behind_read(is_read, real(file, buffer, size, place));
+    return behind_read(is_read, syscall(SYS_pread64, file, buffer, size, place));
 }
 
 ssize_t pread64(int file, void *buffer, size_t size, off_t place) {
-    REAL(ssize_t, pread64, (int, void *, size_t, off_t));
     int is_read = before_read(file);
-    return behind_read(is_read, real(file, buffer, size, place));
+    return behind_read(is_read, syscall(SYS_pread64, file, buffer, size, place));
 }
 
 ssize_t write(int file, const void *octets, size_t size) {
-    REAL(ssize_t, write, (int, const void *, size_t));
     if (words != none && !words[WRITTEN] && is_journal(file)) words[WRITTEN] = reading();
-    return real(file, octets, size);
+    return syscall(SYS_write, file, octets, size);
 }

@@ -8,8 +8,9 @@ import subprocess
 SOURCE = pathlib.Path(__file__).with_name("shim.c")
 # The words of the file, 64 bits each: by how much the clock is shifted, how long each sync of a journal takes, by how
 # much the clock steps in the midst of the next one, how long a read of a journal takes, and how many reads from now on.
-# Then what the library tells: when the last read before the first write to a journal ended, and when that began.
-SHIFT, SYNC, STEP, READ, SLOW_READS, READ_ENDED, WRITTEN = range(7)
+# Then what the library tells: when the last read before the first write to a journal ended, and when that began. The
+# last word is by how much the steady clock is shifted.
+SHIFT, SYNC, STEP, READ, SLOW_READS, READ_ENDED, WRITTEN, STEADY = range(8)
 OCTETS = 64
 # Nanoseconds in a millisecond.
 MILLISECOND = 1_000_000
@@ -20,7 +21,7 @@ class Shim:
 
     def __init__(self, folder):
         self.library = folder / "delay.so"
-        words = ["cc", "-O1", "-Wall", "-shared", "-fPIC", "-o", self.library, SOURCE, "-ldl"]
+        words = ["cc", "-O1", "-Wall", "-shared", "-fPIC", "-o", self.library, SOURCE]
         subprocess.run(words, check=True)
 
     def delays(self, path):
@@ -40,6 +41,10 @@ class Delays:
     def shift(self, milliseconds):
         """The clock shows so much more than the system's from now on."""
         self.words[SHIFT] = round(milliseconds * MILLISECOND)
+
+    def shift_steady(self, milliseconds):
+        """The steady clock shows so much more than the system's from now on: less, once a machine was suspended."""
+        self.words[STEADY] = round(milliseconds * MILLISECOND)
 
     def slow_syncs(self, sync, step=0):
         """Each sync of a journal takes so long, and in the midst of the first one the clock steps."""

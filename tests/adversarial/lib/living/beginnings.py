@@ -13,7 +13,7 @@ HAS_LEASES = ("this directory has leases and waits for its partner's answer: giv
 def first_starts(play):
     """Two new servers: the first that comes serves nobody, and both serve once both are there."""
     one, other = play.one, play.other
-    play.start(one)
+    play.begins(one)
     play.says(one, WAITS, "a first server")
     play.silent(one, [], "a first server", 4)
     events = one.events()
@@ -56,7 +56,7 @@ def lone_empty(play):
     """A directory that was begun for a pair and never answered, also once it was closed."""
     one = play.one
     for words in ([], ["--close"]):
-        play.start(one)
+        play.begins(one)
         time.sleep(1)
         play.stop(one, *words)
         refused_alone(play, NEVER_ANSWERED, f"never answered, behind {' '.join(['stop', *words])}")
@@ -74,7 +74,7 @@ def lone_leases(play):
     play.stop(one)
     play.stop(other)
     for words in ([], ["--close"]):
-        play.start(one)
+        play.begins(one)
         time.sleep(1)
         play.stop(one, *words)
         refused_alone(play, HAS_LEASES, f"has leases, behind {' '.join(['stop', *words])}")

@@ -88,7 +88,8 @@ class Customers:
                         self.send(server, kind, client, prefix)
                 again = moment + AGAIN
             answer = self.heard(min(again, until) - time.monotonic())
-            if answer and answer[0] in questions:
+            # (an offer that was asked for twice may come while its client requests)
+            if answer and answer[0] in questions and (answer[1] == ADVERTISE) == (questions[answer[0]][0] == SOLICIT):
                 found[answer[0]] = answer[1:]
         return found
 

@@ -12,6 +12,7 @@ from .servers import OTHER, Server
 
 # Why a server serves nobody, as its status has it.
 WAITS, OLDER = "waits for its partner's answer", "journal older than what its partner took"
+ASKS = "asks its partner's clock"
 HOLDS_OFF = re.compile(r"goes on after its restart in (\d+) s\Z")
 # What is said of a journal that is too old, in a status and on standard error.
 JOURNAL = re.compile(r"older than what its partner took \(it took message (\d+), this journal sent (\d+)\)\Z")
@@ -19,6 +20,7 @@ SAID = ("<3>node: serves nobody: its journal lacks messages that its partner too
         "another's. Don't begin it again: see \"A lost disk\"\n")
 METRIC = 'fengtuyas_journal{fengtuyas_journal="older"} 1'
 DOWN = "the partner is stopped"
+RIGHT = ("clock-accepted", "the clock is right")
 # How long a pair may take to join and to share its units, and a server to see what its partner tells it, in seconds.
 TOGETHER = 20
 OPENING = ("open ", "pool ", "transit ")
@@ -78,6 +80,14 @@ class Play:
         server.start()
         if not server.is_up():
             raise Broken(f"{server.side} doesn't start, status {server.process.returncode}: {server.said()[-300:]!r}")
+
+    def begins(self, server):
+        """Starts a server whose partner is away: where it asks the partner's clock first, a person says that its own is
+        right."""
+        self.start(server)
+        if server.serving() == ASKS:
+            server.told(*RIGHT)
+            self.until(f"{server.side} begins, as it was told", server.has_begun)
 
     def stop(self, server, *words):
         """Stops a server, which has to stop: what was said."""

@@ -33,6 +33,8 @@ LONG = {"skew": 500, "mclt": 600, "life": 1200, "transit": 10_000, "pool": "2001
 SHORT = {"skew": 100, "mclt": 2, "life": 4, "transit": 2_000, "pool": "2001:db8::/61", "unit": 64}
 # What a server says once it knows its volume; the status of one that isn't started, and of a command that is refused.
 STARTED = re.compile("node: (goes on with|begins) volume")
+# What it says before that, where it has a partner and a key.
+ASKS = "node: asks its partner's clock before it begins"
 NOT_STARTED, REFUSED = 1, 1
 # How long a server may take to start, to stop, or to be told, in seconds.
 PATIENCE = 20
@@ -67,15 +69,19 @@ class Server:
     # Its process
 
     def start(self):
-        """Starts it, and waits until it knows its volume or has ended."""
+        """Starts it, and waits until it knows its volume, asks its partner's clock before that, or has ended."""
         self.starts += 1
         with open(self.notes(), "wb") as notes:
             words = [self.node, "serve", "--dir", self.folder]
             how = {"stdin": subprocess.DEVNULL, "stdout": subprocess.DEVNULL, "stderr": notes}
             self.process = subprocess.Popen(words, **how)
         self.begun = until = time.monotonic()
-        while self.is_up() and not STARTED.search(self.said()) and time.monotonic() < until + PATIENCE:
+        while self.is_up() and not (self.has_begun() or ASKS in self.said()) and time.monotonic() < until + PATIENCE:
             time.sleep(0.05)
+
+    def has_begun(self):
+        """Whether it has said with which volume it goes on, since its start."""
+        return STARTED.search(self.said()) is not None
 
     def is_up(self):
         return self.process is not None and self.process.poll() is None

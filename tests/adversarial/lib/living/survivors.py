@@ -46,12 +46,12 @@ def alone(play):
     time.sleep(3)
     play.see(len(one.events()) == count, f"{one.side} writes {one.events()[count:][:3]} while its partner is down")
     one.kill()
-    play.start(one)
+    play.begins(one)
     play.holds_off("a survivor that was killed", mine)
     status, said = one.told("partner-down", DOWN)
     play.see(status == 1 and "refused" in said, f"partner-down in the hold-off: status {status}, {said!r}")
     play.stop(one)
-    play.start(one)
+    play.begins(one)
     play.holds_off("a survivor that was stopped in its hold-off", mine)
     while one.age() < HOLD_OFF - 4:
         time.sleep(2)
@@ -73,7 +73,7 @@ def met(play):
     mine, theirs = survived(play)
     before = restarts(one)
     play.stop(one)
-    play.start(one)
+    play.begins(one)
     play.holds_off("a survivor that is restarted", mine)
     play.start(play.other)
     play.until(f"{one.side} serves once its partner is back", lambda: play.customers.answered(one, mine[:1], 0) > 0)
@@ -103,7 +103,7 @@ def told_normal(play):
     one, other = play.one, play.other
     mine, theirs = survived(play)
     one.kill()
-    play.start(one)
+    play.begins(one)
     play.holds_off("a survivor that is told", mine)
     status, said = one.told("partner-normal")
     play.see(status == 0, f"partner-normal in the hold-off: status {status}, {said!r}")
@@ -136,7 +136,7 @@ def close_down(play):
     if not refuses_to_close(play, mine, "partner down"):
         return
     play.stop(one)
-    play.start(one)
+    play.begins(one)
     play.holds_off("a survivor that wasn't closed", mine)
     if refuses_to_close(play, [], "in the hold-off"):
         play.holds_off("stop --close was refused", mine)
@@ -159,7 +159,7 @@ def close_marked(play):
     if not refuses_to_close(play, [], "a unit is marked", CLOSED):
         return
     play.stop(one)
-    play.start(one)
+    play.begins(one)
     play.holds_off("a server with a marked unit", [])
     no_restart(play, before, "a server with a marked unit")
     play.start(other)
@@ -176,14 +176,14 @@ def close_calm(play):
         if not is_other_up:
             play.stop(other)
             play.stop(one)
-            play.start(one)
+            play.begins(one)
             play.silent(one, mine, "a server that waits")
         play.stop(one, "--close")
         play.see(one.volumes()[-1].read_text().splitlines()[-1].startswith("end "), f"{one.side}'s volume has no end")
         play.start(one)
-        play.see(len(one.volumes()) == number, f"{one.side} has {len(one.volumes())} volumes, wants {number}")
         if not is_other_up:
             play.start(other)
+        play.until(f"{one.side} has {number} volumes", lambda wanted=number: len(one.volumes()) == wanted)
         both_serve(play, mine, theirs, f"behind the close of volume {number - 1}")
 
 

@@ -8,7 +8,7 @@ import subprocess
 import time
 
 from crashing.clients import Answer, Client, GivenBack, message_of, relayed
-from crashing.daemons import is_waiting
+from crashing.daemons import ASKS, is_waiting
 from server.messages import (
     ADVERTISE, IA_PD, IA_PREFIX, REBIND, RELAY_MESSAGE, RELEASE, REPLY, REQUEST, SOLICIT, STATUS_CODE, options,
 )
@@ -37,7 +37,7 @@ prefix = "2001:db8::/61"
 unit = 64
 """
 LINK = 'link = "[{host}]:{port}"\nlink_key = "link.key"'
-STARTED = re.compile("node: (goes on with|begins) volume")
+STARTED = re.compile(f"node: (goes on with|begins) volume|{ASKS}")
 # The last line of a server that ends by itself: it says why.
 REASON = re.compile(r"<3>node: \S.*\n\Z")
 # What the program says where it has no memory before it serves.
@@ -73,7 +73,7 @@ class Server:
 
     def __init__(self, node, folder, side, port, link=None, transit=3000):
         self.node, self.side, self.port, self.folder = node, side, port, folder / side
-        self.process, self.starts = None, 0
+        self.process, self.starts, self.is_alone = None, 0, link is None
         role, self.duid = ROLES[side]
         self.folder.mkdir(parents=True, exist_ok=True)
         way = "alone = true" if link is None else LINK.format(host=HOST, port=link)
@@ -113,9 +113,10 @@ class Server:
         return max(self.volumes(), default=None)
 
     def is_waiting(self):
-        """Whether it serves nobody until its partner has answered, as once it has begun again; a first volume may too."""
+        """Whether it serves nobody until its partner has answered, as once it has begun again; a first volume may too.
+        Before there is one it may ask its partner's clock."""
         volume = self.last_volume()
-        return volume is not None and is_waiting(volume.read_text(errors="replace"))
+        return not self.is_alone if volume is None else is_waiting(volume.read_text(errors="replace"))
 
     def told(self, *words):
         """Tells it something: the status, and what it said."""
