@@ -1,6 +1,6 @@
 """A link with a key: two nonces, a proof of each end over both, and then records, each with a code.
 
-No page has their layout. It was found from what two servers say to each other whose key was known.
+docs/formats/link.md has their layout. This was written before that, from what two servers say whose key was known.
 """
 
 import hashlib
