@@ -3,11 +3,11 @@ import collections
 import itertools
 import socket
 import time
-from dataclasses import dataclass
+from dataclasses import dataclass, replace
 
 from crashing.clients import Client, message_of, relayed
 from server.messages import (
-    ADVERTISE, IA_PD, IA_PREFIX, REBIND, RELAY_MESSAGE, RENEW, REPLY, REQUEST, SOLICIT, options,
+    ADVERTISE, IA_PD, IA_PREFIX, REBIND, RELAY_MESSAGE, RELEASE, RENEW, REPLY, REQUEST, SOLICIT, options,
 )
 from server.values import prefix_text
 
@@ -103,6 +103,14 @@ class Customers:
     def renew(self, server, clients, kind=RENEW, patience=8.0):
         """They renew what they were told of last, or rebind it: the prefix of each that was given one."""
         return self.given(self.exchange(server, {client: (kind, self.has(client)) for client in clients}, patience))
+
+    def release(self, server, clients, patience=8.0):
+        """They give back what they were told of last, and use it no more from then on: how many were answered."""
+        names = {client.duid.hex() for client in clients}
+        questions, moment = {client: (RELEASE, self.has(client)) for client in clients}, time.monotonic()
+        self.grants = [replace(grant, end=min(grant.end, moment)) if grant.client in names else grant
+                       for grant in self.grants]
+        return len(self.exchange(server, questions, patience))
 
     @staticmethod
     def given(answers):

@@ -22,7 +22,7 @@ heartbeat = 1
 renew_floor = 0
 units_per_port = 0
 client_rate = 0
-[[pool]]
+{more}[[pool]]
 prefix = "{pool}"
 unit = {unit}
 """
@@ -45,7 +45,8 @@ SERVING = re.compile(r"serving: (?:(yes)|no, (.+))\Z")
 
 
 class Server:
-    """One server of a pair, or one that is alone. `kind` has the terms of its leases."""
+    """One server of a pair, or one that is alone. `kind` has the terms of its leases, and what more is in its
+    settings."""
 
     def __init__(self, node, folder, side, port, link, key, kind=None, is_alone=False):
         self.node, self.side, self.port, self.kind = node, side, port, kind or LONG
@@ -60,8 +61,8 @@ class Server:
     def settle(self, is_alone=False):
         """Writes its settings and its key."""
         way = ALONE if is_alone else PAIRED.format(host=HOST, port=self.link)
-        given = {"role": self.role, "duid": self.duid, "host": HOST, "listen": self.port, "way": way}
-        (self.folder / "settings.toml").write_text(SETTINGS.format(**given, **self.kind))
+        given = {"role": self.role, "duid": self.duid, "host": HOST, "listen": self.port, "way": way, "more": ""}
+        (self.folder / "settings.toml").write_text(SETTINGS.format(**{**given, **self.kind}))
         path = self.folder / "link.key"
         path.touch(0o600)
         path.write_text(self.key + "\n")
