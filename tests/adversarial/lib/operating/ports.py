@@ -201,6 +201,8 @@ def pair(play):
     """Clients of a server by ten ports in one turn; renewed by others; rebound at its partner; and a roll."""
     one, other = play.one, play.other
     play.begin()
+    for server in (one, other):
+        play.until(f"{server.side} serves", lambda each=server: each.serving() == "yes")
     first = 0x100 if one.side == "A" else 0x1100
     requests = asks(play, one, ports_of(one), first, "asked in one turn")
     moved = asks_again(play, one, requests, RENEW, "renewed in one turn")
