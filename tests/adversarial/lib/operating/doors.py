@@ -7,9 +7,8 @@ import subprocess
 import threading
 
 from living.play import Broken
-from living.servers import LONG
 
-from .stage import DOWN, NORMAL, asked, ran
+from .stage import DOWN, LONG, NORMAL, asked, ran
 
 # A user that has nothing of the server's; what it says at the file, and what it has the program say.
 STRANGER = 65534

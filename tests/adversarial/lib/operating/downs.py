@@ -2,9 +2,9 @@
 import time
 
 from living.play import WAITS
-from living.servers import LONG, SHORT
+from living.servers import SHORT
 
-from .stage import DOWN, NORMAL, is_contact, ran
+from .stage import DOWN, LONG, NORMAL, is_contact, ran
 
 # Why it is refused while the two are connected; and without its words.
 RUNS = "there is a connection with the partner: it runs"

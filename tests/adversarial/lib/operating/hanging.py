@@ -5,7 +5,8 @@ import signal
 import subprocess
 
 from living.play import Broken
-from living.servers import LONG
+
+from .stage import LONG
 
 ROOT = pathlib.Path(__file__).resolve().parents[4]
 UNIT = "lib/systemd/system/fengtuyas-node@.service"

@@ -5,18 +5,18 @@ import socket
 import time
 from dataclasses import dataclass
 
-from living.servers import HOST, LONG
+from living.servers import HOST
 from server.messages import (
     CLIENT_IDENTIFIER, IA_PD, IA_PREFIX, INTERFACE_IDENTIFIER, REBIND, RELAY_FORWARD, RELAY_MESSAGE, RELAY_REPLY, RENEW,
     REPLY, REQUEST, SERVER_IDENTIFIER, SOLICIT, option, options, prefix_option,
 )
 
-from .stage import rows_of
+from .stage import LONG, rows_of
 
 REMOTE_IDENTIFIER = 37
 NOTHING, EMPTY, SOURCE = "-", "empty", f"{'0000:' * 7}0001"
 # How long a turn's answers may take, in seconds.
-PATIENCE = 20
+PATIENCE = 90
 
 
 def address_word(octets):

@@ -1,8 +1,8 @@
 """Volumes that are due to be followed while the partner is taken for down, or units of it aren't acknowledged."""
-from living.servers import LONG, SHORT
+from living.servers import SHORT
 
 from .downs import asks_until_seized, leased
-from .stage import NORMAL, rows_of
+from .stage import LONG, NORMAL, rows_of
 
 # So many lines behind a volume's head are due to be followed.
 LINES = 60

@@ -3,10 +3,18 @@ import os
 import socket
 import subprocess
 
+from living.customers import Customers
+from living.play import Broken
 from living.play import Play as Living
+from living.servers import LONG as OUTLASTING
 from server.book import Book, BookRefusal
 from server.journal import Misspelled, spelled_line_of
+from server.messages import RENEW
 
+# Leases that outlast the trial, whose answers may leave late, and how long who waits for something does, in seconds: a
+# machine may be busy, and a disk slow.
+LONG = {**OUTLASTING, "transit": 120_000}
+PATIENCE = 60
 DOWN = ("partner-down", "the partner is stopped")
 NORMAL = ("partner-normal",)
 
@@ -53,8 +61,41 @@ def asked(server, line):
     return head, text
 
 
+class Patient(Customers):
+    """Clients who wait long for an answer."""
+
+    def exchange(self, server, questions, patience=PATIENCE):
+        return super().exchange(server, questions, patience)
+
+    def lease(self, server, clients, patience=PATIENCE):
+        return super().lease(server, clients, patience)
+
+    def renew(self, server, clients, kind=RENEW, patience=PATIENCE):
+        return super().renew(server, clients, kind, patience)
+
+    def release(self, server, clients, patience=PATIENCE):
+        return super().release(server, clients, patience)
+
+
 class Play(Living):
     """One play; its kinds are the terms of leases."""
+
+    def __init__(self, *words, **how):
+        super().__init__(*words, **how)
+        self.customers.end()
+        self.customers = Patient()
+
+    def until(self, what, holds, seconds=PATIENCE):
+        return super().until(what, holds, seconds)
+
+    def says(self, server, wanted, what, patience=PATIENCE):
+        return super().says(server, wanted, what, patience)
+
+    def down(self):
+        """The partner is killed, and taken for down."""
+        self.other.kill()
+        if not self.until(f"{self.one.side} takes its partner for down", lambda: self.one.told(*DOWN)[0] == 0):
+            raise Broken(f"partner-down: {self.one.status()}")
 
     def refused(self, server, words, wanted, what):
         """A command is refused, for this reason."""

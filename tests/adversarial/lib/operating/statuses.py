@@ -4,10 +4,10 @@ import datetime
 import json
 import time
 
-from living.servers import LONG, SHORT
+from living.servers import SHORT
 
 from .downs import asks_until_seized, leased
-from .stage import DOWN, NORMAL, asked, book_of
+from .stage import DOWN, LONG, NORMAL, asked, book_of
 
 OWN = {"A": ("free", "backup"), "B": ("backup", "free")}
 STATES = ("own", "partners", "delegated", "expired", "released")

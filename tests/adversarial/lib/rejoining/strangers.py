@@ -3,10 +3,9 @@ later."""
 import time
 
 from living.customers import Grant
-from living.servers import LONG
 from operating.downs import book_lines
 from operating.ports import Port, Question
-from operating.stage import DOWN
+from operating.stage import LONG
 from server.messages import (
     IA_PD, IA_PREFIX, NO_BINDING, NO_PREFIX_AVAILABLE, REBIND, RELEASE, RENEW, REPLY, REQUEST, STATUS_CODE, SUCCESS,
     options,
