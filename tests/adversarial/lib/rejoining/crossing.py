@@ -74,5 +74,6 @@ def crossed(play, delay, pause, what):
 
 PLAYS = {
     "crossing": (lambda play: crossed(play, LITTLE, 0.0, "the way takes 5 ms"), "AB", KIND),
-    "rebind-5-ms": (lambda play: crossed(play, 0.0, LITTLE, "the second hears 5 ms later"), "AB", KIND),
+    "crossing-later": (lambda play: crossed(play, LITTLE, LITTLE, "the way takes 5 ms, as long as to the second"), "AB",
+                       KIND),
 }
