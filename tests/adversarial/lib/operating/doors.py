@@ -1,7 +1,6 @@
 """Who may reach the file `control`: its server's user and nobody else, whatever the mask that the server has."""
 import ctypes
 import os
-import shutil
 import stat
 import subprocess
 import threading
@@ -19,7 +18,9 @@ COMMANDS = (("status",), ("status", "--json"), ("stop",), ("stop", "--close"), (
 def under_mask(play, mask):
     """The program, by way of a script that gives it this mask."""
     script = play.one.beside / f"node-{mask:03o}"
-    script.write_text(f'#!/bin/sh\numask {mask:03o}\nexec "{play.one.node}" "$@"\n')
+    text = f'#!/bin/sh\numask {mask:03o}\nexec "{play.one.node}" "$@"\n'
+    # (a process of its own writes it: what a play beside this one starts would hold a file of this one's open)
+    subprocess.run(["tee", script], input=text, text=True, stdout=subprocess.DEVNULL, check=True)
     script.chmod(0o755)
     return str(script)
 
@@ -68,8 +69,8 @@ def open_way(server):
     """Lets another user look into the directory, and run a copy of the program."""
     for folder in (server.folder, server.beside, server.beside.parent):
         folder.chmod(0o755)
-    program = shutil.copy(server.node, server.beside / "node")
-    os.chmod(program, 0o755)
+    program = server.beside / "node"
+    subprocess.run(["install", "-m", "755", server.node, program], check=True)
     how = {"user": STRANGER, "group": STRANGER, "extra_groups": []}
     looks = ["/bin/sh", "-c", 'test -S "$0/control" && test -x "$1"', server.folder, program]
     if subprocess.run(looks, check=False, **how).returncode != 0:

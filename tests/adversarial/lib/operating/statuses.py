@@ -146,6 +146,14 @@ def counts_sent(play):
     return sent
 
 
+def are_settled(play, what):
+    """Each has told the other all, and was answered: two changes that cross may be due for long."""
+    for server in (play.one, play.other):
+        play.until(f"{what}: {server.side} has nothing due", lambda each=server: each.value("due") == "0")
+    play.told(play.one, play.other)
+    play.told(play.other, play.one)
+
+
 def joined(play):
     """While the two are joined: with leases, some given back."""
     sent = counts_sent(play)
@@ -153,10 +161,11 @@ def joined(play):
     for server in (play.one, play.other):
         compare(play, server, "with leases", "connected")
     play.customers.release(play.one, mine[:2])
+    are_settled(play, "some are given back")
     play.rebinds(play.other, mine[2:], "while the two are joined")
+    are_settled(play, "renewed by the partner")
     play.customers.renew(play.one, mine[2:3])
-    play.told(play.one, play.other)
-    play.told(play.other, play.one)
+    are_settled(play, "renewed")
     for server in (play.one, play.other):
         count_messages(play, sent, server, "some are given back")
         book = compare(play, server, "some are given back", "connected")
@@ -188,7 +197,8 @@ def alive(play):
     play.start(other)
     for server in (one, other):
         play.until(f"{server.side} serves", lambda each=server: each.serving() == "yes")
-        play.until(f"{server.side} has nothing due", lambda each=server: each.value("due") == "0")
+    are_settled(play, "joined again")
+    for server in (one, other):
         compare(play, server, "joined again", "connected")
     play.both_serve(mine[:-1], theirs, "joined again")
 
