@@ -2,7 +2,7 @@
 import argparse
 import concurrent.futures
 import pathlib
-import random
+import socket
 import sys
 import tempfile
 import time
@@ -12,6 +12,30 @@ from .play import Broken
 
 # How many lines are printed of a play that isn't as wanted.
 MOST_PRINTED = 8
+# The places of ports of which no other trial draws one.
+PLACES = range(1_060, 1_250)
+
+
+class Places:
+    """So many places of ports that no trial beside this one has: a socket without a file holds each."""
+
+    def __init__(self, count):
+        self.held = {}
+        for place in PLACES:
+            holder = socket.socket(socket.AF_UNIX, socket.SOCK_DGRAM)
+            try:
+                holder.bind(f"\0fengtuyas-place-{place}")
+            except OSError:
+                holder.close()
+                continue
+            self.held[place] = holder
+            if len(self.held) == count:
+                return
+        sys.exit("too many trials have ports beside this one")
+
+    def end(self):
+        for holder in self.held.values():
+            holder.close()
 
 
 class Trial:
@@ -62,12 +86,13 @@ class Trial:
 
     def all_played(self, node, folder, chosen):
         """What was played, and how long each took."""
+        places = Places(len(chosen))
         with concurrent.futures.ThreadPoolExecutor(len(chosen)) as pool:
-            # (whoever else tries the same meanwhile has other ports)
-            first = random.randrange(1_000)
-            places = enumerate(chosen, start=first)
-            runs = {name: pool.submit(self.played, node, folder, place, name) for place, name in places}
-            return {name: run.result() for name, run in runs.items()}
+            runs = {name: pool.submit(self.played, node, folder, place, name)
+                    for place, name in zip(places.held, chosen)}
+            done = {name: run.result() for name, run in runs.items()}
+        places.end()
+        return done
 
     def run(self, words):
         """Plays what the words say, prints what isn't as wanted: the status to end with."""
