@@ -225,6 +225,15 @@ impl NoticeExchange {
         self.told.as_ref()
     }
 
+    /// Returns whether the last question has yet to be answered.
+    pub fn awaits_answer(&self) -> bool {
+        match (&self.question, &self.clock) {
+            (None, _) => false,
+            (Some(_), None) => true,
+            (Some(question), Some(clock)) => question.asked != clock.asked,
+        }
+    }
+
     /// A copy of this server's settings, as its partner is told them. `AllocError` where a growth was refused.
     pub fn own_settings(&self) -> Result<PairSettings, AllocError>
         ensures { IfOk result (λ s. s ≡ self.now.own) }

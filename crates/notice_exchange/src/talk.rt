@@ -1,9 +1,7 @@
 //! One end of a connection over which frames and notices go.
 
-ghost use Rattle.std.specs.Prelude.{◌≡◌, Ok, Some, None, IsTrue, IfOk, false};
-ghost use Rattle.notice_exchange.specs.Exchanges.{MayJoin};
-ghost use Rattle.notice_exchange.specs.Talks.{IsOverdue};
-ghost use Rattle.notice_exchange.specs.declared.talk.LinkEvent.{LinkEvent as EventValue};
+ghost use Rattle.std.specs.Prelude.{◌≡◌, None, IsTrue, IfOk, OnOk, false};
+ghost use Rattle.notice_exchange.specs.Talks.{IsOverdue, IsStep, PutsBehind, Talk};
 
 use crate::exchange::{NoticeExchange, PartnerProgram, PartnerSettings};
 use crate::stage::{ExchangeStage, KeptApart};
@@ -90,6 +88,32 @@ fn program(alloc: Global) -> Result<Notice, NoticeError> {
     })
 }
 
+/// Takes parts of what came when the clock showed `now`, in order, and puts what they lead to behind what is there. The
+/// reason, where the connection is over by one; those after it aren't taken.
+#[tactic(auto, using(crate::proofs::Steps::puts_nothing, crate::proofs::Steps::puts_silent, crate::proofs::Steps::puts_event))]
+fn take_parts(
+    talk: &mut NoticeTalk,
+    parts: Vec<StreamPart>,
+    now: Reading,
+    events: &mut Vec<LinkEvent>,
+) -> Result<(), TalkEnd>
+    ensures { (reached : Talk) × PutsBehind talk.old reached events.old.items events.new.items
+        × OnOk result (talk.new ≡ reached) }
+{
+    for part in parts {
+        match talk.take_part(part, now) {
+            Ok(Some(event)) => {
+                if events.push(event).is_err() {
+                    return Err(TalkEnd::Memory);
+                }
+            }
+            Ok(None) => {}
+            Err(end) => return Err(end),
+        }
+    }
+    Ok(())
+}
+
 impl NoticeTalk {
     /// The talk of a connection that begins, of a server of these settings. `AllocError` where a growth was refused.
     pub fn new(alloc: Global, settings: &Settings) -> Result<NoticeTalk, AllocError>
@@ -112,53 +136,39 @@ impl NoticeTalk {
         octets: &[u8],
         now: Reading,
         events: &mut Vec<LinkEvent>,
-    ) -> Result<(), TalkEnd> {
+    ) -> Result<(), TalkEnd>
+        ensures { (reached : Talk) × PutsBehind self.old reached events.old.items events.new.items
+            × OnOk result (self.new ≡ reached) }
+    {
         let Ok(parts) = self.splitter.feed(octets) else {
             return Err(TalkEnd::Memory);
         };
-        for part in parts {
-            let event = match part {
-                StreamPart::Frames(octets) => Some(self.take_frames(octets)?),
-                StreamPart::Notice(text) => self.hear(text.as_slice(), now)?,
-            };
-            if let Some(event) = event {
-                if events.push(event).is_err() {
-                    return Err(TalkEnd::Memory);
-                }
-            }
-        }
-        Ok(())
+        take_parts(self, parts, now, events)
     }
 
-    /// Takes octets of frames, where the two may join.
-    fn take_frames(&self, octets: Listed<u8>) -> Result<LinkEvent, TalkEnd>
-        ensures { IfOk result (λ _. IsTrue self.now.may_join) }
+    /// Takes a part of what came, and gives what it leads to.
+    fn take_part(&mut self, part: StreamPart, now: Reading) -> Result<Option<LinkEvent>, TalkEnd>
+        ensures { IfOk result (λ event. IsStep self.old event self.new) }
     {
-        if self.may_join {
-            Ok(LinkEvent::Frames(octets))
-        } else {
-            Err(TalkEnd::EarlyFrame)
-        }
-    }
-
-    /// Takes a notice of this text.
-    fn hear(&mut self, text: &[u8], now: Reading) -> Result<Option<LinkEvent>, TalkEnd>
-        ensures { (e : EventValue) → result ≡ Ok (Some e) → MayJoin self.new.exchange }
-    {
-        match read_notice(self.alloc, text) {
-            Ok(Some(notice)) => self.take_notice(notice, now),
-            Ok(None) => Ok(None),
-            Err(NoticeError::Memory) => Err(TalkEnd::Memory),
-            Err(_) => Err(TalkEnd::Misspelled),
+        match part {
+            StreamPart::Frames(octets) if self.may_join => Ok(Some(LinkEvent::Frames(octets))),
+            StreamPart::Frames(_) => Err(TalkEnd::EarlyFrame),
+            StreamPart::Notice(text) => match read_notice(self.alloc, text.as_slice()) {
+                Ok(Some(notice)) => self.take_notice(notice, now),
+                Ok(None) => Ok(None),
+                Err(NoticeError::Memory) => Err(TalkEnd::Memory),
+                Err(_) => Err(TalkEnd::Misspelled),
+            },
         }
     }
 
     /// Takes a notice: the session of frames begins where it lets the two join.
     fn take_notice(&mut self, notice: Notice, now: Reading) -> Result<Option<LinkEvent>, TalkEnd>
-        ensures { (e : EventValue) → result ≡ Ok (Some e) → MayJoin self.new.exchange }
+        ensures { IfOk result (λ event. IsStep self.old event self.new) }
     {
-        if self.exchange.hear(notice, now).is_err() {
-            return Err(TalkEnd::Memory);
+        match self.exchange.hear(notice, now) {
+            Ok(()) => {}
+            Err(_) => return Err(TalkEnd::Memory),
         }
         match self.exchange.stage() {
             ExchangeStage::Asks => Ok(None),
@@ -178,12 +188,16 @@ impl NoticeTalk {
         self.asks_again = true;
     }
 
-    /// Returns whether the partner's clock is to be asked: at first, then each second while the two clocks don't agree,
-    /// and when it was told so.
+    /// Returns whether the partner's clock is to be asked: at first; then, once it has answered, each second while the two
+    /// clocks don't agree, and when it was told so. A partner that is slow to answer isn't asked anew meanwhile: of its
+    /// answers only the one to the last question counts.
     fn is_question_due(&self, now: Instant) -> bool {
         let Some(asked) = self.asked else {
             return true;
         };
+        if self.exchange.awaits_answer() {
+            return false;
+        }
         let agrees = self.exchange.verdict() == Some(ClockVerdict::Agrees);
         self.asks_again
             || (!agrees && now.duration_since(asked) >= Duration::from_secs(SHORT_PAUSE))
