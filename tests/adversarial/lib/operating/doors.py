@@ -5,8 +5,6 @@ import stat
 import subprocess
 import threading
 
-from living.play import Broken
-
 from .stage import DOWN, LONG, NORMAL, asked, ran
 
 # A user that has nothing of the server's; what it says at the file, and what it has the program say.
@@ -66,16 +64,15 @@ def answer_to(server, line):
 
 
 def open_way(server):
-    """Lets another user look into the directory, and run a copy of the program."""
+    """Lets another user look into the directory, and run a copy of the program; None where folders above keep it out."""
     for folder in (server.folder, server.beside, server.beside.parent):
         folder.chmod(0o755)
     program = server.beside / "node"
     subprocess.run(["install", "-m", "755", server.node, program], check=True)
     how = {"user": STRANGER, "group": STRANGER, "extra_groups": []}
     looks = ["/bin/sh", "-c", 'test -S "$0/control" && test -x "$1"', server.folder, program]
-    if subprocess.run(looks, check=False, **how).returncode != 0:
-        raise Broken(f"another user can't look into {server.folder}: leave --keep out")
-    return program, how
+    can_look = subprocess.run(looks, check=False, **how).returncode == 0
+    return (program, how) if can_look else None
 
 
 def stranger(play):
@@ -87,7 +84,11 @@ def stranger(play):
     one.node = under_mask(play, 0)
     play.start(one)
     known = play.lease(one, 3)
-    program, how = open_way(one)
+    opened = open_way(one)
+    if opened is None:
+        print(f"control-stranger: not tried, since folders above {one.folder} keep another user out")
+        return
+    program, how = opened
     before = one.events()
     for line in LINES:
         said = as_stranger(lambda each=line: answer_to(one, each))
