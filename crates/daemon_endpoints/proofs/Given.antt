@@ -10,7 +10,10 @@ use Rattle.daemon_io.specs.declared.connection.ConnectionLost.TheVariants.{Broke
 use Rattle.failover_message.specs.Frames.{frame_octets}
 use Rattle.failover_message.specs.declared.frame.Frame.{Frame}
 use Rattle.failover_session.specs.declared.outbox.OutboundFrame.{OutboundFrame}
-use Rattle.daemon_endpoints.specs.Saying.{AreGiven, none, more, kept, heard, frames_of, AreFirstGiven, Says}
+use Rattle.link_notices.specs.Items.{notice_octets}
+use Rattle.link_notices.specs.Spelling.{notice_text}
+use Rattle.link_notices.specs.declared.notice.Notice.{Notice}
+use Rattle.daemon_endpoints.specs.Saying.{AreGiven, none, more, noticed, kept, heard, frames_of, AreFirstGiven, Says}
 use Rattle.daemon_endpoints.specs.Saying.{IsLastWord, last_word, SaysOver, StandsOn, IsSame, MayStand}
 
 pub given_on : (a b c : Sent) (fs gs : List Frame) → AreGiven a fs b → AreGiven b gs c
@@ -19,6 +22,8 @@ given_on a b _ fs _ h none = subst (λ xs. AreGiven a xs b) (sym (append-nil fs)
 given_on a b _ fs _ h (more gs g old new k step) =
     subst (λ xs. AreGiven a xs new) (append_assoc fs gs (g ∷ []))
     (more (fs ++ gs) g old new (given_on a b old fs gs h k) step)
+given_on a b _ fs _ h (noticed gs n old new k step) =
+    noticed (fs ++ gs) n old new (given_on a b old fs gs h k) step
 given_on a b _ fs _ h (kept gs old new k step) = kept (fs ++ gs) old new (given_on a b old fs gs h k) step
 given_on a b _ fs _ h (heard gs old new k step) = heard (fs ++ gs) old new (given_on a b old fs gs h k) step
 
@@ -74,6 +79,26 @@ last_word_given a b c (Err Stuck) step stays =
 last_word_given a b c (Err Spent) step stays = ([], inl refl, kept _ b c (kept _ a b none step) stays)
 last_word_given a b c (Err Memory) step stays = ([], inl refl, kept _ b c (kept _ a b none step) stays)
 
+-- a notice, with a stream that is over or not
+pub notice_lost : (T : Type 0) (first old new : Sent) (n : Notice) (e : ConnectionLost) → AreGiven first [] old
+    → IsGiven {T = T} (notice_octets (notice_text n)) old new (Err e) → AreGiven first [] new
+notice_lost T first old new n Broken before step = noticed [] n old new before step
+notice_lost T first old new n Stuck before step = noticed [] n old new before step
+notice_lost T first old new n Spent before step = kept [] old new before step
+notice_lost T first old new n Memory before step = kept [] old new before step
+
+-- what is said after notices
+pub says_behind : (frames : List Frame) (a b c : Sent) → AreGiven a [] b → Says frames b c → Says frames a c
+says_behind frames a b c before h =
+    record {
+      front = h.front;
+      rest = h.rest;
+      words = h.words;
+      all = h.all;
+      last = h.last;
+      given = given_on a b c [] (h.front ++ h.words) before h.given;
+    }
+
 pub says_further : (frames : List Frame) (a b c : Sent) → Says frames a b → AreGiven b [] c → Says frames a c
 says_further frames a b c h given =
     record {
@@ -116,6 +141,12 @@ said_to frames before after old last some says stands =
 pub only_words : (a b : Sent) (words : List Frame) → IsLastWord words → AreGiven a words b → Says [] a b
 only_words a b words is_last given =
     record { front = []; rest = []; words = words; all = refl; last = is_last; given = given }
+
+-- notices alone
+pub noticed_to : (before after : Option Sent) (old last : Sent) → before ≡ Some old → AreGiven old [] last
+    → IfSome after (λ (new : Sent). new ≡ last) → SaysOver [] before after
+noticed_to before after old last some given stands =
+    said_to [] before after old last some (only_words old last [] (inl refl) given) stands
 
 pub stands_none : (before after : Option Sent) → before ≡ None → after ≡ None → StandsOn before after
 stands_none before after is_none same = subst (λ b. StandsOn b after) (sym is_none) same

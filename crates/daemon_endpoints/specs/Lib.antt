@@ -1,3 +1,4 @@
+pub mod Joining
 pub mod Receiving
 pub mod Saying
 pub mod Sending

@@ -5,15 +5,22 @@ use Rattle.failover_message.specs.Frames.{frame_octets}
 use Rattle.failover_message.specs.declared.frame.Frame.{Frame}
 use Rattle.failover_message.specs.declared.frame.FrameKind.TheVariants.{Disconnect}
 use Rattle.failover_session.specs.declared.outbox.OutboundFrame.{OutboundFrame}
+use Rattle.link_notices.specs.Items.{notice_octets}
+use Rattle.link_notices.specs.Spelling.{notice_text}
+use Rattle.link_notices.specs.declared.notice.Notice.{Notice}
 
 -- A connection is known by the octets that it was given so far, where these are known, and by how octets go over it.
 
--- frames were given, one after the other: each as its octets are, or in the records that say them
+-- frames were given, one after the other: each as its octets are, or in the records that say them; and notices between
+-- them
 pub data AreGiven (first : Sent) : List Frame → Sent → Type 0 where
   none : AreGiven first [] first
   more : (frames : List Frame) (frame : Frame) (old new : Sent)
       → AreGiven first frames old → WritesOctets (frame_octets frame) old new
       → AreGiven first (frames ++ frame ∷ []) new
+  noticed : (frames : List Frame) (notice : Notice) (old new : Sent)
+      → AreGiven first frames old → WritesOctets (notice_octets (notice_text notice)) old new
+      → AreGiven first frames new
   kept : (frames : List Frame) (old new : Sent)
       → AreGiven first frames old → Stays old new → AreGiven first frames new
   heard : (frames : List Frame) (old new : Sent)

@@ -119,6 +119,14 @@ impl<G: Datagrams> ClientEndpoint<G> {
         })
     }
 
+    /// From now on clients may order what this lets them.
+    pub fn limit_by(&mut self, limiter: Limiter)
+        ensures datagrams { self.new.datagrams ≡ self.old.datagrams }
+        ensures transit { self.new.transit ≡ self.old.transit }
+    {
+        self.limiter = limiter;
+    }
+
     /// What came and what was sent so far.
     pub fn traffic(&self) -> Traffic {
         Traffic {

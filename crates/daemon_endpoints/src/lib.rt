@@ -17,8 +17,12 @@
 mod arrival;
 mod clients;
 mod control_server;
+mod handing;
+mod parting;
 mod partner;
+mod partner_view;
 mod peer_connection;
+mod peer_notices;
 mod receiving;
 mod sending;
 

@@ -6,14 +6,15 @@ ghost use Rattle.daemon_endpoints.specs.Receiving.{HasSameFiles};
 ghost use Rattle.daemon_endpoints.specs.Serials.{UsesNoSerial, UsesNoSerialApart};
 ghost use Rattle.daemon_endpoints.specs.Saying.{frames_of, SaysOver, StandsOn, MayStand};
 
-use crate::peer_connection::{PeerConnection, parting_of};
+use crate::peer_connection::{Heard, PeerConnection};
 use crate::receiving::ReceiveError;
 use binding_rules::ServerState;
-use daemon_io::{Connection, ConnectionSource, PeerRejected, PendingPeers};
+use daemon_io::{Connection, ConnectionSource, Pause, PeerRejected, PendingPeers};
 use disk_model::Folder;
 use failover_session::{OutboundFrame, SessionStage};
 use lead_time::Reading;
 use link_auth::{EntryFault, PeerAuthenticator};
+use notice_exchange::NoticeTalk;
 use order_book::Order;
 use server_clocks::{Clocks, Moment};
 use server_core::ServerCore;
@@ -33,7 +34,9 @@ pub struct PartnerEndpoint<D: ConnectionSource> {
     door: D,
     buffer: Vec<u8>,
     waiting: PendingPeers<D::Stream>,
-    standing: Option<PeerConnection<D>>,
+    pub(crate) standing: Option<PeerConnection<D>>,
+    /// What the two told each other by notices over the connection before.
+    pub(crate) last: Option<NoticeTalk>,
 }
 
 impl<D: ConnectionSource> Model for PartnerEndpoint<D> {
@@ -95,6 +98,7 @@ impl<D: ConnectionSource> PartnerEndpoint<D> {
             buffer: vec![in alloc; 0u8; READ_SIZE]?,
             waiting: PendingPeers::new(alloc, keeper),
             standing: None,
+            last: None,
         })
     }
 
@@ -152,30 +156,48 @@ impl<D: ConnectionSource> PartnerEndpoint<D> {
         let entered = self.waiting.go_on(&mut self.buffer, now.instant);
         for leaving in self.waiting.left().as_slice() {
             log.log_limited(&event_of(leaving), now.reading);
-            self.door.back_off(false, now.instant);
+            self.door.back_off(Pause::Long, now.instant);
         }
         entered
     }
 
     /// Parts with the connection that stands, where there is one: the partner has another.
-    fn replace<F: Folder + Drop, P: Drop, L: Print>(
-        &mut self,
-        running: &mut ServerCore<F, P>,
-        now: &Moment,
-        log: &mut Log<'_, L>,
-    )
-    where
-        F::File: Drop,
-        ensures files { HasSameFiles running.old running.new }
+    fn replace<L: Print>(&mut self, now: &Moment, log: &mut Log<'_, L>)
         ensures none { self.new ≡ None }
     {
         if let Some(standing) = self.standing.take() {
             standing.log_disconnect(DisconnectReason::Replaced, now, log);
-            running.disconnect_partner();
+            self.keep_talk(standing.into_talk());
         }
     }
 
-    /// Begins the talk over the connection of who was let in.
+    /// Keeps what the two told each other over a connection that is over, where the partner said anything of itself.
+    fn keep_talk(&mut self, talk: Option<NoticeTalk>)
+        ensures { self.new ≡ self.old }
+    {
+        match &talk {
+            Some(told) if told.settings().is_none() => {}
+            _ => self.last = talk,
+        }
+    }
+
+    /// Ends a connection that stood: tells why, and waits before the next is called.
+    fn end<L: Print>(
+        &mut self,
+        standing: PeerConnection<D>,
+        parting: DisconnectReason,
+        now: &Moment,
+        log: &mut Log<'_, L>,
+    )
+        ensures { self.new ≡ self.old }
+    {
+        standing.log_disconnect(parting, now, log);
+        self.door
+            .back_off(standing.pause(&parting, now), now.instant);
+        self.keep_talk(standing.into_talk());
+    }
+
+    /// Begins the session over the connection of who was let in, or its talk of notices.
     fn begin_session<F: Folder + Drop, P: Drop>(
         &mut self,
         running: &mut ServerCore<F, P>,
@@ -188,10 +210,8 @@ impl<D: ConnectionSource> PartnerEndpoint<D> {
         ensures files { HasSameFiles running.old running.new }
         ensures stands { self.new ≡ Some connection.sent }
     {
-        let mut standing = PeerConnection::new(connection, now);
-        if let Err(error) = running.connect_partner(settings) {
-            standing.parting = Some(parting_of(error));
-        }
+        let mut standing = PeerConnection::new(self.alloc, connection, settings, now);
+        standing.go_on(running, settings, &Heard::nothing(now));
         self.standing = Some(standing);
     }
 
@@ -215,6 +235,7 @@ impl<D: ConnectionSource> PartnerEndpoint<D> {
         };
         let has_come = standing.receive(running, settings, &mut self.buffer, now.instant, clocks)?;
         standing.log_joined(running.stage(), log);
+        standing.log_settings(now, log);
         standing.log_silence(now, log);
         standing.close_if_stale(has_other, now);
         self.standing = Some(standing);
@@ -237,7 +258,8 @@ impl<D: ConnectionSource> PartnerEndpoint<D> {
         ensures stands { MayStand self.old self.new }
     {
         if let Some(connection) = self.authenticate_pending(now, log) {
-            self.replace(running, now, log);
+            self.replace(now, log);
+            running.disconnect_partner();
             self.begin_session(running, settings, connection, now);
             return Ok(true);
         }
@@ -292,7 +314,67 @@ impl<D: ConnectionSource> PartnerEndpoint<D> {
         }
     }
 
-    /// Says the frames that were held back, and ends the connection where it is over.
+    /// Hears the partner's notices over the connection that stands, where there is one that isn't over.
+    fn meet_over_connection<C: Clocks, L: Print>(
+        &mut self,
+        has_other: bool,
+        now: &Moment,
+        clocks: &C,
+        log: &mut Log<'_, L>,
+    ) -> Result<bool, ReceiveError>
+        ensures stands { MayStand self.old self.new }
+    {
+        let Some(mut standing) = self.standing.take() else {
+            return Ok(false);
+        };
+        let has_come = standing.meet(&mut self.buffer, now.instant, clocks)?;
+        standing.log_silence(now, log);
+        standing.close_if_stale(has_other, now);
+        self.standing = Some(standing);
+        Ok(has_come)
+    }
+
+    /// Hears the partner's notices alone: over the connection that stands, or by one that waited and is let in. What is
+    /// the session's waits. Whoever calls it has ended the session of the connection that stood. Returns whether anything
+    /// came.
+    pub fn meet<C: Clocks, L: Print>(
+        &mut self,
+        settings: &Settings,
+        now: &Moment,
+        clocks: &C,
+        log: &mut Log<'_, L>,
+    ) -> Result<bool, ReceiveError>
+        ensures stands { MayStand self.old self.new }
+    {
+        if let Some(connection) = self.authenticate_pending(now, log) {
+            self.replace(now, log);
+            self.standing = Some(PeerConnection::new(self.alloc, connection, settings, now));
+            return Ok(true);
+        }
+        let has_other = self.accept_connections(now, log);
+        match self.meet_over_connection(has_other, now, clocks, log) {
+            Ok(has_come) => Ok(self.waiting.has_come() || has_come),
+            Err(error) => Err(error),
+        }
+    }
+
+    /// Says the notices that are due, and ends the connection where it is over: no session may go over it.
+    #[tactic(auto, using(crate::proofs::Given::noticed_to))]
+    pub fn say_notices<L: Print>(&mut self, now: &Moment, log: &mut Log<'_, L>)
+        ensures said { SaysOver [] self.old self.new }
+    {
+        let Some(mut standing) = self.standing.take() else {
+            return;
+        };
+        standing.say_notices(now);
+        let parting = standing.parting;
+        match parting {
+            Some(parting) => self.end(standing, parting, now, log),
+            None => self.standing = Some(standing),
+        }
+    }
+
+    /// Says the notices that are due and the frames that were held back, and ends the connection where it is over.
     pub fn send_frames<F: Folder + Drop, P: Drop, L: Print>(
         &mut self,
         running: &mut ServerCore<F, P>,
@@ -308,13 +390,11 @@ impl<D: ConnectionSource> PartnerEndpoint<D> {
         let Some(mut standing) = self.standing.take() else {
             return;
         };
-        standing.send_frames(self.alloc, frames);
+        standing.send_all(frames, now);
         match standing.disconnect_reason(running.stage()) {
             Some(parting) => {
-                standing.log_disconnect(parting, now, log);
                 running.disconnect_partner();
-                self.door
-                    .back_off(standing.is_followed_soon(&parting, now), now.instant);
+                self.end(standing, parting, now, log);
             }
             None => self.standing = Some(standing),
         }
@@ -333,9 +413,7 @@ impl<D: ConnectionSource> PartnerEndpoint<D> {
         ensures { self.new ≡ self.old }
     {
         if let Some(standing) = &mut self.standing {
-            if standing.parting.is_none() {
-                standing.parting = Some(why);
-            }
+            standing.end(why);
         }
     }
 
@@ -344,7 +422,7 @@ impl<D: ConnectionSource> PartnerEndpoint<D> {
         ensures { SaysOver [] self.old self.new }
     {
         if let Some(standing) = &mut self.standing {
-            standing.send_disconnect(self.alloc);
+            standing.send_disconnect();
         }
     }
 

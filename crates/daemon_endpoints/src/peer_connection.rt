@@ -1,25 +1,33 @@
 //! A connection with the partner that stands, turn by turn.
 
-ghost use Rattle.std.specs.Prelude.{◌≡◌, ◌≤◌, ℕ, List, [], Some, length};
+ghost use Rattle.std.specs.Prelude.{◌≡◌, ◌≤◌, ℕ, List, [], None, Some, length};
 ghost use Rattle.daemon_io.specs.ConnectionWrites.{IsGiven, OnlyHears};
 ghost use Rattle.failover_message.specs.Frames.{frame_octets};
+ghost use Rattle.daemon_endpoints.specs.Joining.{OpensBy};
 ghost use Rattle.daemon_endpoints.specs.Receiving.{HasSameFiles};
 ghost use Rattle.daemon_endpoints.specs.Saying.{frames_of, AreGiven, AreFirstGiven, Says, IsLastWord};
 ghost use Rattle.failover_message.specs.declared.frame.Frame.{Frame as FrameValue};
-ghost use Rattle.server_log.specs.declared.log_event.DisconnectReason.TheVariants.{Lost as HasLost};
+ghost use Rattle.server_log.specs.declared.disconnect_reason.DisconnectReason.TheVariants.{Lost as HasLost};
 
+use crate::handing::{Arrived, hand_on};
+use crate::parting::{
+    can_resend, parting_at, parting_by, parting_of, parting_with, parting_without,
+};
+use crate::peer_notices::{opening, take_octets};
 use crate::receiving::ReceiveError;
 use binding_rules::Counter;
-use daemon_io::{Connection, ConnectionLost, ConnectionSource, IdleSecond, ReadOutcome};
+use daemon_io::{Connection, ConnectionLost, ConnectionSource, IdleSecond, Pause, ReadOutcome};
 use disk_model::Folder;
 use failover_message::{Frame, FrameKind, encode};
-use failover_session::{LinkInput, OutboundFrame, SessionError, SessionStage};
+use failover_session::{LinkInput, OutboundFrame, SessionStage};
 use lead_time::Reading;
+use notice_exchange::{LinkEvent, NoticeTalk};
 use server_clocks::{Clocks, Moment};
 use server_core::ServerCore;
 use server_log::{DisconnectReason, Log, LogEvent};
 use server_settings::Settings;
 use std::alloc::Global;
+use std::mem;
 use std::time::Instant;
 
 /// How many seconds a connection stands that has stood for a while.
@@ -29,10 +37,18 @@ const A_WHILE: u64 = 10;
 /// its settings don't say it.
 const LONG_SILENCE: u64 = 120;
 
+/// How many events may wait for a session, before no more is read.
+const MOST_EVENTS: usize = 16;
+
 /// A connection that stands.
 #[derive(Drop)]
 pub(crate) struct PeerConnection<D: ConnectionSource> {
+    pub(crate) alloc: Global,
     pub(crate) connection: Connection<D::Stream>,
+    /// What the two tell each other by notices, where both understand them.
+    pub(crate) notices: Option<NoticeTalk>,
+    /// What came and wasn't handed on to the session yet.
+    events: Vec<LinkEvent>,
     quiet: IdleSecond,
     pub(crate) begun: Moment,
     /// When the partner was heard last.
@@ -45,29 +61,25 @@ pub(crate) struct PeerConnection<D: ConnectionSource> {
     pub(crate) parting: Option<DisconnectReason>,
 }
 
-/// What came over a connection. Where nothing did, a second of it is told as nothing, and less than that as no octets
-/// yet.
-fn came<'a>(
-    got: ReadOutcome,
-    buffer: &'a [u8],
-    quiet: &mut IdleSecond,
-    now: &Moment,
-) -> LinkInput<'a>
-    requires { (count : ℕ) → got ≡ ReadOutcome.Octets count → count ≤ length buffer.now }
-{
-    match got {
-        ReadOutcome::Octets(count) => {
-            quiet.begin(now.instant);
-            LinkInput::Octets(&buffer[..count])
+/// What was heard over a connection, and when.
+#[derive(Clone, Copy)]
+pub(crate) struct Heard {
+    now: Moment,
+    arrived: Arrived,
+}
+
+impl Heard {
+    /// Nothing yet, of a connection that begins.
+    pub(crate) fn nothing(now: &Moment) -> Heard {
+        Heard {
+            now: *now,
+            arrived: Arrived::Nothing,
         }
-        ReadOutcome::Nothing => {
-            if quiet.is_full(now.instant) {
-                LinkInput::Idle
-            } else {
-                LinkInput::Octets(&[])
-            }
-        }
-        ReadOutcome::End | ReadOutcome::Forged => LinkInput::Closed,
+    }
+
+    /// Returns whether anything came, if only the end.
+    pub(crate) fn has_come(&self) -> bool {
+        self.arrived.is_something()
     }
 }
 
@@ -78,66 +90,124 @@ const DISCONNECT: Frame = Frame {
     kind: FrameKind::Disconnect,
 };
 
-/// Why a connection is over by the stage of its talk, if it is.
-fn parting_at(stage: SessionStage) -> Option<DisconnectReason> {
-    match stage {
-        SessionStage::Greeting | SessionStage::Joined { .. } => None,
-        SessionStage::Refused => Some(DisconnectReason::Refused),
-        SessionStage::Ended { .. } => Some(DisconnectReason::PartnerLeft),
-        SessionStage::Short { .. } => Some(DisconnectReason::JournalOlder),
-    }
-}
-
-/// Why the talk of a connection is over by an error of it.
-pub(crate) fn parting_of(error: SessionError) -> DisconnectReason {
-    match error {
-        SessionError::Frame => DisconnectReason::Refused,
-        SessionError::Serve(refusal) => DisconnectReason::Book(refusal),
-        SessionError::Memory => DisconnectReason::Memory,
-    }
-}
-
-/// Why it is over by the error of a talk that has come to a stage: where this server's journal is short, the stage says
-/// so.
-fn parting_by(stage: Option<SessionStage>, error: SessionError) -> DisconnectReason {
-    match stage {
-        Some(SessionStage::Short { .. }) => DisconnectReason::JournalOlder,
-        _ => parting_of(error),
-    }
-}
-
-/// Returns whether a server can tell its partner all that it lacks.
-fn can_resend<F: Folder + Drop, P: Drop>(running: &ServerCore<F, P>, stage: &SessionStage) -> bool
-where
-    F::File: Drop,
-{
-    match stage {
-        SessionStage::Joined { last } => running.can_resend_above(*last),
-        SessionStage::Greeting
-        | SessionStage::Refused
-        | SessionStage::Ended { .. }
-        | SessionStage::Short { .. } => true,
-    }
-}
-
 impl<D: ConnectionSource> PeerConnection<D> {
-    /// A connection that begins now.
-    pub(crate) fn new(connection: Connection<D::Stream>, now: &Moment) -> PeerConnection<D>
-        ensures { result.connection ≡ connection }
+    /// A connection that begins now, of a server of these settings.
+    pub(crate) fn new(
+        alloc: Global,
+        connection: Connection<D::Stream>,
+        settings: &Settings,
+        now: &Moment,
+    ) -> PeerConnection<D>
+        ensures same { result.connection ≡ connection }
+        ensures opens { result.parting ≡ None → OpensBy connection.notices result.notices result.events.items }
     {
+        let (notices, events, parting) = match opening(alloc, connection.notices(), settings) {
+            Ok((notices, events)) => (notices, events, None),
+            Err(_) => (None, Vec::new(alloc), Some(DisconnectReason::Memory)),
+        };
         PeerConnection {
+            alloc,
             connection,
+            notices,
+            events,
             quiet: IdleSecond::new(now.instant),
             begun: *now,
             heard: None,
             listened: now.instant,
             has_joined: false,
-            parting: None,
+            parting,
         }
     }
 
-    /// Reads what has come, and does what follows from it. The clock is read behind that: a line that takes a message
-    /// mustn't be older than the message. Returns whether octets came.
+    /// Notes why it is over, where it isn't over already.
+    pub(crate) fn end(&mut self, why: DisconnectReason)
+        ensures { self.new.connection ≡ self.old.connection }
+    {
+        if self.parting.is_none() {
+            self.parting = Some(why);
+        }
+    }
+
+    /// Takes octets that came: what they lead to waits for the session.
+    fn lead(&mut self, octets: &[u8], now: Reading)
+        ensures { self.new.connection ≡ self.old.connection }
+    {
+        let taken = take_octets(self.alloc, &mut self.notices, octets, now, &mut self.events);
+        if let Err(end) = taken {
+            self.end(parting_with(end));
+        }
+    }
+
+    /// Takes what a read gave.
+    fn take(&mut self, got: ReadOutcome, buffer: &[u8], now: &Moment) -> Arrived
+        requires { (count : ℕ) → got ≡ ReadOutcome.Octets count → count ≤ length buffer.now }
+        ensures { self.new.connection ≡ self.old.connection }
+    {
+        match got {
+            ReadOutcome::Octets(count) => {
+                self.quiet.begin(now.instant);
+                self.heard = Some(now.reading);
+                self.listened = now.instant;
+                self.lead(&buffer[..count], now.reading);
+                Arrived::Octets
+            }
+            ReadOutcome::Nothing if self.quiet.is_full(now.instant) => Arrived::IdleSecond,
+            ReadOutcome::Nothing => Arrived::Nothing,
+            ReadOutcome::End => {
+                self.end(DisconnectReason::Lost);
+                Arrived::End
+            }
+            ReadOutcome::Forged => {
+                self.end(DisconnectReason::Forged);
+                Arrived::End
+            }
+        }
+    }
+
+    /// Reads what has come; what is the session's waits. The clock is read after that: a line that takes a message
+    /// mustn't be older than the message. `Clock` where it tells no time.
+    fn hear<C: Clocks>(
+        &mut self,
+        buffer: &mut [u8],
+        begun: Instant,
+        clocks: &C,
+    ) -> Result<Heard, ReceiveError>
+        ensures { OnlyHears self.old.connection.sent self.new.connection.sent }
+    {
+        let got = self.connection.read(buffer, begun);
+        let Some(now) = clocks.now() else {
+            return Err(ReceiveError::Clock);
+        };
+        let arrived = self.take(got, buffer, &now);
+        Ok(Heard { now, arrived })
+    }
+
+    /// Hands on to the session what was heard, and all that waited for it.
+    pub(crate) fn go_on<F: Folder + Drop, P: Drop>(
+        &mut self,
+        running: &mut ServerCore<F, P>,
+        settings: &Settings,
+        heard: &Heard,
+    )
+    where
+        F::File: Drop,
+        ensures files { HasSameFiles running.old running.new }
+        ensures connection { self.new.connection ≡ self.old.connection }
+    {
+        let events = mem::replace(&mut self.events, Vec::new(self.alloc));
+        match hand_on(
+            running,
+            settings,
+            heard.now.reading,
+            events.as_slice(),
+            heard.arrived,
+        ) {
+            Ok(()) => self.look_at_stage(running),
+            Err(error) => self.end(parting_by(running.stage(), error)),
+        }
+    }
+
+    /// Reads what has come, and does what follows from it. Returns whether anything came.
     pub(crate) fn receive<F: Folder + Drop, P: Drop, C: Clocks>(
         &mut self,
         running: &mut ServerCore<F, P>,
@@ -151,31 +221,26 @@ impl<D: ConnectionSource> PeerConnection<D> {
         ensures files { HasSameFiles running.old running.new }
         ensures hears { OnlyHears self.old.connection.sent self.new.connection.sent }
     {
-        let got = self.connection.read(buffer, begun);
-        let Some(now) = clocks.now() else {
-            return Err(ReceiveError::Clock);
-        };
-        let came = came(got, buffer, &mut self.quiet, &now);
-        match running.handle_input(settings, now.reading, &came) {
-            Ok(()) => self.look_at_stage(running),
-            Err(error) => self.parting = Some(parting_by(running.stage(), error)),
+        let heard = self.hear(buffer, begun, clocks)?;
+        self.go_on(running, settings, &heard);
+        Ok(heard.has_come())
+    }
+
+    /// Reads what has come, and takes its notices alone: what is the session's waits, and no more is read while much of
+    /// it does. Returns whether anything came.
+    pub(crate) fn meet<C: Clocks>(
+        &mut self,
+        buffer: &mut [u8],
+        begun: Instant,
+        clocks: &C,
+    ) -> Result<bool, ReceiveError>
+        ensures { OnlyHears self.old.connection.sent self.new.connection.sent }
+    {
+        if self.events.len() >= MOST_EVENTS {
+            return Ok(false);
         }
-        match got {
-            ReadOutcome::Octets(_) => {
-                self.heard = Some(now.reading);
-                self.listened = now.instant;
-                Ok(true)
-            }
-            ReadOutcome::Nothing => Ok(false),
-            ReadOutcome::End => {
-                self.parting = Some(DisconnectReason::Lost);
-                Ok(true)
-            }
-            ReadOutcome::Forged => {
-                self.parting = Some(DisconnectReason::Forged);
-                Ok(true)
-            }
-        }
+        let heard = self.hear(buffer, begun, clocks)?;
+        Ok(heard.has_come())
     }
 
     /// Sends a contact, where the two have joined (`failover_session::LinkInput::HeartbeatDue`).
@@ -192,7 +257,7 @@ impl<D: ConnectionSource> PeerConnection<D> {
     {
         match running.handle_input(settings, now.reading, &LinkInput::HeartbeatDue) {
             Ok(()) => {}
-            Err(error) => self.parting = Some(parting_of(error)),
+            Err(error) => self.end(parting_of(error)),
         }
     }
 
@@ -207,18 +272,18 @@ impl<D: ConnectionSource> PeerConnection<D> {
         if let Some(stage) = &stage {
             if !can_resend(running, stage) {
                 running.disconnect_partner();
-                self.parting = Some(DisconnectReason::Lacks);
+                self.end(DisconnectReason::Lacks);
             }
         }
     }
 
     /// Gives the connection frames, in their order: all of them, or it is over.
-    fn write(&mut self, alloc: Global, frames: &[OutboundFrame])
+    fn write(&mut self, frames: &[OutboundFrame])
         ensures { AreFirstGiven (frames_of frames.now) self.old.connection.sent
             self.new.connection.sent (self.new.parting ≡ Some HasLost) }
     {
         for handed in frames {
-            match self.write_frame(alloc, &handed.frame) {
+            match self.write_frame(&handed.frame) {
                 Ok(()) => {}
                 Err(_) => {
                     self.parting = Some(DisconnectReason::Lost);
@@ -232,10 +297,10 @@ impl<D: ConnectionSource> PeerConnection<D> {
     }
 
     /// Gives the connection a frame.
-    fn write_frame(&mut self, alloc: Global, frame: &Frame) -> Result<(), ConnectionLost>
+    fn write_frame(&mut self, frame: &Frame) -> Result<(), ConnectionLost>
         ensures given { IsGiven (frame_octets frame.now) self.old.connection.sent self.new.connection.sent result }
     {
-        match encode(alloc, frame) {
+        match encode(self.alloc, frame) {
             Ok(octets) => self.connection.write(octets.as_slice()),
             Err(_) => Err(ConnectionLost::Memory),
         }
@@ -251,7 +316,8 @@ impl<D: ConnectionSource> PeerConnection<D> {
         }
     }
 
-    /// Tells why it is over: each time of one that had joined, and of others as of what may happen often.
+    /// Tells why it is over: each time of one that had joined, once an hour where the two stay apart, and of others as
+    /// of what may happen often.
     pub(crate) fn log_disconnect<L: Print>(
         &self,
         parting: DisconnectReason,
@@ -259,10 +325,12 @@ impl<D: ConnectionSource> PeerConnection<D> {
         log: &mut Log<'_, L>,
     ) {
         let happening = LogEvent::Disconnected(parting);
-        if self.has_joined {
-            log.log(&happening);
-        } else {
-            log.log_limited(&happening, now.reading);
+        match &parting {
+            DisconnectReason::ClocksDiffer(_) | DisconnectReason::SettingsDiffer(_) => {
+                log.log_hourly(&happening, now.reading);
+            }
+            _ if self.has_joined => log.log(&happening),
+            _ => log.log_limited(&happening, now.reading),
         }
     }
 
@@ -277,21 +345,30 @@ impl<D: ConnectionSource> PeerConnection<D> {
     }
 
     /// Says the frames that were held back, and DISCONNECT where this server begins its next volume.
-    pub(crate) fn send_frames(&mut self, alloc: Global, frames: &[OutboundFrame])
+    fn send_frames(&mut self, frames: &[OutboundFrame])
         ensures { Says (frames_of frames.now) self.old.connection.sent self.new.connection.sent }
     {
-        self.write(alloc, frames);
+        self.write(frames);
         if matches!(self.parting, Some(DisconnectReason::Rolled)) {
-            self.send_disconnect(alloc);
+            self.send_disconnect();
         }
     }
 
+    /// Says the notices that are due, and then the frames that were held back.
+    #[tactic(auto, using(crate::proofs::Given::says_behind))]
+    pub(crate) fn send_all(&mut self, frames: &[OutboundFrame], now: &Moment)
+        ensures { Says (frames_of frames.now) self.old.connection.sent self.new.connection.sent }
+    {
+        self.say_notices(now);
+        self.send_frames(frames);
+    }
+
     /// Says DISCONNECT.
-    pub(crate) fn send_disconnect(&mut self, alloc: Global)
+    pub(crate) fn send_disconnect(&mut self)
         ensures { (words : List FrameValue) × IsLastWord words
             × AreGiven self.old.connection.sent words self.new.connection.sent }
     {
-        let _ = self.write_frame(alloc, &DISCONNECT);
+        let _ = self.write_frame(&DISCONNECT);
         let _ = self.connection.flush();
     }
 
@@ -304,12 +381,15 @@ impl<D: ConnectionSource> PeerConnection<D> {
         !matches!(got, ReadOutcome::End | ReadOutcome::Forged)
     }
 
-    /// Gives it up where nothing came over it for too long, the shorter where another has come.
+    /// Gives it up where the partner didn't say in time what lets the two join, or where nothing came over it for too
+    /// long, the shorter where another has come.
     pub(crate) fn close_if_stale(&mut self, has_other: bool, now: &Moment)
         ensures { self.new.connection ≡ self.old.connection }
     {
-        if self.parting.is_none() && self.connection.is_timed_out(now.instant, has_other) {
-            self.parting = Some(DisconnectReason::Silent);
+        if let Some(missing) = self.overdue(now.instant) {
+            self.end(parting_without(missing));
+        } else if self.connection.is_timed_out(now.instant, has_other) {
+            self.end(DisconnectReason::Silent);
         }
     }
 
@@ -324,12 +404,14 @@ impl<D: ConnectionSource> PeerConnection<D> {
         }
     }
 
-    /// Returns whether the next one may begin soon: where one of the two began its next volume or stopped, or where
-    /// this one stood for a while.
-    pub(crate) fn is_followed_soon(&self, parting: &DisconnectReason, now: &Moment) -> bool {
+    /// How long the next one is waited for: briefly where one of the two began its next volume or stopped, or where this
+    /// one stood for a while; and long where the two stay apart.
+    pub(crate) fn pause(&self, parting: &DisconnectReason, now: &Moment) -> Pause {
         match parting {
-            DisconnectReason::Rolled | DisconnectReason::PartnerLeft => true,
-            _ => self.has_stood(now),
+            DisconnectReason::Rolled | DisconnectReason::PartnerLeft => Pause::Short,
+            DisconnectReason::ClocksDiffer(_) | DisconnectReason::SettingsDiffer(_) => Pause::Apart,
+            _ if self.has_stood(now) => Pause::Short,
+            _ => Pause::Long,
         }
     }
 

@@ -47,5 +47,5 @@ pub entrant_is_unused : (w : PeerEntry) (chunk : List ℕ) (e : AuthenticatedPee
     → IsUnused e.passage
 entrant_is_unused (Proof o) chunk e h =
     unused_behind (Authenticated h.joined) e.passage _ _ h.first (ap (λ w. w.number) h.proof.3.sends)
-entrant_is_unused (Greeting heard) chunk e h = open_is_unused e.passage h.1
-entrant_is_unused Callee chunk e h = open_is_unused e.passage h.0
+entrant_is_unused (Greeting heard) chunk e h = open_is_unused e.passage h.1.passage
+entrant_is_unused Callee chunk e h = open_is_unused e.passage h.passage

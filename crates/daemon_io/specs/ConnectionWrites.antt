@@ -4,6 +4,7 @@ use Rattle.std.specs.Io.KnownBytes.{append_known, Appends, Keeps}
 use Rattle.std.specs.declared.time.Instant.{Instant}
 use Rattle.daemon_io.specs.declared.connection.ConnectionLost.{ConnectionLost}
 use Rattle.daemon_io.specs.declared.connection.ConnectionLost.TheVariants.{Memory, Spent}
+use Rattle.daemon_io.specs.declared.notice_use.NoticeUse.{NoticeUse}
 use Rattle.link_auth.specs.Passing.{Puts}
 use Rattle.link_auth.specs.declared.secure_channel.SecureChannel.{SecureChannel}
 use Rattle.link_auth.specs.declared.secure_channel.SecureChannel.TheVariants.{Plain, Authenticated}
@@ -17,11 +18,12 @@ pub record Sent : Type 0 where
   pub given : Option (List ℕ)
   pub passage : SecureChannel
 
--- a connection: that; when octets came last, before when it began; and whether any came
+-- a connection: that; when octets came last, before when it began; whether any came; and whether notices go over it
 pub record ConnectionState : Type 0 where
   pub sent : Sent
   pub heard : Instant
   pub has_heard : Bool
+  pub notices : NoticeUse
 
 -- of the octets that wait the first so many went to the stream
 abbrev pub IsPassedOn : Option (List ℕ) → List ℕ → Option (List ℕ) → List ℕ → Type 0

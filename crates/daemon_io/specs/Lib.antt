@@ -1,2 +1,3 @@
 pub mod ConnectionWrites
+pub mod NoticeUses
 pub mod Timeouts

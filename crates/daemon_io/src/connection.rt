@@ -4,9 +4,11 @@ ghost use Rattle.std.specs.Prelude.{◌≡◌, ◌≤◌, ◌↔◌, ◌⊎◌, 
 ghost use Rattle.daemon_io.specs.declared.connection.ConnectionLost.TheVariants.{Memory, Spent};
 ghost use Rattle.std.specs.Io.KnownBytes.{Keeps};
 ghost use Rattle.daemon_io.specs.ConnectionWrites.{IsGiven, OnlyHears};
+ghost use Rattle.daemon_io.specs.NoticeUses.{IsNoticeUse};
 ghost use Rattle.daemon_io.specs.Timeouts.{seconds_from, IsTimedOut};
 
 use crate::non_blocking_stream::NonBlockingStream;
+use crate::notice_use::NoticeUse;
 use crate::send_buffer::SendBuffer;
 use link_auth::{AuthenticatedPeer, LinkFault, SecureChannel};
 use std::alloc::Global;
@@ -70,6 +72,8 @@ pub struct Connection<S: NonBlockingStream> {
     heard: Instant,
     /// Whether any came.
     has_heard: bool,
+    /// Whether notices go over it, as the nonces of its ends say.
+    notices: NoticeUse,
 }
 
 impl<S: NonBlockingStream> Model for Connection<S> {
@@ -82,6 +86,7 @@ impl<S: NonBlockingStream> Model for Connection<S> {
       sent = record { given = given (S.contents c.stream) c.unsent; passage = c.passage };
       heard = c.heard;
       has_heard = c.has_heard;
+      notices = c.notices;
     } };
 }
 
@@ -146,10 +151,17 @@ impl<S: NonBlockingStream> Connection<S> {
         entrant: AuthenticatedPeer,
         now: Instant,
     ) -> Connection<S>
-        ensures { result.sent.passage ≡ entrant.passage }
+        ensures passage { result.sent.passage ≡ entrant.passage }
+        ensures notices { IsNoticeUse entrant.nonces result.notices }
     {
-        let AuthenticatedPeer { passage, ahead, .. } = entrant;
+        let AuthenticatedPeer {
+            passage,
+            ahead,
+            nonces,
+            ..
+        } = entrant;
         let has_heard = !ahead.is_empty();
+        let notices = NoticeUse::of(&nonces);
         Connection {
             alloc,
             stream,
@@ -158,6 +170,7 @@ impl<S: NonBlockingStream> Connection<S> {
             unsent,
             heard: now,
             has_heard,
+            notices,
         }
     }
 
@@ -165,6 +178,7 @@ impl<S: NonBlockingStream> Connection<S> {
     /// of memory.
     pub fn read(&mut self, buffer: &mut [u8], now: Instant) -> ReadOutcome
         ensures hears { OnlyHears self.old.sent self.new.sent }
+        ensures notices { self.new.notices ≡ self.old.notices }
         ensures count { (count : ℕ) → result ≡ ReadOutcome.Octets count → count ≤ length buffer.new }
     {
         if !self.ahead.is_empty() {
@@ -188,6 +202,7 @@ impl<S: NonBlockingStream> Connection<S> {
     fn take(&mut self, buffer: &mut [u8], count: usize) -> ReadOutcome
         requires { count ≤ length buffer.old }
         ensures hears { OnlyHears self.old.sent self.new.sent }
+        ensures notices { self.new.notices ≡ self.old.notices }
         ensures count { (count : ℕ) → result ≡ ReadOutcome.Octets count → count ≤ length buffer.new }
     {
         match self.passage.decode(self.alloc, &buffer[..count]) {
@@ -204,6 +219,7 @@ impl<S: NonBlockingStream> Connection<S> {
     #[tactic(auto, using(crate::proofs::Given::put_is_lost, crate::proofs::Given::nothing_given))]
     pub fn write(&mut self, octets: &[u8]) -> Result<(), ConnectionLost>
         ensures given { IsGiven octets.now self.old.sent self.new.sent result }
+        ensures notices { self.new.notices ≡ self.old.notices }
     {
         let sent = match self.passage.encode(self.alloc, octets) {
             Ok(sent) => sent,
@@ -220,6 +236,7 @@ impl<S: NonBlockingStream> Connection<S> {
     pub fn flush(&mut self) -> Result<(), ConnectionLost>
         ensures given { Keeps self.old.sent.given self.new.sent.given }
         ensures passage { self.new.sent.passage ≡ self.old.sent.passage }
+        ensures notices { self.new.notices ≡ self.old.notices }
         ensures stream { (result ≡ Err Memory → ⊥) × (result ≡ Err Spent → ⊥) }
     {
         if self.unsent.write_to(&mut self.stream).is_err() {
@@ -236,6 +253,13 @@ impl<S: NonBlockingStream> Connection<S> {
         ensures { result ≡ self.now.has_heard }
     {
         self.has_heard
+    }
+
+    /// Returns whether notices go over it.
+    pub fn notices(&self) -> NoticeUse
+        ensures { result ≡ self.now.notices }
+    {
+        self.notices
     }
 
     /// Returns whether it is to be given up: nothing came at first, or for long, or a second connection has come

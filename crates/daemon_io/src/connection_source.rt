@@ -1,23 +1,44 @@
 //! The door by which connections with the partner come.
 
+ghost use Rattle.std.specs.Prelude.{◌≡◌, take};
+ghost use Rattle.link_notices.specs.Nonces.{EndsSo};
+
 use crate::non_blocking_stream::NonBlockingStream;
 use crate::polling::PollRegistry;
+use link_notices::NONCE_END;
 use mio::net::{TcpListener, TcpStream};
 use std::io;
 use std::net::{Net, SocketAddr};
 use std::random::RandomSource;
 use std::time::{Duration, Instant};
 
-/// How many seconds the primary waits before it calls again behind a connection that stood.
-const FIRST_PAUSE: u64 = 1;
+/// How long a source waits before it calls again.
+#[derive(Clone, Copy, Debug, PartialEq, Eq)]
+pub enum Pause {
+    /// 1 s, behind a connection that stood.
+    Short,
+    /// 2 s, behind any other, and behind a call that came to none.
+    Long,
+    /// 10 s, behind a connection of two servers that stay apart.
+    Apart,
+}
 
-/// How many seconds it waits behind any other, and behind a call that came to none.
-const LATER_PAUSE: u64 = 2;
+impl Pause {
+    /// How many seconds it lasts.
+    fn seconds(self) -> u64 {
+        match self {
+            Pause::Short => 1,
+            Pause::Long => 2,
+            Pause::Apart => 10,
+        }
+    }
+}
 
 /// How many seconds a call may last.
 const LONGEST_CALL: u64 = 5;
 
-/// A connection that has come, and 32 octets that the system's generator drew for it alone.
+/// A connection that has come, and its nonce: 24 octets that the system's generator drew for it alone, and the mark of
+/// an end that understands notices.
 #[derive(Drop)]
 pub struct NewConnection<S: NonBlockingStream> {
     pub stream: S,
@@ -34,8 +55,8 @@ pub trait ConnectionSource: Drop {
     /// Closes another connection, while one stands. Returns whether one had come.
     fn reject_next(&mut self) -> bool;
 
-    /// A connection is over, which had stood for a while or not: the next call is a pause later.
-    fn back_off(&mut self, has_stood: bool, now: Instant);
+    /// A connection is over: the next call is a pause later.
+    fn back_off(&mut self, pause: Pause, now: Instant);
 }
 
 /// A call of the partner's address.
@@ -96,9 +117,21 @@ fn looked_at(call: ConnectAttempt, now: Instant) -> ConnectProgress {
     ConnectProgress::Over
 }
 
-/// The moment that is so many seconds later.
-fn later(now: Instant, seconds: u64) -> Instant {
-    now.checked_add(Duration::from_secs(seconds)).unwrap_or(now)
+/// The moment that is a pause later.
+fn later(now: Instant, pause: Pause) -> Instant {
+    now.checked_add(Duration::from_secs(pause.seconds()))
+        .unwrap_or(now)
+}
+
+/// The nonce of an end that understands notices, of the octets that were drawn for it.
+fn nonce_of(drawn: &[u8; 24]) -> [u8; 32]
+    ensures drawn { take 24 result ≡ drawn.now }
+    ensures end { EndsSo result }
+{
+    let mut nonce = [0u8; 32];
+    nonce[..24].copy_from_slice(drawn);
+    nonce[24..].copy_from_slice(&NONCE_END);
+    nonce
 }
 
 impl Connector {
@@ -107,7 +140,7 @@ impl Connector {
         if now < self.next {
             return;
         }
-        self.next = later(now, LATER_PAUSE);
+        self.next = later(now, Pause::Long);
         let Ok(mut stream) = TcpStream::connect(net, self.address) else {
             return;
         };
@@ -134,7 +167,7 @@ impl Connector {
             }
             ConnectProgress::Answered(stream) => Some(stream),
             ConnectProgress::Over => {
-                self.next = later(now, LATER_PAUSE);
+                self.next = later(now, Pause::Long);
                 None
             }
         }
@@ -202,9 +235,12 @@ impl<R: Net + RandomSource> ConnectionSource for SystemConnectionSource<'_, R> {
             SourceMode::Calling(calling) => calling.answered(self.system, &self.watched, now),
         }?;
         stream.set_nodelay(true).ok()?;
-        let mut nonce = [0u8; 32];
-        self.system.fill_bytes(&mut nonce).ok()?;
-        Some(NewConnection { stream, nonce })
+        let mut drawn = [0u8; 24];
+        self.system.fill_bytes(&mut drawn).ok()?;
+        Some(NewConnection {
+            stream,
+            nonce: nonce_of(&drawn),
+        })
     }
 
     fn reject_next(&mut self) -> bool {
@@ -214,9 +250,8 @@ impl<R: Net + RandomSource> ConnectionSource for SystemConnectionSource<'_, R> {
         }
     }
 
-    fn back_off(&mut self, has_stood: bool, now: Instant) {
+    fn back_off(&mut self, pause: Pause, now: Instant) {
         if let SourceMode::Calling(calling) = &mut self.way {
-            let pause = if has_stood { FIRST_PAUSE } else { LATER_PAUSE };
             calling.next = later(now, pause);
         }
     }

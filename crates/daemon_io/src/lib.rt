@@ -9,6 +9,9 @@
 //! Of the connections that come by the door nothing counts at first: they wait side by side ([`PendingPeers`]) until
 //! one is let in (`link_auth`), and has 5 s for that.
 //!
+//! A connection says whether notices go over it beside the frames ([`NoticeUse`]): where both ends' nonces end with the
+//! mark of those that understand them. Each nonce that is drawn here ends so.
+//!
 //! What is written to a stream that takes no more now waits in [`SendBuffer`], and goes out at a later turn.
 //!
 //! ```text
@@ -27,16 +30,18 @@ mod control;
 mod control_client;
 mod datagrams;
 mod non_blocking_stream;
+mod notice_use;
 mod pending_peer;
 mod pending_peers;
 mod polling;
 mod send_buffer;
 
 pub use connection::{Connection, ConnectionLost, IdleSecond, ReadOutcome};
-pub use connection_source::{ConnectionSource, NewConnection, SystemConnectionSource};
+pub use connection_source::{ConnectionSource, NewConnection, Pause, SystemConnectionSource};
 pub use control::{Control, ControlSocket};
 pub use datagrams::{Datagrams, UdpDatagrams};
 pub use non_blocking_stream::NonBlockingStream;
+pub use notice_use::NoticeUse;
 pub use pending_peer::PeerRejected;
 pub use pending_peers::PendingPeers;
 pub use polling::{PollRegistry, Poller, Readiness};

@@ -19,6 +19,10 @@ room: enough
 partner: normal
 link: connected since 2026-11-23T19:01:40.000Z
 heard: 2026-11-23T19:01:44.419Z
+notices: understood
+partner_program: fengtuyas 1.0.0
+partner_clock: between 12 ms behind and 5 ms ahead
+settings: agree
 units: 100 own, 50 partners, 90 delegated, 12 expired, 4 released
 due: 7
 marked: 1
@@ -47,6 +51,10 @@ room: full
 partner: waiting since 2026-11-23T19:00:00.000Z
 link: apart
 heard: never
+notices: none, there is no connection
+partner_program: unknown
+partner_clock: unknown
+settings: unknown
 units: 0 own, 0 partners, 0 delegated, 0 expired, 0 released
 due: 0
 marked: 0
@@ -64,8 +72,9 @@ const SERVING_JSON: &str = "\
 {\"ahead_ms\":1203,\"answers\":{\"advertise\":31,\"reply\":435},\"clock\":\"right\",\"due\":7,\"held\":6,\
 \"journal\":\"whole\",\"late\":3,\"marked\":1,\
 \"messages\":{\"rebind\":2,\"release\":5,\"renew\":400,\"request\":30,\"solicit\":31},\
-\"partner\":{\"connected_since_ms\":1795460500000,\"heard_ms\":1795460504419,\"link\":\"connected\",\
-\"standing\":\"normal\",\"standing_since_ms\":null},\"reading_ms\":1795460505623,\
+\"partner\":{\"clock\":{\"least_ms\":-12,\"most_ms\":5},\"connected_since_ms\":1795460500000,\
+\"heard_ms\":1795460504419,\"link\":\"connected\",\"notices\":\"understood\",\"program\":\"fengtuyas 1.0.0\",\
+\"settings\":[],\"standing\":\"normal\",\"standing_since_ms\":null},\"reading_ms\":1795460505623,\
 \"refused\":{\"bad_prefix_length\":0,\"duplicate_id\":0,\"ignored\":0,\"no_client_id\":0,\"not_ours\":9,\
 \"option_length\":0,\"server_id_missing\":0,\"server_id_present\":0,\"short\":1,\"too_deep\":0,\"too_many_ias\":0},\
 \"role\":\"primary\",\"serving\":{\"is\":true},\
@@ -99,6 +108,7 @@ fengtuyas_server_info{role=\"primary\"} 1
 # HELP fengtuyas_clock Whether the clock may go on with the journal.
 fengtuyas_clock{fengtuyas_clock=\"right\"} 1
 fengtuyas_clock{fengtuyas_clock=\"behind\"} 0
+fengtuyas_clock{fengtuyas_clock=\"set\"} 0
 # TYPE fengtuyas_clock_timestamp_seconds gauge
 # UNIT fengtuyas_clock_timestamp_seconds seconds
 # HELP fengtuyas_clock_timestamp_seconds What the clock reads.
@@ -117,6 +127,9 @@ fengtuyas_not_serving{why=\"clock_behind\"} 0
 fengtuyas_not_serving{why=\"journal_older\"} 0
 fengtuyas_not_serving{why=\"volume_full\"} 0
 fengtuyas_not_serving{why=\"goes_on_after_restart\"} 0
+fengtuyas_not_serving{why=\"clock_set\"} 0
+fengtuyas_not_serving{why=\"asks_partner_clock\"} 0
+fengtuyas_not_serving{why=\"partner_clock_differs\"} 0
 # TYPE fengtuyas_journal stateset
 # HELP fengtuyas_journal Whether the journal has all that the partner took of it.
 fengtuyas_journal{fengtuyas_journal=\"whole\"} 1
@@ -170,6 +183,12 @@ fengtuyas_link_connected_timestamp_seconds 1795460500.000
 # UNIT fengtuyas_partner_heard_timestamp_seconds seconds
 # HELP fengtuyas_partner_heard_timestamp_seconds When the partner's last message was taken.
 fengtuyas_partner_heard_timestamp_seconds 1795460504.419
+# TYPE fengtuyas_partner_clock stateset
+# HELP fengtuyas_partner_clock Whether the partner's clock and this one may both be right.
+fengtuyas_partner_clock{fengtuyas_partner_clock=\"unknown\"} 0
+fengtuyas_partner_clock{fengtuyas_partner_clock=\"agrees\"} 1
+fengtuyas_partner_clock{fengtuyas_partner_clock=\"differs\"} 0
+fengtuyas_partner_clock{fengtuyas_partner_clock=\"unclear\"} 0
 # TYPE fengtuyas_units gauge
 # HELP fengtuyas_units How many units are what.
 fengtuyas_units{state=\"own\"} 100

@@ -1,51 +1,11 @@
 //! Lines of a server's log, by their levels.
 
+use crate::paper::Paper;
 use binding_rules::Counter;
 use lead_time::Reading;
 use server_log::{DisconnectReason, Log, LogEvent, StateWatch};
 use server_status::{JournalShortage, JournalState};
-use std::cell::RefCell;
-use std::fmt::{Display, Write};
-use std::io;
 use std::test::Fail;
-
-/// Where lines are kept.
-#[derive(Drop)]
-struct Paper {
-    text: RefCell<String>,
-}
-
-impl Print for Paper {
-    fn print<D: Display + Drop>(&self, value: D) -> io::Result<()> {
-        let Ok(mut text) = self.text.try_borrow_mut() else {
-            return Ok(());
-        };
-        let _ = write!(text, "{value}");
-        Ok(())
-    }
-
-    fn println<D: Display + Drop>(&self, value: D) -> io::Result<()> {
-        let Ok(mut text) = self.text.try_borrow_mut() else {
-            return Ok(());
-        };
-        let _ = writeln!(text, "{value}");
-        Ok(())
-    }
-
-    fn write_all(&self, _bytes: &[u8]) -> io::Result<()> {
-        Ok(())
-    }
-}
-
-impl Paper {
-    /// Whether these are the lines so far.
-    fn has(&self, lines: &str) -> bool {
-        match self.text.try_borrow() {
-            Ok(text) => text.as_str() == lines,
-            Err(_) => false,
-        }
-    }
-}
 
 const LINES: &str = "\
 <3>node: serves nobody: its journal lacks messages that its partner took: it was put back from a copy, or is \
@@ -60,9 +20,7 @@ another's. Don't begin it again: see \"A lost disk\"
 
 #[test]
 fn tells_how_a_server_began_again(rt: HostRuntime) -> Result<(), Fail> {
-    let paper = Paper {
-        text: RefCell::new(String::new(rt.alloc())),
-    };
+    let paper = Paper::new(rt.alloc());
     let log = Log::new(rt.alloc(), &paper);
     let events = [
         LogEvent::JournalOlder,
@@ -97,9 +55,7 @@ another's. Don't begin it again: see \"A lost disk\"
 
 #[test]
 fn tells_once_that_a_journal_is_older(rt: HostRuntime) -> Result<(), Fail> {
-    let paper = Paper {
-        text: RefCell::new(String::new(rt.alloc())),
-    };
+    let paper = Paper::new(rt.alloc());
     let log = Log::new(rt.alloc(), &paper);
     let (Some(older), Some(later)) = (lacking(5), lacking(6)) else {
         panic!(rt; "its numbers are small");

@@ -3,10 +3,11 @@
 use crate::statuses::serving;
 use binding_rules::Counter;
 use lead_time::Reading;
+use link_notices::ClockVerdict;
 use prefix_range::{Prefix, read_text};
 use server_status::{
     ClockState, JournalShortage, JournalState, NotServing, PartnerState, ServerStatus,
-    ServingState, StatusFormat, serving_of,
+    ServingInput, ServingState, StatusFormat, serving_of,
 };
 use server_timers::Room;
 use std::alloc::Global;
@@ -20,7 +21,7 @@ struct Reason {
     metric: &'static str,
 }
 
-const REASONS: [Reason; 5] = [
+const REASONS: [Reason; 8] = [
     Reason {
         why: NotServing::WaitsForPartner,
         line: "serving: no, waits for its partner's answer\nrole: primary\n",
@@ -51,6 +52,24 @@ const REASONS: [Reason; 5] = [
         json: "\"serving\":{\"is\":false,\"seconds\":21,\"why\":\"goes_on_after_restart\"}",
         metric: "fengtuyas_not_serving{why=\"goes_on_after_restart\"} 1\n",
     },
+    Reason {
+        why: NotServing::ClockSet,
+        line: "serving: no, clock set\nrole: primary\n",
+        json: "\"serving\":{\"is\":false,\"why\":\"clock_set\"}",
+        metric: "fengtuyas_not_serving{why=\"clock_set\"} 1\n",
+    },
+    Reason {
+        why: NotServing::AsksPartnerClock,
+        line: "serving: no, asks its partner's clock\nrole: primary\n",
+        json: "\"serving\":{\"is\":false,\"why\":\"asks_partner_clock\"}",
+        metric: "fengtuyas_not_serving{why=\"asks_partner_clock\"} 1\n",
+    },
+    Reason {
+        why: NotServing::PartnerClockDiffers,
+        line: "serving: no, its partner's clock differs\nrole: primary\n",
+        json: "\"serving\":{\"is\":false,\"why\":\"partner_clock_differs\"}",
+        metric: "fengtuyas_not_serving{why=\"partner_clock_differs\"} 1\n",
+    },
 ];
 
 /// How many lines of metrics name a reason that holds.
@@ -65,7 +84,7 @@ fn reasons_that_hold(text: &str) -> usize {
 }
 
 /// Whether a status says this reason in each form, and metrics no other.
-fn says_why(alloc: Global, status: &ServerStatus, reason: &Reason) -> Result<bool, Fail> {
+fn says_why(alloc: Global, status: &ServerStatus<'_>, reason: &Reason) -> Result<bool, Fail> {
     let lines = status.text(alloc, StatusFormat::Lines)?;
     let json = status.text(alloc, StatusFormat::Json)?;
     let metrics = status.text(alloc, StatusFormat::Metrics)?;
@@ -108,7 +127,7 @@ fn says_each_reason_in_three_forms(rt: HostRuntime) -> Result<(), Fail> {
 }
 
 /// Whether a status says this of its journal, and JSON and metrics that it is older.
-fn says_it_is_older(alloc: Global, status: &ServerStatus, line: &str) -> Result<bool, Fail> {
+fn says_it_is_older(alloc: Global, status: &ServerStatus<'_>, line: &str) -> Result<bool, Fail> {
     let lines = status.text(alloc, StatusFormat::Lines)?;
     let json = status.text(alloc, StatusFormat::Json)?;
     let metrics = status.text(alloc, StatusFormat::Metrics)?;
@@ -153,109 +172,134 @@ fn says_what_a_journal_lacks(rt: HostRuntime) -> Result<(), Fail> {
     Ok(())
 }
 
-/// What decides whether a server serves.
-#[derive(Clone, Copy)]
-struct Server {
-    journal: JournalState,
-    clock: ClockState,
-    goes_on_in: Option<u64>,
-    standing: PartnerState,
-    room: Room,
-}
-
-impl Server {
-    fn serving(&self) -> ServingState {
-        serving_of(
-            &self.journal,
-            self.clock,
-            self.goes_on_in,
-            &self.standing,
-            self.room,
-        )
-    }
-}
-
 const OLDER: ServingState = ServingState::No(NotServing::JournalOlder);
 
 const BEHIND: ServingState = ServingState::No(NotServing::ClockBehind);
 
+const SET: ServingState = ServingState::No(NotServing::ClockSet);
+
+const ASKS: ServingState = ServingState::No(NotServing::AsksPartnerClock);
+
 const HOLDS_OFF: ServingState = ServingState::No(NotServing::GoesOnIn { seconds: 21 });
+
+const DIFFERS: ServingState = ServingState::No(NotServing::PartnerClockDiffers);
 
 const WAITS: ServingState = ServingState::No(NotServing::WaitsForPartner);
 
 const FULL: ServingState = ServingState::No(NotServing::VolumeFull);
 
 /// A server with every reason against it.
-fn with_every_reason(shortage: JournalShortage, since: Reading) -> Server {
-    Server {
+fn with_every_reason(shortage: JournalShortage, since: Reading) -> ServingInput {
+    ServingInput {
         journal: JournalState::Older(shortage),
         clock: ClockState::Behind,
+        asks_clock: true,
         goes_on_in: Some(21),
         standing: PartnerState::Waiting { since },
+        partner_clock: Some(ClockVerdict::TooFarOff),
         room: Room::Full,
     }
 }
 
 /// That server, then each with a reason less than the one before, and what is said of it.
-fn with_fewer_reasons(every: Server) -> [(Server, ServingState); 6] {
-    let whole = Server {
-        journal: JournalState::Whole,
-        ..every
-    };
-    let right = Server {
-        clock: ClockState::Right,
-        ..whole
-    };
-    let begun = Server {
-        goes_on_in: None,
-        ..right
-    };
-    let normal = Server {
-        standing: PartnerState::Normal,
-        ..begun
-    };
-    let well = Server {
-        room: Room::FullWithinHour,
-        ..normal
-    };
+fn with_fewer_reasons(every: ServingInput) -> [(ServingInput, ServingState); 9] {
+    let mut whole = every;
+    whole.journal = JournalState::Whole;
+    let mut set = whole;
+    set.clock = ClockState::Set;
+    let mut right = set;
+    right.clock = ClockState::Right;
+    let mut begun = right;
+    begun.asks_clock = false;
+    let mut waits = begun;
+    waits.goes_on_in = None;
+    let mut agrees = waits;
+    agrees.partner_clock = Some(ClockVerdict::Agrees);
+    let mut normal = agrees;
+    normal.standing = PartnerState::Normal;
+    let mut well = normal;
+    well.room = Room::FullWithinHour;
     [
         (every, OLDER),
         (whole, BEHIND),
-        (right, HOLDS_OFF),
-        (begun, WAITS),
+        (set, SET),
+        (right, ASKS),
+        (begun, HOLDS_OFF),
+        (waits, DIFFERS),
+        (agrees, WAITS),
         (normal, FULL),
         (well, ServingState::Yes),
     ]
 }
 
-/// Servers whose partner is taken for down, each with one reason or none, and what is said of it.
-fn with_one_reason(shortage: JournalShortage, since: Reading) -> [(Server, ServingState); 5] {
-    let well = Server {
+/// A server that takes its partner for down, and has no reason against it.
+fn without_reason(since: Reading) -> ServingInput {
+    ServingInput {
         journal: JournalState::Whole,
         clock: ClockState::Right,
+        asks_clock: false,
         goes_on_in: None,
         standing: PartnerState::Down { since },
+        partner_clock: None,
         room: Room::Enough,
-    };
-    let (mut older, mut behind, mut holds_off, mut full) = (well, well, well, well);
+    }
+}
+
+/// That server, and others with one reason each, and what is said of it.
+fn with_one_reason(
+    shortage: JournalShortage,
+    well: ServingInput,
+) -> [(ServingInput, ServingState); 7] {
+    let (mut older, mut behind, mut set) = (well, well, well);
     older.journal = JournalState::Older(shortage);
     behind.clock = ClockState::Behind;
+    set.clock = ClockState::Set;
+    let (mut asks, mut holds_off, mut full) = (well, well, well);
+    asks.asks_clock = true;
     holds_off.goes_on_in = Some(21);
     full.room = Room::Full;
     [
         (well, ServingState::Yes),
         (older, OLDER),
         (behind, BEHIND),
+        (set, SET),
+        (asks, ASKS),
         (holds_off, HOLDS_OFF),
         (full, FULL),
     ]
 }
 
+/// Servers that don't wait for their partner, of whose clock something is known, and what is said of them.
+fn without_waiting(well: ServingInput) -> [(ServingInput, ServingState); 3] {
+    let (mut differs, mut unclear, mut normal) = (well, well, well);
+    differs.partner_clock = Some(ClockVerdict::TooFarOff);
+    unclear.partner_clock = Some(ClockVerdict::Unknown);
+    normal.partner_clock = Some(ClockVerdict::TooFarOff);
+    normal.standing = PartnerState::Normal;
+    [
+        (differs, ServingState::Yes),
+        (unclear, ServingState::Yes),
+        (normal, ServingState::Yes),
+    ]
+}
+
+/// Servers that wait for their partner, of whose clock something is known or nothing, and what is said of them.
+fn with_waiting(well: ServingInput, since: Reading) -> [(ServingInput, ServingState); 3] {
+    let (mut differs, mut unclear, mut unknown) = (well, well, well);
+    differs.partner_clock = Some(ClockVerdict::TooFarOff);
+    differs.standing = PartnerState::Waiting { since };
+    unclear.partner_clock = Some(ClockVerdict::Unknown);
+    unclear.standing = PartnerState::Waiting { since };
+    unknown.partner_clock = None;
+    unknown.standing = PartnerState::Waiting { since };
+    [(differs, DIFFERS), (unclear, WAITS), (unknown, WAITS)]
+}
+
 /// Whether of each of these servers is said what stands beside it.
-fn say_so(servers: &[(Server, ServingState)]) -> bool {
+fn say_so(servers: &[(ServingInput, ServingState)]) -> bool {
     servers
         .iter()
-        .all(|(server, said)| server.serving() == *said)
+        .all(|(server, said)| serving_of(server) == *said)
 }
 
 #[test]
@@ -275,6 +319,14 @@ fn gives_the_one_reason_that_holds(rt: HostRuntime) -> Result<(), Fail> {
         panic!(rt; "its numbers are small");
     };
     let since = Reading::new(1_795_460_400_000)?;
-    assert!(rt; say_so(&with_one_reason(shortage, since)));
+    assert!(rt; say_so(&with_one_reason(shortage, without_reason(since))));
+    Ok(())
+}
+
+#[test]
+fn minds_its_partners_clock_where_it_waits(rt: HostRuntime) -> Result<(), Fail> {
+    let since = Reading::new(1_795_460_400_000)?;
+    assert!(rt; say_so(&without_waiting(without_reason(since))));
+    assert!(rt; say_so(&with_waiting(without_reason(since), since)));
     Ok(())
 }

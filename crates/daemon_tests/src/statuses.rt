@@ -2,14 +2,37 @@
 
 use binding_rules::Role;
 use lead_time::{LeadTimeError, Reading};
+use link_notices::{ClockRange, ClockVerdict};
 use server_status::{
     AnswerCounts, ClockState, FaultCounts, JournalState, LinkState, MessageCounts, NotServing,
-    PartnerState, ServerStatus, ServingState, SyncSummary, Traffic, UnitCounts, VolumeStatus,
+    NoticeState, PartnerNotices, PartnerState, ServerStatus, ServingState, SyncSummary, Traffic,
+    UnitCounts, VolumeStatus,
 };
 use server_timers::{RollBlocked, RollState, Room};
 
-/// A server that has served for a while.
-pub(crate) fn serving() -> Result<ServerStatus, LeadTimeError> {
+/// What a partner told that agrees in all.
+fn agreeing() -> PartnerNotices<'static> {
+    PartnerNotices {
+        state: NoticeState::Understood,
+        program: Some(("fengtuyas", "1.0.0")),
+        clock: Some(ClockRange {
+            least: -12,
+            most: 5,
+        }),
+        verdict: Some(ClockVerdict::Agrees),
+        settings: Some(&[]),
+    }
+}
+
+/// A server that has served for a while beside a partner that agrees in all.
+pub(crate) fn serving() -> Result<ServerStatus<'static>, LeadTimeError> {
+    serving_with(agreeing())
+}
+
+/// A server that has served for a while, whose partner told this.
+pub(crate) fn serving_with<'a>(
+    notices: PartnerNotices<'a>,
+) -> Result<ServerStatus<'a>, LeadTimeError> {
     Ok(ServerStatus {
         role: Role::Primary,
         reading: Reading::new(1_795_460_505_623)?,
@@ -65,11 +88,19 @@ pub(crate) fn serving() -> Result<ServerStatus, LeadTimeError> {
         }),
         serving: ServingState::Yes,
         journal: JournalState::Whole,
+        notices,
     })
 }
 
 /// A server whose clock is behind, and which waits for its partner since it began.
-pub(crate) fn waiting() -> Result<ServerStatus, LeadTimeError> {
+pub(crate) fn waiting() -> Result<ServerStatus<'static>, LeadTimeError> {
+    waiting_with(PartnerNotices::NONE)
+}
+
+/// The same of a server whose partner told this.
+pub(crate) fn waiting_with<'a>(
+    notices: PartnerNotices<'a>,
+) -> Result<ServerStatus<'a>, LeadTimeError> {
     Ok(ServerStatus {
         role: Role::Secondary,
         reading: Reading::new(1_795_460_400_000)?,
@@ -93,5 +124,6 @@ pub(crate) fn waiting() -> Result<ServerStatus, LeadTimeError> {
         syncs: None,
         serving: ServingState::No(NotServing::ClockBehind),
         journal: JournalState::Whole,
+        notices,
     })
 }

@@ -3,7 +3,7 @@
 use server_status::{ControlReply, ControlRequest, ControlVerdict, ShutdownMode, StatusFormat};
 use std::test::Fail;
 
-const REQUESTS: [(&str, ControlRequest); 8] = [
+const REQUESTS: [(&str, ControlRequest); 9] = [
     ("status", ControlRequest::Status(StatusFormat::Lines)),
     ("status json", ControlRequest::Status(StatusFormat::Json)),
     (
@@ -18,9 +18,13 @@ const REQUESTS: [(&str, ControlRequest); 8] = [
         ControlRequest::PartnerDown,
     ),
     ("partner-normal", ControlRequest::PartnerNormal),
+    (
+        "clock-accepted the clock is right",
+        ControlRequest::AcceptClock,
+    ),
 ];
 
-const NO_REQUESTS: [&str; 7] = [
+const NO_REQUESTS: [&str; 9] = [
     "",
     "status ",
     "Status",
@@ -28,6 +32,8 @@ const NO_REQUESTS: [&str; 7] = [
     "partner-down",
     "partner-down the partner is stopped.",
     "partner-normal\n",
+    "clock-accepted",
+    "clock-accepted the partner is stopped",
 ];
 
 #[test]

@@ -12,6 +12,7 @@ use Rattle.link_auth.specs.declared.handshake_role.HandshakeRole.TheVariants.{In
 use Rattle.link_auth.specs.Handshake.{Opened}
 use Rattle.link_auth.specs.KeyHandshakes.{Hears as OpeningHears}
 use Rattle.link_auth.specs.declared.handshake.RecordChannel.{RecordChannel as JoinedValue}
+use Rattle.link_auth.specs.declared.key_handshake.PeerNonces.{PeerNonces}
 use Rattle.link_auth.specs.declared.key_handshake.HandshakeProgress.TheVariants.{More, Joined}
 use Rattle.link_auth.specs.declared.fault.LinkFault.{LinkFault}
 use Rattle.link_auth.specs.declared.fault.LinkFault.TheVariants.{Forged as ForgedProof, Memory as NoMemory}
@@ -52,18 +53,20 @@ abbrev pub fault_of : LinkFault → EntryFault
 fault_of NoMemory = Memory
 fault_of _ = Forged
 
--- The other end has the key, and what its records behind the proof say has come already.
+-- The other end has the key, what its records behind the proof say has come already, and both nonces are known.
 pub record IsProved (o : Opened) (chunk : List ℕ) (e : AuthenticatedPeer) : Type 0 where
   pub joined : JoinedValue
+  pub nonces : PeerNonces
   pub behind : ℕ
-  pub proof : OpeningHears o chunk (Ok (Joined joined e.answer behind))
+  pub proof : OpeningHears o chunk (Ok (Joined joined e.answer nonces behind))
+  pub known : e.nonces ≡ Some nonces
   pub first : Takes (Authenticated joined) (drop (length chunk - behind) chunk) e.ahead.items e.passage
 
 -- It hasn't: its proof is wrong, or a record behind that.
 abbrev pub IsForged : Opened → (chunk : List ℕ) → Type 0
 IsForged o chunk = OpeningHears o chunk (Err ForgedProof)
-    ⊎ ((joined : JoinedValue) × (answer : Option (List ℕ)) × (behind : ℕ)
-    × OpeningHears o chunk (Ok (Joined joined answer behind)))
+    ⊎ ((joined : JoinedValue) × (answer : Option (List ℕ)) × (nonces : PeerNonces) × (behind : ℕ)
+    × OpeningHears o chunk (Ok (Joined joined answer nonces behind)))
 
 abbrev pub Proves : Opened → (chunk : List ℕ) → Result EntryProgress EntryFault → Type 0
 Proves o chunk (Ok (Waits (Proof more) answer)) = OpeningHears o chunk (Ok (More more answer))
@@ -73,6 +76,13 @@ Proves o chunk (Err Memory) = ⊤
 Proves o chunk _ = ⊥
 
 -- ---- without a key
+
+-- The other end was let in by what has come: octets go as they are, nothing is to be sent, and there are no nonces.
+pub record IsPlain (come : List ℕ) (e : AuthenticatedPeer) : Type 0 where
+  pub passage : e.passage ≡ Plain
+  pub ahead : e.ahead.items ≡ come
+  pub answer : e.answer ≡ None
+  pub nonces : e.nonces ≡ None
 
 -- what has come begins with the primary's first frame, or with anything else
 abbrev pub IsGreeting : (come : List ℕ) → Type 0
@@ -86,7 +96,7 @@ IsStrange come = ((fault : LinkError) × Breaks come fault)
 
 abbrev pub Greets : (come : List ℕ) → Result EntryProgress EntryFault → Type 0
 Greets come (Ok (Waits (Greeting heard) answer)) = IsPartial come × (heard.items ≡ come) × (answer ≡ None)
-Greets come (Ok (Admitted e)) = IsGreeting come × (e.passage ≡ Plain) × (e.ahead.items ≡ come) × (e.answer ≡ None)
+Greets come (Ok (Admitted e)) = IsGreeting come × IsPlain come e
 Greets come (Err Stranger) = IsStrange come
 Greets come (Err Memory) = ⊤
 Greets come _ = ⊥
@@ -94,8 +104,7 @@ Greets come _ = ⊥
 -- for bodies only: the same, where what has come begins with these frames
 abbrev pub Greeted : (come : List ℕ) → List Frame → Result EntryProgress EntryFault → Type 0
 Greeted come [] (Ok (Waits (Greeting heard) answer)) = (heard.items ≡ come) × (answer ≡ None)
-Greeted come (frame ∷ frames) (Ok (Admitted e)) =
-    IsConnect frame.kind × (e.passage ≡ Plain) × (e.ahead.items ≡ come) × (e.answer ≡ None)
+Greeted come (frame ∷ frames) (Ok (Admitted e)) = IsConnect frame.kind × IsPlain come e
 Greeted come (frame ∷ frames) (Err Stranger) = IsConnect frame.kind → ⊥
 Greeted come _ _ = ⊥
 
@@ -104,6 +113,6 @@ Greeted come _ _ = ⊥
 abbrev pub Hears : PeerEntry → (chunk : List ℕ) → Result EntryProgress EntryFault → Type 0
 Hears (Proof o) chunk result = Proves o chunk result
 Hears (Greeting heard) chunk result = Greets (heard.items ++ chunk) result
-Hears Callee chunk (Ok (Admitted e)) = (e.passage ≡ Plain) × (e.ahead.items ≡ chunk) × (e.answer ≡ None)
+Hears Callee chunk (Ok (Admitted e)) = IsPlain chunk e
 Hears Callee chunk (Err Memory) = ⊤
 Hears Callee chunk _ = ⊥

@@ -37,6 +37,15 @@ impl Model for KeyHandshake {
     ghost invariant = { λ o. IsOpening o.heard.items };
 }
 
+/// The nonces of both ends of a connection, as one of them sees them.
+#[derive(Clone, Copy, Debug, PartialEq, Eq)]
+pub struct PeerNonces {
+    /// What this end drew.
+    pub own: [u8; 32],
+    /// What the other end sent first.
+    pub other: [u8; 32],
+}
+
 /// What a chunk led to.
 #[derive(Drop)]
 pub enum HandshakeProgress {
@@ -51,6 +60,8 @@ pub enum HandshakeProgress {
         joined: RecordChannel,
         /// What is to be sent before all records, where it wasn't yet.
         answer: Option<[u8; 32]>,
+        /// Both nonces, which the proofs of both ends are over.
+        nonces: PeerNonces,
         /// How many octets at the end of the chunk stand behind the proof: the first of the records.
         behind: usize,
     },
@@ -104,6 +115,10 @@ impl KeyHandshake {
         };
         let proving = ProofExchange::new(self.key, self.side, self.nonce, *nonce);
         let answer = answer_to(had, &proving);
+        let nonces = PeerNonces {
+            own: self.nonce,
+            other: *nonce,
+        };
         let Some(proof) = proof.first_chunk::<PART>() else {
             return Ok(HandshakeProgress::More {
                 opening: self,
@@ -115,6 +130,7 @@ impl KeyHandshake {
         Ok(HandshakeProgress::Joined {
             joined,
             answer,
+            nonces,
             behind,
         })
     }

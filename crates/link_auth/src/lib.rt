@@ -22,7 +22,7 @@
 //! send(opening.greeting());
 //! match opening.hear(&chunk)? {
 //!     HandshakeProgress::More { opening, answer } => .., // sends `answer`, where there is one, and hears the next chunk
-//!     HandshakeProgress::RecordChannel { joined, answer, behind } => { // sends `answer`, where there is one
+//!     HandshakeProgress::Joined { joined, answer, behind, .. } => { // sends `answer`, where there is one
 //!         let octets = joined.reader.feed(&chunk[chunk.len() - behind..])?;
 //!         send(&joined.writer.write(&octets)?);
 //!     }
@@ -70,7 +70,7 @@ pub use fault::LinkFault;
 pub use handshake::RecordChannel;
 pub use handshake_role::HandshakeRole;
 pub use key::{KeyError, LinkKey};
-pub use key_handshake::{HandshakeProgress, KeyHandshake};
+pub use key_handshake::{HandshakeProgress, KeyHandshake, PeerNonces};
 pub use laws::{
     chunks_join, ends_meet, messages_stand_apart, nothing_is_forged, records_stand_apart,
 };

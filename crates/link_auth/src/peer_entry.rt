@@ -5,7 +5,7 @@ ghost use Rattle.link_auth.specs.Entering.{IsConnect, Proves, Greets, Hears, Gre
 
 use crate::entry_fault::EntryFault;
 use crate::fault::LinkFault;
-use crate::key_handshake::{HandshakeProgress, KeyHandshake};
+use crate::key_handshake::{HandshakeProgress, KeyHandshake, PeerNonces};
 use crate::secure_channel::{SecureChannel, copied};
 use binding_rules::Role;
 use failover_message::{Feed, Frame, FrameKind, LinkError};
@@ -31,6 +31,8 @@ pub struct AuthenticatedPeer {
     pub ahead: Vec<u8>,
     /// What is to be sent before all else, where it wasn't yet.
     pub answer: Option<[u8; 32]>,
+    /// The nonces of both ends; none where the link has no key.
+    pub nonces: Option<PeerNonces>,
 }
 
 /// What a chunk led to.
@@ -82,6 +84,7 @@ fn prove(alloc: Global, opening: KeyHandshake, chunk: &[u8]) -> Result<EntryProg
             HandshakeProgress::Joined {
                 joined,
                 answer,
+                nonces,
                 behind,
             },
         ) => {
@@ -92,6 +95,7 @@ fn prove(alloc: Global, opening: KeyHandshake, chunk: &[u8]) -> Result<EntryProg
                     passage,
                     ahead,
                     answer,
+                    nonces: Some(nonces),
                 })),
                 Err(fault) => Err(fault_of(fault)),
             }
@@ -117,6 +121,7 @@ fn greeted(come: Vec<u8>, frames: &[Frame]) -> Result<EntryProgress, EntryFault>
                 passage: SecureChannel::Plain,
                 ahead: come,
                 answer: None,
+                nonces: None,
             }))
         }
     }
@@ -158,6 +163,7 @@ impl PeerEntry {
                 passage: SecureChannel::Plain,
                 ahead: copied(alloc, chunk)?,
                 answer: None,
+                nonces: None,
             })),
         }
     }

@@ -5,7 +5,7 @@ use binding_rules::{Counter, Role};
 use failover_message::{Frame, FrameKind, encode};
 use link_auth::{
     AuthenticatedPeer, EntryFault, EntryProgress, HandshakeRole, LinkKey, PeerAuthenticator,
-    PeerEntry,
+    PeerEntry, PeerNonces,
 };
 use std::alloc::Global;
 use std::test::Fail;
@@ -80,7 +80,7 @@ fn octets_of(alloc: Global, kind: FrameKind) -> Result<Vec<u8>, Fail> {
     Ok(octets)
 }
 
-/// Two ends with one key let each other in, and what one puts in the other takes.
+/// Two ends with one key let each other in, each knows both nonces, and what one puts in the other takes.
 #[test]
 fn let_in_who_has_the_key(rt: HostRuntime) -> Result<(), Fail> {
     let alloc = rt.alloc();
@@ -89,6 +89,20 @@ fn let_in_who_has_the_key(rt: HostRuntime) -> Result<(), Fail> {
     let mut caller = let_in(alloc, caller, &other)?;
     let last = proof_and(alloc, &mut caller, &one)?;
     let called = let_in(alloc, called, &last)?;
+    assert_eq!(rt;
+        caller.nonces,
+        Some(PeerNonces {
+            own: CALLER,
+            other: CALLED
+        })
+    );
+    assert_eq!(rt;
+        called.nonces,
+        Some(PeerNonces {
+            own: CALLED,
+            other: CALLER
+        })
+    );
     assert_eq!(rt; called.ahead.as_slice(), b"grant".as_slice());
     Ok(())
 }
@@ -114,6 +128,7 @@ fn let_in_who_says_connect(rt: HostRuntime) -> Result<(), Fail> {
     };
     let entrant = let_in(alloc, waiting, back)?;
     assert_eq!(rt; entrant.ahead.as_slice(), connect.as_slice());
+    assert_eq!(rt; entrant.nonces, None);
     let goodbye = octets_of(alloc, FrameKind::Disconnect)?;
     let fault = keeper.begin(alloc, CALLED).receive(alloc, &goodbye).err();
     assert_eq!(rt; fault, Some(EntryFault::Stranger));

@@ -4,7 +4,7 @@ use crate::error::ArgsError;
 use clap::error::ErrorKind;
 use clap::{Arg, ArgAction, ArgMatches, Command as ClapCommand, Error as ClapError};
 use client_service::PartnerAvailability;
-use server_status::{ControlRequest, PARTNER_STOPPED, ShutdownMode, StatusFormat};
+use server_status::{CLOCK_RIGHT, ControlRequest, PARTNER_STOPPED, ShutdownMode, StatusFormat};
 use std::alloc::{AllocError, Global};
 use text_fields::number_of;
 
@@ -102,10 +102,10 @@ fn stop_command<'a>(alloc: Global) -> Result<ClapCommand<'a>, AllocError> {
     with_option(alloc, stop, "close", false, ArgAction::SetTrue)
 }
 
-/// `partner-down --dir DIR WORDS`.
-fn partner_down_command<'a>(alloc: Global) -> Result<ClapCommand<'a>, AllocError> {
-    let down = directory_command(alloc, "partner-down")?;
-    down.arg(
+/// A command about a directory with words that vouch for something: `NAME --dir DIR WORDS`.
+fn vouching_command<'a>(alloc: Global, name: &'a str) -> Result<ClapCommand<'a>, AllocError> {
+    let command = directory_command(alloc, name)?;
+    command.arg(
         Arg::new(alloc, "words")
             .required(true)
             .action(ArgAction::Set),
@@ -119,8 +119,9 @@ pub(crate) fn node_command<'a>(alloc: Global) -> Result<ClapCommand<'a>, AllocEr
     let status = status_command(alloc)?;
     let stop = stop_command(alloc)?;
     let roll = directory_command(alloc, "roll")?;
-    let down = partner_down_command(alloc)?;
+    let down = vouching_command(alloc, "partner-down")?;
     let normal = directory_command(alloc, "partner-normal")?;
+    let accepted = vouching_command(alloc, "clock-accepted")?;
     ClapCommand::new(alloc, "node_cli")
         .subcommand_required(true)
         .disable_help_subcommand(true)
@@ -131,7 +132,8 @@ pub(crate) fn node_command<'a>(alloc: Global) -> Result<ClapCommand<'a>, AllocEr
         .subcommand(stop)?
         .subcommand(roll)?
         .subcommand(down)?
-        .subcommand(normal)
+        .subcommand(normal)?
+        .subcommand(accepted)
 }
 
 /// Returns how many datagrams, 1 to 1,000,000, written as numbers are in a journal.
@@ -204,6 +206,10 @@ fn request_given(name: &str, options: &ArgMatches) -> Result<ControlRequest, Arg
         }
         "partner-down" => Err(ArgsError::NotVouched),
         "partner-normal" => Ok(ControlRequest::PartnerNormal),
+        "clock-accepted" if options.get_str("words") == Some(CLOCK_RIGHT) => {
+            Ok(ControlRequest::AcceptClock)
+        }
+        "clock-accepted" => Err(ArgsError::ClockNotVouched),
         _ => Err(ArgsError::Usage),
     }
 }

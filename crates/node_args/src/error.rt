@@ -15,6 +15,9 @@ pub enum ArgsError {
     /// The words that vouch for the partner's stop aren't said.
     #[error("partner-down wants the words \"the partner is stopped\": say them only of a partner that serves nobody")]
     NotVouched,
+    /// The words that vouch for a clock that was set aren't said.
+    #[error("clock-accepted wants the words \"the clock is right\": say them only of a clock that you compared with another")]
+    ClockNotVouched,
     /// A growth was refused.
     #[error("fault Memory")]
     Memory,

@@ -3,3 +3,4 @@ pub mod Turned
 mod Lasting
 pub mod Begun
 pub mod Shutting
+pub mod Waiting

@@ -1,4 +1,5 @@
-//! The daemon of a folder that was read, over any devices: it starts the server, and runs.
+//! The daemon of a folder that was read, over any devices: it waits until its clock lets it begin, starts the server, and
+//! runs.
 
 ghost use Rattle.std.specs.Prelude.{◌≡◌, ℕ, List, None, Ok, IfOk, OnOk, is_none};
 ghost use Rattle.disk_model.specs.Names.{names_after, AreSettled};
@@ -10,14 +11,18 @@ ghost use Rattle.folder_start.specs.Reading.{IsOpened};
 ghost use Rattle.folder_start.specs.Started.{HasBegun};
 ghost use Rattle.node_daemon.specs.Turning.{ways};
 ghost use Rattle.node_daemon.specs.Service.{IsAfterStart};
-ghost use Rattle.node_daemon.specs.Beginning.{pairing_by, HasRun, HasServed};
+ghost use Rattle.node_daemon.specs.Beginning.{pairing_by, link_by, Meets, HasRun};
+ghost use Rattle.node_daemon.specs.Beginning.{HasBegunAndRun, HasServed};
+ghost use Rattle.daemon_endpoints.specs.Receiving.{MayReceive};
 
+use crate::clock_wait::WaitEnd;
 use crate::daemon::Daemon;
 use crate::error::{DaemonError, ServeFailure};
 use crate::reporting::head_lines_of;
 use crate::service::{ServiceState, service_of};
 use binding_rules::Role;
 use client_limits::{Limiter, Limits};
+use clock_watch::{ClockStore, ClockWatch, PartnerLink};
 use daemon_endpoints::{Arrival, ClientEndpoint, ControlServer, PartnerEndpoint};
 use daemon_io::{ConnectionSource, Control, Datagrams, Poller};
 use disk_files::AccessRecordStore;
@@ -27,7 +32,7 @@ use lead_time::Transit;
 use link_auth::{HandshakeRole, LinkKey, PeerAuthenticator};
 use order_book::Book;
 use serve_settings::ServeSettings;
-use server_clocks::Clocks;
+use server_clocks::{Clocks, Moment};
 use server_core::ServerCore;
 use server_log::{Log, LogEvent, StateWatch};
 use server_status::SyncTimes;
@@ -82,7 +87,7 @@ fn limiter_of<A: AccessRecordStore, L: Print>(
 fn tell_start<F: Folder + Drop, P: Drop, L: Print>(
     log: &Log<'_, L>,
     settings: &ServeSettings,
-    key: &Option<LinkKey>,
+    link: PartnerLink,
     started: &Started<F, P>,
 )
 where
@@ -104,7 +109,7 @@ where
     if settings.node.server.transit() == Transit::ZERO {
         log.log(&LogEvent::HasNoTransit);
     }
-    if settings.node.ways.link.is_some() && key.is_none() {
+    if settings.node.ways.link.is_some() && link == PartnerLink::None {
         log.log(&LogEvent::HasNoKey);
     }
 }
@@ -125,7 +130,27 @@ fn keeper_of(role: Role, key: Option<LinkKey>) -> PeerAuthenticator {
     PeerAuthenticator { side, key }
 }
 
-/// The daemon of settings and devices, for a server that has this book and begins at this instant.
+/// Whether there is a partner whose clock can be asked: nobody else could answer over a link that has a key.
+fn link_of(address: Option<SocketAddr>, key: &Option<LinkKey>) -> PartnerLink
+    ensures { result ≡ link_by address key.now }
+{
+    match (address, key) {
+        (Some(_), Some(_)) => PartnerLink::Linked,
+        (None, _) | (_, None) => PartnerLink::None,
+    }
+}
+
+/// What the clocks read: `Ended` where one tells no time.
+fn now_of<C: Clocks>(clocks: &C) -> Result<Moment, ServeFailure>
+    ensures { IfOk result C.gives }
+{
+    match clocks.now() {
+        Some(now) => Ok(now),
+        None => Err(ServeFailure::of_start(StartFailure::Clock)),
+    }
+}
+
+/// The daemon of settings and devices at a moment, for a server that has yet to begin.
 fn daemon_of<
     'a,
     G: Datagrams,
@@ -133,7 +158,7 @@ fn daemon_of<
     K: Control,
     C: Clocks,
     T: Poller,
-    A: AccessRecordStore,
+    A: AccessRecordStore + ClockStore,
     L: Print,
 >(
     alloc: Global,
@@ -142,19 +167,15 @@ fn daemon_of<
     devices: Devices<G, D, K, T>,
     clocks: C,
     keeper: A,
-    book: &Book,
-    now: Instant,
+    now: &Moment,
     log: Log<'a, L>,
 ) -> Result<Daemon<'a, G, D, K, C, T, A, L>, AllocError>
     ensures datagrams { IfOk result (λ d. d.clients.datagrams ≡ devices.datagrams) }
     ensures transit { IfOk result (λ d. d.clients.transit ≡ settings.now.node.server.transit) }
     ensures link { IfOk result (λ d. d.partner ≡ None) }
-    ensures service { IfOk result (λ d. IsAfterStart book.now (is_none settings.now.node.ways.link) now d.service) }
 {
     let server = &settings.node.server;
-    let limiter = limiter_of(alloc, settings.quotas, &keeper, book, &log);
-    let service = service_of(book, settings.node.ways.link.is_none(), now);
-    tell_hold_off(&log, &service, now);
+    let limiter = Limiter::new(alloc, settings.quotas);
     let Devices {
         datagrams,
         door,
@@ -170,18 +191,62 @@ fn daemon_of<
         partner: PartnerEndpoint::new(alloc, door, keeper_of(server.role(), key))?,
         desk: ControlServer::new(alloc, control),
         clocks,
+        clock: ClockWatch::new(now),
+        beaten: None,
         rest,
         keeper,
         log,
         watch: StateWatch::new(),
         syncs: SyncTimes::new(alloc),
         told: OperatorRequest::Nothing,
-        service,
+        service: ServiceState::Open,
         is_alone: settings.node.ways.link.is_none(),
         leave: None,
-        head_lines: head_lines_of(book),
+        head_lines: 0,
         is_idle: false,
     })
+}
+
+impl<
+    G: Datagrams,
+    D: ConnectionSource,
+    K: Control,
+    C: Clocks,
+    T: Poller,
+    A: AccessRecordStore + ClockStore,
+    L: Print,
+> Daemon<'_, G, D, K, C, T, A, L> {
+    /// Begins with this book at a moment.
+    fn begin(&mut self, settings: &ServeSettings, book: &Book, now: &Moment)
+        ensures datagrams { self.new.clients.datagrams ≡ self.old.clients.datagrams }
+        ensures transit { self.new.clients.transit ≡ self.old.clients.transit }
+        ensures link { self.new.partner ≡ self.old.partner }
+        ensures service { IsAfterStart book.now (is_none settings.now.node.ways.link) now.now.instant
+            self.new.service }
+    {
+        let limiter = limiter_of(self.alloc, settings.quotas, &self.keeper, book, &self.log);
+        self.clients.limit_by(limiter);
+        self.service = service_of(book, settings.node.ways.link.is_none(), now.instant);
+        tell_hold_off(&self.log, &self.service, now.instant);
+        self.head_lines = head_lines_of(book);
+    }
+
+    /// Waits until the clock lets a server begin. `Ended` where nobody can be heard any more.
+    fn wait_for_clock<R: Wait>(
+        &mut self,
+        rt: &R,
+        book: Option<&Book>,
+        link: PartnerLink,
+    ) -> Result<WaitEnd, ServeFailure>
+        ensures hears { OnOk result (MayReceive G.listens self.old.clients.datagrams self.new.clients.datagrams) }
+        ensures meets { OnOk result (Meets self.old.partner self.new.partner) }
+        ensures transit { self.new.clients.transit ≡ self.old.clients.transit }
+    {
+        match self.await_clock(rt, book, link) {
+            Ok(end) => Ok(end),
+            Err(error) => Err(ServeFailure::Ended(error)),
+        }
+    }
 }
 
 /// Starts the server of a folder that was read, by what the clocks read now.
@@ -227,7 +292,7 @@ fn run_daemon<
     K: Control,
     C: Clocks,
     T: Poller,
-    A: AccessRecordStore,
+    A: AccessRecordStore + ClockStore,
     R: Wait,
     L: Print,
 >(
@@ -246,8 +311,54 @@ where
     }
 }
 
-/// Serves with what was read of a folder until a person tells it to stop: it starts by what the clocks read now, and
-/// then runs, a turn after another. The refusals are `Start` and `Ended` of [`ServeFailure`].
+/// Starts the server of a folder that was read, by what the clocks read now, and runs it by a daemon until a person tells
+/// it to stop.
+fn start_and_run<
+    F: Folder + Drop,
+    G: Datagrams,
+    D: ConnectionSource,
+    K: Control,
+    C: Clocks,
+    T: Poller,
+    A: AccessRecordStore + ClockStore,
+    R: Wait,
+    L: Print,
+>(
+    rt: &R,
+    alloc: Global,
+    read: FolderRead<F>,
+    settings: &ServeSettings,
+    link: PartnerLink,
+    mut daemon: Daemon<'_, G, D, K, C, T, A, L>,
+) -> Result<(), ServeFailure>
+where
+    F::File: Drop,
+    requires names { AreSettled (F.calls read.folder) }
+    requires files { (names_after (F.calls read.folder)).files ≡ read.found.volumes }
+    requires opened { IsOpened F.File.calls read.last }
+    ensures ran { IfOk result (λ _. HasBegunAndRun C.gives C.fails G.listens G.sends settings.now.node.server
+        settings.now.renew_floor (pairing_by settings.now.node.ways.link) read.found.step
+        daemon.entry.clients.transit (ways daemon.entry.clients.datagrams daemon.entry.partner)) }
+{
+    let started: Started<F, Arrival<G::Peer>> = start_server(
+        alloc,
+        read,
+        settings,
+        &daemon.clocks,
+    )?;
+    tell_start(&daemon.log, settings, link, &started);
+    let Started { running, .. } = started;
+    let now = now_of(&daemon.clocks)?;
+    daemon.begin(settings, running.book(), &now);
+    match run_daemon(rt, daemon, running) {
+        Ok(()) => Ok(()),
+        Err(failure) => Err(failure),
+    }
+}
+
+/// Serves with what was read of a folder until a person tells it to stop: it waits until its clock lets it begin, starts
+/// by what the clocks read then, and runs, a turn after another. Told to stop while it waits it has written no line. The
+/// refusals are `Start` and `Ended` of [`ServeFailure`].
 pub(crate) fn serve_folder<
     F: Folder + Drop,
     G: Datagrams,
@@ -255,7 +366,7 @@ pub(crate) fn serve_folder<
     K: Control,
     C: Clocks,
     T: Poller,
-    A: AccessRecordStore,
+    A: AccessRecordStore + ClockStore,
     R: Wait,
     L: Print,
 >(
@@ -268,36 +379,27 @@ pub(crate) fn serve_folder<
     clocks: C,
     keeper: A,
     log: Log<'_, L>,
-) -> Result<(), ServeFailure>
+) -> Result<WaitEnd, ServeFailure>
 where
     F::File: Drop,
     requires names { AreSettled (F.calls read.folder) }
     requires files { (names_after (F.calls read.folder)).files ≡ read.found.volumes }
     requires opened { IsOpened F.File.calls read.last }
-    ensures served { IfOk result (λ _. HasServed C.gives C.fails G.listens G.sends settings.now.node.server
-        settings.now.renew_floor (pairing_by settings.now.node.ways.link) read.found.step devices.datagrams) }
+    ensures served { IfOk result (λ end. end ≡ WaitEnd.Begins → HasServed C.gives C.fails G.listens G.sends
+        settings.now.node.server settings.now.renew_floor (pairing_by settings.now.node.ways.link) read.found.step
+        devices.datagrams) }
 {
-    let started: Started<F, Arrival<G::Peer>> = start_server(alloc, read, settings, &clocks)?;
-    tell_start(&log, settings, &key, &started);
-    let Started { running, .. } = started;
-    let Some(now) = clocks.now() else {
-        return Err(ServeFailure::of_start(StartFailure::Clock));
-    };
-    let Ok(daemon) = daemon_of(
-        alloc,
-        settings,
-        key,
-        devices,
-        clocks,
-        keeper,
-        running.book(),
-        now.instant,
-        log,
-    ) else {
+    let link = link_of(settings.node.ways.link, &key);
+    let now = now_of(&clocks)?;
+    let Ok(mut daemon) = daemon_of(alloc, settings, key, devices, clocks, keeper, &now, log) else {
         return Err(ServeFailure::Ended(DaemonError::Memory));
     };
-    match run_daemon(rt, daemon, running) {
-        Ok(()) => Ok(()),
+    let end = daemon.wait_for_clock(rt, read.book(), link)?;
+    if let WaitEnd::Stops = end {
+        return Ok(WaitEnd::Stops);
+    }
+    match start_and_run(rt, alloc, read, settings, link, daemon) {
+        Ok(()) => Ok(WaitEnd::Begins),
         Err(failure) => Err(failure),
     }
 }

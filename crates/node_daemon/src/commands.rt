@@ -2,81 +2,21 @@
 
 ghost use Rattle.std.specs.Prelude.{◌≡◌};
 ghost use Rattle.daemon_endpoints.specs.Receiving.{HasSameFiles};
-ghost use Rattle.node_daemon.specs.declared.commands.RequestRefusal.TheVariants.{Memory};
 
 use crate::daemon::Daemon;
-use crate::reporting::{journal_of, standing_of, units_of, volume_of};
+use crate::refusal::RequestRefusal;
 use binding_rules::ServerState;
+use clock_watch::ClockStore;
 use daemon_endpoints::Arrival;
 use daemon_io::{ConnectionSource, Control, Datagrams, Poller};
 use disk_files::AccessRecordStore;
 use disk_model::Folder;
-use lead_time::Reading;
-use locked_book::ServeError;
 use order_book::Order;
 use server_clocks::{Clocks, Moment};
 use server_core::ServerCore;
 use server_log::LogEvent;
-use server_status::{
-    ClockState, ControlRequest, LinkState, ServerStatus, ShutdownMode, StatusFormat, serving_of,
-};
-use server_timers::{OperatorRequest, RollBlocked, RollState};
-use std::alloc::AllocError;
-use thiserror::Error;
-
-/// Why a request is refused.
-#[derive(Clone, Copy, Debug, PartialEq, Eq, Error)]
-enum RequestRefusal {
-    /// The clock is too far behind the journal.
-    #[error("the clock is behind the journal by more than twice the skew: set it right first")]
-    ClockBehind,
-    /// The journal is short.
-    #[error("this journal lacks messages that its partner took: stop this server, and see \"A lost disk\"")]
-    JournalOlder,
-    /// There is a connection with the partner.
-    #[error("there is a connection with the partner: it runs")]
-    PartnerConnected,
-    /// The partner is taken for down already.
-    #[error("the partner is taken for down already")]
-    IsDown,
-    /// The partner is taken for down.
-    #[error("no volume may follow while the partner is taken for down")]
-    PartnerDown,
-    /// The same, where the volume would be closed.
-    #[error("no volume may follow while the partner is taken for down: the next start would be refused (stop without \
-             --close goes on)")]
-    CloseWhileDown,
-    /// A unit that was seized isn't acknowledged.
-    #[error("no volume may follow before the partner has acknowledged the units that were seized from it")]
-    UnitMarked,
-    /// The same, where the volume would be closed.
-    #[error("no volume may follow before the partner has acknowledged the units that were seized from it: the next \
-             start would be refused (stop without --close goes on)")]
-    CloseWhileMarked,
-    /// The book takes no such line.
-    #[error("{0}")]
-    Book(ServeError),
-    /// A growth was refused.
-    #[error("out of memory")]
-    Memory,
-}
-
-impl From<AllocError> for RequestRefusal {
-    ghost from_gives = { λ _ e. e ≡ Memory };
-
-    fn from(_error: AllocError) -> RequestRefusal {
-        RequestRefusal::Memory
-    }
-}
-
-impl From<RollBlocked> for RequestRefusal {
-    fn from(bar: RollBlocked) -> RequestRefusal {
-        match bar {
-            RollBlocked::PartnerDown => RequestRefusal::PartnerDown,
-            RollBlocked::UnitMarked => RequestRefusal::UnitMarked,
-        }
-    }
-}
+use server_status::{ClockState, ControlRequest, ShutdownMode};
+use server_timers::{OperatorRequest, RollBlocked};
 
 impl<
     G: Datagrams,
@@ -84,7 +24,7 @@ impl<
     K: Control,
     C: Clocks,
     T: Poller,
-    A: AccessRecordStore,
+    A: AccessRecordStore + ClockStore,
     L: Print,
 > Daemon<'_, G, D, K, C, T, A, L> {
     /// Hears one request, if one has come, and does it; its answer is held back. Returns whether one had come.
@@ -110,7 +50,7 @@ impl<
     }
 
     /// Refuses a request.
-    fn refuse(&mut self, refusal: &RequestRefusal)
+    pub(crate) fn refuse(&mut self, refusal: &RequestRefusal)
         ensures clients { self.new.clients ≡ self.old.clients }
         ensures link { self.new.partner ≡ self.old.partner }
     {
@@ -134,13 +74,14 @@ impl<
         ensures files { HasSameFiles running.old running.new }
     {
         if let ControlRequest::Status(form) = request {
-            return Ok(self.status(running, now)?.text(self.alloc, form)?);
+            return Ok(self.status(form, running, now)?);
         }
-        if request != ControlRequest::Stop(ShutdownMode::Open) {
+        if may_write_line(request) {
             self.may_write()?;
         }
         match request {
             ControlRequest::Status(_) => {}
+            ControlRequest::AcceptClock => self.take_clock(now)?,
             ControlRequest::Stop(ShutdownMode::Open) => self.leave(ShutdownMode::Open),
             ControlRequest::Stop(ShutdownMode::Closed) => return self.close(running, now),
             ControlRequest::Roll => self.ask_roll(running)?,
@@ -155,17 +96,29 @@ impl<
 
     /// Refuses what would write a line that the journal mustn't have now.
     fn may_write(&self) -> Result<(), RequestRefusal> {
-        if self.watch.clock() == ClockState::Behind {
-            return Err(RequestRefusal::ClockBehind);
+        match self.watch.clock() {
+            ClockState::Behind => Err(RequestRefusal::ClockBehind),
+            ClockState::Set => Err(RequestRefusal::ClockSet),
+            ClockState::Right if self.service.is_shut() => Err(RequestRefusal::JournalOlder),
+            ClockState::Right => Ok(()),
         }
-        if self.service.is_shut() {
-            return Err(RequestRefusal::JournalOlder);
+    }
+
+    /// Takes a clock that was set for right, as a person says.
+    fn take_clock(&mut self, now: &Moment) -> Result<(), RequestRefusal>
+        ensures clients { self.new.clients ≡ self.old.clients }
+        ensures link { self.new.partner ≡ self.old.partner }
+    {
+        if !self.clock.is_set() {
+            return Err(RequestRefusal::ClockNotSet);
         }
+        self.accept_clock(now);
+        self.log.log(&LogEvent::ClockAccepted);
         Ok(())
     }
 
     /// Stops behind this turn.
-    fn leave(&mut self, leave: ShutdownMode)
+    pub(crate) fn leave(&mut self, leave: ShutdownMode)
         ensures clients { self.new.clients ≡ self.old.clients }
         ensures link { self.new.partner ≡ self.old.partner }
     {
@@ -241,46 +194,16 @@ impl<
         self.log.log(&LogEvent::PartnerDown);
         Ok(())
     }
+}
 
-    /// How the server is linked to its partner.
-    fn link(&self) -> LinkState {
-        match self.partner.connected() {
-            Some(since) => LinkState::Connected { since },
-            None if self.is_alone => LinkState::Alone,
-            None => LinkState::Apart,
-        }
-    }
-
-    /// How the server is.
-    fn status<F: Folder + Drop>(
-        &self,
-        running: &ServerCore<F, Arrival<G::Peer>>,
-        now: &Moment,
-    ) -> Result<ServerStatus, AllocError>
-    where
-        F::File: Drop,
-    {
-        let book = running.book();
-        let growth = self.growth(book, now);
-        let owed = self.owed(running, now);
-        let (clock, journal) = (self.watch.clock(), journal_of(&self.service));
-        let standing = standing_of(book, now.reading);
-        let goes_on_in = self.service.seconds_left(now.instant);
-        Ok(ServerStatus {
-            serving: serving_of(&journal, clock, goes_on_in, &standing, owed.room),
-            role: book.role(),
-            reading: now.reading,
-            clock,
-            journal,
-            volume: volume_of(book, running.kept(), &growth, &owed),
-            units: units_of(book, self.settings.pools()),
-            standing,
-            link: self.link(),
-            heard: self.partner.heard(),
-            traffic: self.clients.traffic(),
-            syncs: self.syncs.summary(self.alloc, now.reading)?,
-        })
-    }
+/// Returns whether a line may be written as a request asks.
+fn may_write_line(request: ControlRequest) -> bool {
+    !matches!(
+        request,
+        ControlRequest::Status(_)
+            | ControlRequest::Stop(ShutdownMode::Open)
+            | ControlRequest::AcceptClock
+    )
 }
 
 /// Gives the server an order.

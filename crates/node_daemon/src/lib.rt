@@ -7,14 +7,16 @@
 //! disk by one write and one sync, and only then tells: answers to their clients, frames to the partner, and the
 //! control socket. So nothing is told that a loss of power could take back: [`Daemon::run`] promises it.
 //!
-//! While its clock is too far behind its journal (`server_start::is_behind`), it answers nobody, and says so. Nor does a
-//! server that goes on without `restart`, for 30 s or until its partner waits; nor, any more, one whose journal is
-//! short. A disk
-//! that fails ends it: what was held back is never told, and it goes on with what its folder leads to when it is
-//! started again.
+//! While its clock is too far behind its journal (`server_start::is_behind`), or was set (`clock_watch`), it answers
+//! nobody, and says so. Nor does a server that goes on without `restart`, for 30 s or until its partner waits; nor, any
+//! more, one whose journal is short. A disk that fails ends it: what was held back is never told, and it goes on with what
+//! its folder leads to when it is started again.
 //!
-//! [`serve`] is the program: it takes the lock on a directory, starts with what that leads to, opens the system's
-//! sockets, and runs.
+//! A start that has a partner asks its clock before it writes a line, and one whose clock was set since it was kept last
+//! waits: until the two agree, the difference is gone, or a person says that the clock is right.
+//!
+//! [`serve`] is the program: it takes the lock on a directory, opens the system's sockets, starts with what the directory
+//! leads to once its clock lets it, and runs.
 //!
 //! ```text
 //! serve(&rt, &rt, "/var/lib/node", &settings, &rt.stderr())?;            // until it is told to stop
@@ -22,13 +24,18 @@
 #![tactic(auto)]
 
 mod beginning;
+mod clock_check;
+mod clock_wait;
 mod commands;
 mod daemon;
 mod error;
 mod keeping;
+mod refusal;
 mod reporting;
 mod service;
 mod serving;
+mod side_files;
+mod statuses;
 mod withholding;
 
 pub use daemon::Daemon;

@@ -3,13 +3,18 @@
 use crate::service::{ServiceState, ShutReason};
 use binding_rules::{Body, Role};
 use book_state::Pool;
+use daemon_endpoints::PartnerEndpoint;
+use daemon_io::ConnectionSource;
 use failover_session::JournalShortage as SessionShortage;
 use journal_lines::{Event, Line};
 use lead_time::Reading;
+use notice_exchange::PartnerProgram;
 use order_book::Book;
 use server_log::LogEvent;
-use server_status::{JournalShortage, JournalState, PartnerState, UnitCounts, VolumeStatus};
-use server_timers::{DueActions, Growth};
+use server_status::{
+    JournalShortage, JournalState, PartnerNotices, PartnerState, UnitCounts, VolumeStatus,
+};
+use server_timers::{DueActions, Growth, RollState, Room};
 
 /// Counts the units of a pool.
 fn count_units(book: &Book, pool: &Pool, counts: &mut UnitCounts) {
@@ -142,6 +147,37 @@ pub(crate) fn volume_of(
         written: growth.written,
         roll: owed.roll,
         room: owed.room,
+    }
+}
+
+/// The first volume of a server, which has yet to begin it.
+pub(crate) fn first_volume(now: Reading) -> VolumeStatus {
+    VolumeStatus {
+        number: 1,
+        lines: 0,
+        synced: 0,
+        opened: now,
+        written: now,
+        roll: RollState::NotDue,
+        room: Room::Enough,
+    }
+}
+
+/// The name and the version of the partner's program.
+fn program_words(program: &PartnerProgram) -> Option<(&str, &str)> {
+    let name = str::from_utf8(program.name.as_bytes()).ok()?;
+    let version = str::from_utf8(program.version.as_bytes()).ok()?;
+    Some((name, version))
+}
+
+/// What the partner told beside the frames.
+pub(crate) fn notices_of<D: ConnectionSource>(partner: &PartnerEndpoint<D>) -> PartnerNotices<'_> {
+    PartnerNotices {
+        state: partner.notices(),
+        program: partner.partner_program().and_then(program_words),
+        clock: partner.clock_range(),
+        verdict: partner.verdict(),
+        settings: partner.differences(),
     }
 }
 

@@ -7,7 +7,9 @@ ghost use Rattle.folder_start.specs.Reading.{IsOpened};
 
 use crate::beginning::{Devices, pairing_of, serve_folder};
 use crate::error::{DaemonError, ServeFailure};
+use crate::side_files::SideFiles;
 use binding_rules::Role;
+use clock_file::ClockFile;
 use daemon_endpoints::ReceiveError;
 use daemon_io::{ControlSocket, PollRegistry, Readiness, SystemConnectionSource, UdpDatagrams};
 use disk_files::{AccessRecordFolder, FolderError, RealFolder, RealVolumes};
@@ -54,15 +56,23 @@ fn opened(rt: &HostRuntime, folder: RealFolder, role: Role) -> Result<RealVolume
     }
 }
 
-/// What keeps a server's access records in its directory.
-fn access_in(
+/// What keeps a server's access records in its directory, and what both clocks showed.
+fn side_files_in(
     rt: &HostRuntime,
     folder: &RealFolder,
+    directory: &str,
     role: Role,
-) -> Result<AccessRecordFolder, ServeFailure> {
-    match folder.shared(rt) {
-        Ok(folder) => Ok(AccessRecordFolder::new(*rt, folder, role)),
-        Err(error) => Err(ServeFailure::Folder(FolderError::System(error))),
+) -> Result<SideFiles, ServeFailure> {
+    let folder = match folder.shared(rt) {
+        Ok(folder) => folder,
+        Err(error) => return Err(ServeFailure::Folder(FolderError::System(error))),
+    };
+    match ClockFile::new(rt, directory) {
+        Some(clock) => Ok(SideFiles {
+            access: AccessRecordFolder::new(*rt, folder, role),
+            clock,
+        }),
+        None => Err(ServeFailure::Ended(DaemonError::Memory)),
     }
 }
 
@@ -217,7 +227,7 @@ pub fn serve<R: Wait + Files + Net + RandomSource + Handle, L: Print>(
     let alloc = rt.alloc();
     let log = Log::new(alloc, notes);
     let folder = folder_of(rt, directory)?;
-    let keeper = access_in(rt, &folder, role)?;
+    let keeper = side_files_in(rt, &folder, directory, role)?;
     let volumes = opened(rt, folder, role)?;
     let clocks = SystemClocks::new(handles);
     let read = read_volumes(alloc, volumes, settings, &clocks)?;

@@ -10,6 +10,7 @@ use crate::daemon::Daemon;
 use crate::error::DaemonError;
 use crate::reporting::{going_on, journal_of};
 use crate::service::{PartnerView, ServiceState};
+use clock_watch::ClockStore;
 use daemon_endpoints::Arrival;
 use daemon_io::{ConnectionSource, Control, Datagrams, Poller};
 use disk_files::AccessRecordStore;
@@ -18,8 +19,6 @@ use order_book::Book;
 use server_clocks::{Clocks, Moment};
 use server_core::ServerCore;
 use server_log::DisconnectReason;
-use server_start::is_behind;
-use server_status::ClockState;
 
 impl<
     G: Datagrams,
@@ -27,27 +26,9 @@ impl<
     K: Control,
     C: Clocks,
     T: Poller,
-    A: AccessRecordStore,
+    A: AccessRecordStore + ClockStore,
     L: Print,
 > Daemon<'_, G, D, K, C, T, A, L> {
-    /// Looks whether the clock may go on with the journal.
-    pub(crate) fn check_clock(&mut self, book: &Book, now: &Moment)
-        ensures clients { self.new.clients ≡ self.old.clients }
-        ensures link { self.new.partner ≡ self.old.partner }
-        ensures service { self.new.service ≡ self.old.service }
-    {
-        let is_behind = match book.journal().last() {
-            Some(line) => is_behind(now.reading, line.reading, self.settings.skew()),
-            None => false,
-        };
-        let clock = if is_behind {
-            ClockState::Behind
-        } else {
-            ClockState::Right
-        };
-        self.watch.see_clock(clock, &self.log);
-    }
-
     /// Sees what the partner shows of this journal over the connection, and tells a person where that changes whether
     /// the server may serve.
     #[tactic(auto, using(crate::proofs::Shutting::shut_stays, crate::proofs::Shutting::short_shuts))]
@@ -134,6 +115,32 @@ impl<
             .partner
             .receive(running, self.settings, now, &self.clocks, &mut self.log)?;
         self.see_partner(running, now);
+        let was_asked = self.handle_request(running, now);
+        Ok(count > 0 || has_come || was_asked)
+    }
+    /// Passes clients over, and does what is asked, while its clock was set: it ends its session with the partner, hears
+    /// notices alone, and takes its clock for right where the two agree. Returns whether anything came.
+    #[tactic(auto, using(crate::proofs::Turned::nobody_came, crate::proofs::Turned::none_same, crate::proofs::Turned::none_then))]
+    pub(crate) fn compare_clocks<F: Folder + Drop>(
+        &mut self,
+        running: &mut ServerCore<F, Arrival<G::Peer>>,
+        now: &Moment,
+    ) -> Result<bool, DaemonError>
+    where
+        F::File: Drop,
+        ensures hears { MayReceive G.listens self.old.clients.datagrams self.new.clients.datagrams }
+        ensures stands { MayStand self.old.partner self.new.partner }
+        ensures transit { self.new.clients.transit ≡ self.old.clients.transit }
+        ensures files { HasSameFiles running.old running.new }
+    {
+        running.disconnect_partner();
+        let count = self.clients.discard()?;
+        let has_come = self
+            .partner
+            .meet(self.settings, now, &self.clocks, &mut self.log)?;
+        if self.partner.agrees() {
+            self.accept_clock(now);
+        }
         let was_asked = self.handle_request(running, now);
         Ok(count > 0 || has_come || was_asked)
     }

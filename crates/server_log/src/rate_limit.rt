@@ -1,12 +1,15 @@
-//! What is told at most once a minute.
+//! What is told at most once a minute, or an hour.
 
-ghost use Rattle.std.specs.Prelude.{◌≡◌, ◌↔◌, ◌<◌, IsTrue, IfSome, IsNone};
-ghost use Rattle.server_log.specs.RateLimits.{one_more, IsOver, IsDue};
+ghost use Rattle.std.specs.Prelude.{◌≡◌, ◌↔◌, ◌<◌, true, false, IsTrue, IfSome, IsNone};
+ghost use Rattle.server_log.specs.RateLimits.{one_more, IsOver, IsHourOver, IsDue};
 
 use lead_time::Reading;
 
 /// A minute, in milliseconds.
 const MINUTE: u64 = 60_000;
+
+/// An hour, in milliseconds.
+const HOUR: u64 = 3_600_000;
 
 /// When something was told last, and how often it has happened since.
 #[derive(Clone, Copy, Debug, PartialEq, Eq)]
@@ -55,5 +58,20 @@ impl RateLimit {
         let count = self.untold;
         *self = RateLimit::told(now);
         Some(count)
+    }
+
+    /// Returns whether an hour is over behind what was told last, and then it is told now. A clock that was set back
+    /// ends the hour too.
+    pub(crate) fn take_hour(&mut self, now: Reading) -> bool
+        ensures over { IsTrue result ↔ IsHourOver self.old.told now }
+        ensures told { result ≡ true → self.new ≡ record { told = now; untold = 0 } }
+        ensures not_yet { result ≡ false → self.new ≡ self.old }
+    {
+        let (told, read) = (self.told.milliseconds(), now.milliseconds());
+        let is_over = read < told || told + HOUR <= read;
+        if is_over {
+            *self = RateLimit::told(now);
+        }
+        is_over
     }
 }

@@ -1,12 +1,49 @@
 //! What lasts, and is told a person once.
 
 ghost use Rattle.std.specs.Prelude.{◌≡◌};
-ghost use Rattle.server_log.specs.Watches.{journal_seen};
+ghost use Rattle.server_log.specs.Watches.{clock_seen, journal_seen};
 
 use crate::log::Log;
 use crate::log_event::LogEvent;
+use lead_time::Reading;
 use server_status::{ClockState, JournalState};
 use server_timers::{DueActions, RollState, Room};
+
+/// How a clock was seen.
+#[derive(Clone, Copy, Debug, PartialEq, Eq)]
+pub enum SeenClock {
+    /// It may go on with the journal.
+    Right,
+    /// It fell too far behind the journal.
+    Behind,
+    /// It was set: it shows this, and by the monotonic clock it would show that.
+    Set { shows: Reading, expected: Reading },
+}
+
+impl SeenClock {
+    /// Returns whether the clock may go on with the journal.
+    pub fn state(&self) -> ClockState
+        ensures { result ≡ clock_seen self.now }
+    {
+        match self {
+            SeenClock::Right => ClockState::Right,
+            SeenClock::Behind => ClockState::Behind,
+            SeenClock::Set { .. } => ClockState::Set,
+        }
+    }
+
+    /// What a person is told where it wasn't so before.
+    fn event(&self) -> LogEvent {
+        match self {
+            SeenClock::Right => LogEvent::ClockRight,
+            SeenClock::Behind => LogEvent::ClockBehind,
+            SeenClock::Set { shows, expected } => LogEvent::ClockSet {
+                shows: *shows,
+                expected: *expected,
+            },
+        }
+    }
+}
 
 /// What was seen last of what lasts: each change is told once.
 #[derive(Clone, Copy)]
@@ -29,20 +66,22 @@ impl StateWatch {
     }
 
     /// Whether the clock may go on with the journal, by what was seen last.
-    pub fn clock(&self) -> ClockState {
+    pub fn clock(&self) -> ClockState
+        ensures { result ≡ self.now.clock }
+    {
         self.clock
     }
 
-    /// Sees how the clock is.
-    pub fn see_clock<L: Print>(&mut self, clock: ClockState, log: &Log<'_, L>) {
+    /// Sees how the clock is, and tells it where it wasn't so before.
+    pub fn see_clock<L: Print>(&mut self, seen: &SeenClock, log: &Log<'_, L>)
+        ensures { self.new ≡ record self.old { clock = clock_seen seen.now } }
+    {
+        let clock = seen.state();
         if clock == self.clock {
             return;
         }
         self.clock = clock;
-        log.log(&match clock {
-            ClockState::Behind => LogEvent::ClockBehind,
-            ClockState::Right => LogEvent::ClockRight,
-        });
+        log.log(&seen.event());
     }
 
     /// Whether the journal has all that the partner took of it, by what was seen so far.

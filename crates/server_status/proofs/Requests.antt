@@ -5,7 +5,8 @@ use Rattle.std.proofs.Common.{ap, sym, ◌∙◌}
 use Rattle.std.proofs.lemmas.Slice.Eq.{bytes_eq-Decides}
 use Rattle.std.proofs.lemmas.Option.{same_Some, none-some}
 use Rattle.server_status.specs.declared.control_request.ControlRequest.{ControlRequest}
-use Rattle.server_status.specs.declared.control_request.ControlRequest.TheVariants.{Status, Stop, Roll, PartnerDown, PartnerNormal}
+use Rattle.server_status.specs.declared.control_request.ControlRequest.TheVariants.{Status, Stop, Roll}
+use Rattle.server_status.specs.declared.control_request.ControlRequest.TheVariants.{PartnerDown, PartnerNormal, AcceptClock}
 use Rattle.server_status.specs.declared.control_request.StatusFormat.TheVariants.{Lines, Json, Metrics}
 use Rattle.server_status.specs.declared.control_request.ShutdownMode.TheVariants.{Open, Closed}
 use Rattle.server_status.specs.Words.{request_words, request_of}
@@ -20,6 +21,7 @@ words_read (Stop Closed) = refl
 words_read Roll = refl
 words_read PartnerDown = refl
 words_read PartnerNormal = refl
+words_read AcceptClock = refl
 
 -- the request that a line is by the first of some tests, or else by the others
 by_test : (line : List ℕ) (r s : ControlRequest) (other : Option ControlRequest) (b : Bool) → bytes_eq line (request_words s) ≡ b
@@ -37,8 +39,9 @@ unfolding request_of
 read_words line r is =
     or_else line r (Status Lines) _ (λ is. or_else line r (Status Json) _ (λ is. or_else line r (Status Metrics) _
     (λ is. or_else line r (Stop Open) _ (λ is. or_else line r (Stop Closed) _ (λ is. or_else line r Roll _
-    (λ is. or_else line r PartnerDown _ (λ is. or_else line r PartnerNormal None
-    (λ is. absurd (none-some r is)) is) is) is) is) is) is) is) is
+    (λ is. or_else line r PartnerDown _ (λ is. or_else line r PartnerNormal _
+    (λ is. or_else line r AcceptClock None
+    (λ is. absurd (none-some r is)) is) is) is) is) is) is) is) is) is
 
 pub read_again : (line : List ℕ) (found : Option ControlRequest) (r : ControlRequest) → found ≡ request_of line
     → (found ≡ Some r) ↔ (line ≡ request_words r)

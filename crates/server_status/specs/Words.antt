@@ -2,7 +2,8 @@
 use Rattle.std.specs.Prelude.{◌≡◌, ◌≢◌, ℕ, ◌<◌, List, ◌∷◌, ◌++◌, length, get_or, codes, Option, Some, None}
 use Rattle.std.specs.Prelude.{bytes_eq, if◌then◌else◌}
 use Rattle.server_status.specs.declared.control_request.ControlRequest.{ControlRequest}
-use Rattle.server_status.specs.declared.control_request.ControlRequest.TheVariants.{Status, Stop, Roll, PartnerDown, PartnerNormal}
+use Rattle.server_status.specs.declared.control_request.ControlRequest.TheVariants.{Status, Stop, Roll}
+use Rattle.server_status.specs.declared.control_request.ControlRequest.TheVariants.{PartnerDown, PartnerNormal, AcceptClock}
 use Rattle.server_status.specs.declared.control_request.StatusFormat.TheVariants.{Lines, Json, Metrics}
 use Rattle.server_status.specs.declared.control_request.ShutdownMode.TheVariants.{Open, Closed}
 use Rattle.server_status.specs.declared.control_reply.ControlVerdict.{ControlVerdict}
@@ -21,6 +22,7 @@ request_words (Stop Closed) = codes "stop close"
 request_words Roll = codes "roll"
 request_words PartnerDown = codes "partner-down the partner is stopped"
 request_words PartnerNormal = codes "partner-normal"
+request_words AcceptClock = codes "clock-accepted the clock is right"
 
 -- the request whose line this is
 unfoldable pub request_of : List ℕ → Option ControlRequest
@@ -33,7 +35,8 @@ request_of line =
     else (if bytes_eq line (codes "roll") then Some Roll
     else (if bytes_eq line (codes "partner-down the partner is stopped") then Some PartnerDown
     else (if bytes_eq line (codes "partner-normal") then Some PartnerNormal
-    else None)))))))
+    else (if bytes_eq line (codes "clock-accepted the clock is right") then Some AcceptClock
+    else None))))))))
 
 -- ---- answers
 

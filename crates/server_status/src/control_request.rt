@@ -11,6 +11,9 @@ use std::fmt::Write;
 /// The words by which a person vouches that the partner is stopped: that it serves nobody.
 pub const PARTNER_STOPPED: &str = "the partner is stopped";
 
+/// The words by which a person vouches that the clock, which was set, is right: he compared it with another.
+pub const CLOCK_RIGHT: &str = "the clock is right";
+
 /// How a status is written.
 #[derive(Clone, Copy, Debug, PartialEq, Eq)]
 pub enum StatusFormat {
@@ -43,6 +46,8 @@ pub enum ControlRequest {
     PartnerDown,
     /// To take it for up again.
     PartnerNormal,
+    /// To take its clock for right. The line has the words [`CLOCK_RIGHT`]: safety rests on them.
+    AcceptClock,
 }
 
 /// The request that words make.
@@ -66,6 +71,8 @@ fn request_of(line: &str) -> Option<ControlRequest>
         Some(ControlRequest::PartnerDown)
     } else if line == "partner-normal" {
         Some(ControlRequest::PartnerNormal)
+    } else if line == "clock-accepted the clock is right" {
+        Some(ControlRequest::AcceptClock)
     } else {
         None
     }
@@ -85,6 +92,7 @@ impl ControlRequest {
             ControlRequest::Roll => "roll",
             ControlRequest::PartnerDown => "partner-down the partner is stopped",
             ControlRequest::PartnerNormal => "partner-normal",
+            ControlRequest::AcceptClock => "clock-accepted the clock is right",
         }
     }
 

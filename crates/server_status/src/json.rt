@@ -1,5 +1,6 @@
 //! A status as JSON. Readings are in milliseconds since 1970, and what there isn't is `null`.
 
+use crate::notices::PartnerNotices;
 use crate::serving::{NotServing, ServingState};
 use crate::status::{ServerStatus, VolumeStatus};
 use crate::sync_times::SyncSummary;
@@ -7,6 +8,7 @@ use crate::traffic::Traffic;
 use crate::units::UnitCounts;
 use crate::writing::{role_name, roll_name, room_name};
 use lead_time::Reading;
+use link_notices::{ClockRange, SettingsDifference};
 use serde_json::{Map, ToValue, Value, json, put};
 use std::alloc::{AllocError, Global};
 
@@ -52,16 +54,6 @@ fn volume_of(alloc: Global, volume: &VolumeStatus) -> Result<Value, AllocError> 
     })
 }
 
-fn partner_of(alloc: Global, status: &ServerStatus) -> Result<Value, AllocError> {
-    json!(in alloc; {
-        "standing": status.standing.name(),
-        "standing_since_ms": reading_or_null(status.standing.since()),
-        "link": status.link.name(),
-        "connected_since_ms": reading_or_null(status.link.since()),
-        "heard_ms": reading_or_null(status.heard)
-    })
-}
-
 fn syncs_of(alloc: Global, syncs: &Option<SyncSummary>) -> Result<Value, AllocError> {
     match syncs {
         Some(syncs) => json!(in alloc; {
@@ -88,13 +80,79 @@ fn add<V: ToValue>(
 fn add_server(
     alloc: Global,
     object: &mut Map<String, Value>,
-    status: &ServerStatus,
+    status: &ServerStatus<'_>,
 ) -> Result<(), AllocError> {
     add(alloc, object, "role", role_name(status.role))?;
     add(alloc, object, "reading_ms", status.reading.milliseconds())?;
     add(alloc, object, "clock", status.clock.name())?;
     add(alloc, object, "ahead_ms", status.ahead())?;
     add(alloc, object, "journal", status.journal.name())
+}
+
+/// Between how many milliseconds ahead the partner's clock is, or null.
+fn range_or_null(alloc: Global, range: &Option<ClockRange>) -> Result<Value, AllocError> {
+    match range {
+        Some(range) => json!(in alloc; { "least_ms": range.least, "most_ms": range.most }),
+        None => Ok(Value::Null),
+    }
+}
+
+/// Which program the partner is, or null.
+fn program_or_null(alloc: Global, program: &Option<(&str, &str)>) -> Result<Value, AllocError> {
+    match program {
+        Some((name, version)) => Ok(Value::String(format!(in alloc; "{name} {version}")?)),
+        None => Ok(Value::Null),
+    }
+}
+
+/// A list of the names of settings.
+fn names_of(alloc: Global, differences: &[SettingsDifference]) -> Result<Value, AllocError> {
+    let mut names = Vec::new(alloc);
+    for difference in differences {
+        names.push(difference.name().to_value(alloc)?)?;
+    }
+    Ok(Value::Array(names))
+}
+
+/// Puts what the server takes its partner for, and how it is linked to it.
+fn add_standing(
+    alloc: Global,
+    object: &mut Map<String, Value>,
+    status: &ServerStatus<'_>,
+) -> Result<(), AllocError> {
+    let since = reading_or_null(status.standing.since());
+    add(alloc, object, "standing", status.standing.name())?;
+    add(alloc, object, "standing_since_ms", since)?;
+    let since = reading_or_null(status.link.since());
+    add(alloc, object, "link", status.link.name())?;
+    add(alloc, object, "connected_since_ms", since)?;
+    add(alloc, object, "heard_ms", reading_or_null(status.heard))
+}
+
+/// Puts what the partner told beside the frames.
+fn add_notices(
+    alloc: Global,
+    object: &mut Map<String, Value>,
+    notices: &PartnerNotices<'_>,
+) -> Result<(), AllocError> {
+    let clock = range_or_null(alloc, &notices.clock)?;
+    let program = program_or_null(alloc, &notices.program)?;
+    let settings = match notices.settings {
+        Some(differences) => names_of(alloc, differences)?,
+        None => Value::Null,
+    };
+    add(alloc, object, "notices", notices.state.name())?;
+    add(alloc, object, "clock", clock)?;
+    add(alloc, object, "program", program)?;
+    add(alloc, object, "settings", settings)
+}
+
+/// What is known of the partner, as an object.
+fn partner_of(alloc: Global, status: &ServerStatus<'_>) -> Result<Map<String, Value>, AllocError> {
+    let mut object = Map::new(alloc);
+    add_standing(alloc, &mut object, status)?;
+    add_notices(alloc, &mut object, &status.notices)?;
+    Ok(object)
 }
 
 /// Puts how many units there are of each kind, and how many changes the partner lacks.
@@ -135,14 +193,14 @@ fn add_unanswered(
 }
 
 /// A status as an object.
-fn object_of(alloc: Global, status: &ServerStatus) -> Result<Map<String, Value>, AllocError> {
+fn object_of(alloc: Global, status: &ServerStatus<'_>) -> Result<Map<String, Value>, AllocError> {
     let mut object = Map::new(alloc);
     let serving = serving_value(alloc, &status.serving)?;
     add(alloc, &mut object, "serving", serving)?;
     add_server(alloc, &mut object, status)?;
     let volume = volume_of(alloc, &status.volume)?;
     add(alloc, &mut object, "volume", volume)?;
-    let partner = partner_of(alloc, status)?;
+    let partner = Value::Object(partner_of(alloc, status)?);
     add(alloc, &mut object, "partner", partner)?;
     add_units(alloc, &mut object, &status.units)?;
     add_messages(alloc, &mut object, &status.traffic)?;
@@ -153,7 +211,7 @@ fn object_of(alloc: Global, status: &ServerStatus) -> Result<Map<String, Value>,
 }
 
 /// Writes JSON: one object, and a line feed. `AllocError` where a growth was refused.
-pub(crate) fn json_of(alloc: Global, status: &ServerStatus) -> Result<String, AllocError> {
+pub(crate) fn json_of(alloc: Global, status: &ServerStatus<'_>) -> Result<String, AllocError> {
     let mut text = Value::Object(object_of(alloc, status)?).to_string(alloc)?;
     text.push('\n')?;
     Ok(text)

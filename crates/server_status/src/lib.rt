@@ -3,7 +3,8 @@
 //!
 //! A [`ServerStatus`] is filled in by the server, and written in a form that a person asks for: lines to read, JSON, or
 //! the text of OpenMetrics that a monitor scrapes. [`UnitCounts`], [`Traffic`] and [`SyncTimes`] count what it says;
-//! [`serving_of`] decides whether clients are served, and why not (specs/Serving).
+//! [`serving_of`] decides whether clients are served, and why not (specs/Serving). [`PartnerNotices`] is what its
+//! partner told beside the frames.
 //!
 //! ```text
 //! status.text(alloc, StatusFormat::Json)
@@ -28,6 +29,7 @@ mod control_request;
 mod json;
 mod lines;
 mod metrics;
+mod notices;
 mod serving;
 mod status;
 mod sync_times;
@@ -36,8 +38,13 @@ mod units;
 mod writing;
 
 pub use control_reply::{ControlReply, ControlVerdict};
-pub use control_request::{ControlRequest, PARTNER_STOPPED, ShutdownMode, StatusFormat};
-pub use serving::{JournalShortage, JournalState, NotServing, ServingState, serving_of};
+pub use control_request::{
+    CLOCK_RIGHT, ControlRequest, PARTNER_STOPPED, ShutdownMode, StatusFormat,
+};
+pub use notices::{NoticeState, PartnerNotices};
+pub use serving::{
+    JournalShortage, JournalState, NotServing, ServingInput, ServingState, serving_of,
+};
 pub use status::{ClockState, LinkState, PartnerState, ServerStatus, VolumeStatus};
 pub use sync_times::{SyncSummary, SyncTime, SyncTimes};
 pub use traffic::{AnswerCounts, FaultCounts, MessageCounts, Traffic};

@@ -1,11 +1,13 @@
 //! A status as lines for a person, each a name and what it is.
 
+use crate::notices::{Lead, PartnerNotices};
 use crate::status::{ServerStatus, VolumeStatus};
 use crate::sync_times::SyncSummary;
 use crate::traffic::Traffic;
 use crate::units::UnitCounts;
 use crate::writing::{push_moment, role_name, roll_name, room_name};
 use lead_time::Reading;
+use link_notices::{ClockRange, SettingsDifference};
 use std::alloc::{AllocError, Global};
 
 /// Appends a line that names a moment.
@@ -47,7 +49,11 @@ fn push_counts(
 }
 
 /// Appends whether clients are served, and what the server, its clock and its journal are.
-fn push_server(out: &mut String, alloc: Global, status: &ServerStatus) -> Result<(), AllocError> {
+fn push_server(
+    out: &mut String,
+    alloc: Global,
+    status: &ServerStatus<'_>,
+) -> Result<(), AllocError> {
     let role = role_name(status.role);
     let clock = status.clock.name();
     let ahead = status.ahead();
@@ -72,13 +78,65 @@ fn push_volume(out: &mut String, alloc: Global, volume: &VolumeStatus) -> Result
 }
 
 /// Appends what is known of the partner.
-fn push_partner(out: &mut String, alloc: Global, status: &ServerStatus) -> Result<(), AllocError> {
+fn push_partner(
+    out: &mut String,
+    alloc: Global,
+    status: &ServerStatus<'_>,
+) -> Result<(), AllocError> {
     let (standing, link) = (&status.standing, &status.link);
     push_since(out, alloc, "partner", standing.name(), standing.since())?;
     push_since(out, alloc, "link", link.name(), link.since())?;
     match status.heard {
         Some(heard) => push_at(out, alloc, "heard", heard),
         None => writeln!(out, "heard: never"),
+    }
+}
+
+/// Appends which program the partner is.
+fn push_program(out: &mut String, program: &Option<(&str, &str)>) -> Result<(), AllocError> {
+    match program {
+        Some((name, version)) => writeln!(out, "partner_program: {name} {version}"),
+        None => writeln!(out, "partner_program: unknown"),
+    }
+}
+
+/// Appends by how much the partner's clock is ahead.
+fn push_partner_clock(out: &mut String, clock: &Option<ClockRange>) -> Result<(), AllocError> {
+    match clock {
+        Some(range) => {
+            let (least, most) = (Lead(range.least), Lead(range.most));
+            writeln!(out, "partner_clock: between {least} and {most}")
+        }
+        None => writeln!(out, "partner_clock: unknown"),
+    }
+}
+
+/// Appends in what the partner's settings differ.
+fn push_differences(
+    out: &mut String,
+    differences: &[SettingsDifference],
+) -> Result<(), AllocError> {
+    if differences.is_empty() {
+        return writeln!(out, "settings: agree");
+    }
+    out.push_str("settings: differ in ")?;
+    let mut stop = "";
+    for difference in differences {
+        write!(out, "{stop}{difference}")?;
+        stop = "; ";
+    }
+    out.push('\n')
+}
+
+/// Appends what the partner told beside the frames.
+fn push_notices(out: &mut String, notices: &PartnerNotices<'_>) -> Result<(), AllocError> {
+    let state = notices.state;
+    writeln!(out, "notices: {state}")?;
+    push_program(out, &notices.program)?;
+    push_partner_clock(out, &notices.clock)?;
+    match notices.settings {
+        Some(differences) => push_differences(out, differences),
+        None => writeln!(out, "settings: unknown"),
     }
 }
 
@@ -116,11 +174,12 @@ fn push_syncs(out: &mut String, syncs: &Option<SyncSummary>) -> Result<(), Alloc
 }
 
 /// Writes lines for a person. `AllocError` where a growth was refused.
-pub(crate) fn lines_of(alloc: Global, status: &ServerStatus) -> Result<String, AllocError> {
+pub(crate) fn lines_of(alloc: Global, status: &ServerStatus<'_>) -> Result<String, AllocError> {
     let mut out = String::new(alloc);
     push_server(&mut out, alloc, status)?;
     push_volume(&mut out, alloc, &status.volume)?;
     push_partner(&mut out, alloc, status)?;
+    push_notices(&mut out, &status.notices)?;
     push_units(&mut out, &status.units)?;
     push_traffic(&mut out, &status.traffic)?;
     push_syncs(&mut out, &status.syncs)?;

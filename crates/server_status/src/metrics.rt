@@ -1,12 +1,14 @@
 //! A status as the text of OpenMetrics, for a monitor that scrapes it.
 
+use crate::notices::{VERDICTS, verdict_name};
 use crate::serving::{NotServing, ServingState};
-use crate::status::{ServerStatus, VolumeStatus};
+use crate::status::{ClockState, ServerStatus, VolumeStatus};
 use crate::sync_times::SyncSummary;
 use crate::traffic::Traffic;
 use crate::units::UnitCounts;
 use crate::writing::{role_name, roll_name, room_name};
 use lead_time::Reading;
+use link_notices::ClockVerdict;
 use std::alloc::{AllocError, Global};
 
 /// Begins a family of metrics.
@@ -90,7 +92,7 @@ fn push_moment(
 }
 
 /// Appends what the server and its clock are.
-fn push_server(out: &mut String, status: &ServerStatus) -> Result<(), AllocError> {
+fn push_server(out: &mut String, status: &ServerStatus<'_>) -> Result<(), AllocError> {
     let role = role_name(status.role);
     push_family(out, "server", "info", "What the server is.")?;
     writeln!(out, "fengtuyas_server_info{{role=\"{role}\"}} 1")?;
@@ -98,7 +100,7 @@ fn push_server(out: &mut String, status: &ServerStatus) -> Result<(), AllocError
         out,
         "clock",
         "Whether the clock may go on with the journal.",
-        &["right", "behind"],
+        &ClockState::NAMES,
         status.clock.name(),
     )?;
     push_moment(
@@ -199,7 +201,7 @@ fn push_limits(out: &mut String, volume: &VolumeStatus) -> Result<(), AllocError
 }
 
 /// Appends what is known of the partner.
-fn push_partner(out: &mut String, status: &ServerStatus) -> Result<(), AllocError> {
+fn push_partner(out: &mut String, status: &ServerStatus<'_>) -> Result<(), AllocError> {
     push_states(
         out,
         "partner",
@@ -231,6 +233,17 @@ fn push_partner(out: &mut String, status: &ServerStatus) -> Result<(), AllocErro
         "partner_heard_timestamp_seconds",
         "When the partner's last message was taken.",
         status.heard,
+    )
+}
+
+/// Appends what is known of the partner's clock.
+fn push_partner_clock(out: &mut String, verdict: Option<ClockVerdict>) -> Result<(), AllocError> {
+    push_states(
+        out,
+        "partner_clock",
+        "Whether the partner's clock and this one may both be right.",
+        &VERDICTS,
+        verdict_name(verdict),
     )
 }
 
@@ -322,7 +335,7 @@ fn push_syncs(out: &mut String, syncs: &Option<SyncSummary>) -> Result<(), Alloc
 }
 
 /// Writes the text of OpenMetrics. `AllocError` where a growth was refused.
-pub(crate) fn metrics_of(alloc: Global, status: &ServerStatus) -> Result<String, AllocError> {
+pub(crate) fn metrics_of(alloc: Global, status: &ServerStatus<'_>) -> Result<String, AllocError> {
     let mut out = String::new(alloc);
     push_server(&mut out, status)?;
     push_ahead(&mut out, status.ahead())?;
@@ -331,6 +344,7 @@ pub(crate) fn metrics_of(alloc: Global, status: &ServerStatus) -> Result<String,
     push_volume(&mut out, &status.volume)?;
     push_limits(&mut out, &status.volume)?;
     push_partner(&mut out, status)?;
+    push_partner_clock(&mut out, status.notices.verdict)?;
     push_units(&mut out, &status.units)?;
     push_traffic(&mut out, &status.traffic)?;
     push_syncs(&mut out, &status.syncs)?;

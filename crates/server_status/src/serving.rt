@@ -1,10 +1,11 @@
 //! Whether a server serves clients, and what of its journal is known to lack.
 
 ghost use Rattle.std.specs.Prelude.{◌≡◌};
-ghost use Rattle.server_status.specs.Serving.{serving_of};
+ghost use Rattle.server_status.specs.Serving.{serving_of, by_hold_off, partner_reason};
 
 use crate::status::{ClockState, PartnerState};
 use binding_rules::Counter;
+use link_notices::ClockVerdict;
 use prefix_range::Prefix;
 use server_timers::Room;
 use std::fmt;
@@ -24,8 +25,14 @@ pub enum ServingState {
 pub enum NotServing {
     /// Its partner has yet to answer it.
     WaitsForPartner,
+    /// It waits for its partner, whose clock and this one can't both be right.
+    PartnerClockDiffers,
     /// Its clock is too far behind its journal.
     ClockBehind,
+    /// Its clock was set.
+    ClockSet,
+    /// It asks its partner's clock before it begins.
+    AsksPartnerClock,
     /// Its journal lacks what its partner took of it.
     JournalOlder,
     /// Its volume has room for a close line alone.
@@ -61,35 +68,75 @@ pub enum JournalShortage {
     PartnerServes,
 }
 
-/// Whether a server serves clients, and else the first reason that it has: its journal is older; its clock is behind;
-/// it goes on in so many seconds; it waits for its partner; its volume is full.
-pub fn serving_of(
-    journal: &JournalState,
-    clock: ClockState,
-    goes_on_in: Option<u64>,
-    standing: &PartnerState,
-    room: Room,
-) -> ServingState
-    ensures { result ≡ serving_of journal.now clock goes_on_in standing.now room }
+/// What decides whether a server serves clients.
+#[derive(Clone, Copy, Debug, PartialEq, Eq)]
+pub struct ServingInput {
+    pub journal: JournalState,
+    pub clock: ClockState,
+    /// Whether it asks its partner's clock before it begins.
+    pub asks_clock: bool,
+    /// In how many seconds it goes on, where it holds off.
+    pub goes_on_in: Option<u64>,
+    pub standing: PartnerState,
+    /// What is known of its partner's clock, if anything is.
+    pub partner_clock: Option<ClockVerdict>,
+    pub room: Room,
+}
+
+/// Why a server that waits for its partner does.
+fn partner_reason(verdict: Option<ClockVerdict>) -> NotServing
+    ensures { result ≡ partner_reason verdict }
 {
-    match (journal, clock, goes_on_in, standing, room) {
-        (JournalState::Older(_), _, _, _, _) => ServingState::No(NotServing::JournalOlder),
-        (_, ClockState::Behind, _, _, _) => ServingState::No(NotServing::ClockBehind),
-        (_, _, Some(seconds), _, _) => ServingState::No(NotServing::GoesOnIn { seconds }),
-        (_, _, _, PartnerState::Waiting { .. }, _) => ServingState::No(NotServing::WaitsForPartner),
-        (_, _, _, _, Room::Full) => ServingState::No(NotServing::VolumeFull),
-        _ => ServingState::Yes,
+    match verdict {
+        Some(ClockVerdict::TooFarOff) => NotServing::PartnerClockDiffers,
+        Some(ClockVerdict::Agrees | ClockVerdict::Unknown) | None => NotServing::WaitsForPartner,
+    }
+}
+
+/// Whether a server whose journal is whole, whose clock is right, and which has begun serves clients.
+fn by_hold_off(input: &ServingInput) -> ServingState
+    ensures { result ≡ by_hold_off input.now.goes_on_in input.now.standing input.now.partner_clock input.now.room }
+{
+    match (input.goes_on_in, input.standing, input.room) {
+        (Some(seconds), _, _) => ServingState::No(NotServing::GoesOnIn { seconds }),
+        (None, PartnerState::Waiting { .. }, _) => {
+            ServingState::No(partner_reason(input.partner_clock))
+        }
+        (None, PartnerState::Normal | PartnerState::Down { .. }, Room::Full) => {
+            ServingState::No(NotServing::VolumeFull)
+        }
+        (None, PartnerState::Normal | PartnerState::Down { .. }, _) => ServingState::Yes,
+    }
+}
+
+/// Whether a server serves clients, and else the first reason that it has: its journal is older; its clock is behind,
+/// or was set; it asks its partner's clock before it begins; it goes on in so many seconds; it waits, and its partner's
+/// clock differs; it waits for its partner's answer; its volume is full.
+pub fn serving_of(input: &ServingInput) -> ServingState
+    ensures { result ≡ serving_of input.now }
+{
+    match (input.journal, input.clock, input.asks_clock) {
+        (JournalState::Older(_), _, _) => ServingState::No(NotServing::JournalOlder),
+        (JournalState::Whole, ClockState::Behind, _) => ServingState::No(NotServing::ClockBehind),
+        (JournalState::Whole, ClockState::Set, _) => ServingState::No(NotServing::ClockSet),
+        (JournalState::Whole, ClockState::Right, true) => {
+            ServingState::No(NotServing::AsksPartnerClock)
+        }
+        (JournalState::Whole, ClockState::Right, false) => by_hold_off(input),
     }
 }
 
 impl NotServing {
     /// The name of each reason.
-    pub(crate) const NAMES: [&'static str; 5] = [
+    pub(crate) const NAMES: [&'static str; 8] = [
         "waits_for_partner",
         "clock_behind",
         "journal_older",
         "volume_full",
         "goes_on_after_restart",
+        "clock_set",
+        "asks_partner_clock",
+        "partner_clock_differs",
     ];
 
     /// The name of the reason, as programs read it.
@@ -100,6 +147,9 @@ impl NotServing {
             NotServing::JournalOlder => "journal_older",
             NotServing::VolumeFull => "volume_full",
             NotServing::GoesOnIn { .. } => "goes_on_after_restart",
+            NotServing::ClockSet => "clock_set",
+            NotServing::AsksPartnerClock => "asks_partner_clock",
+            NotServing::PartnerClockDiffers => "partner_clock_differs",
         }
     }
 }
@@ -127,7 +177,10 @@ impl fmt::Display for NotServing {
     fn fmt<W: Write>(&self, f: &mut fmt::Formatter<W>) -> fmt::Result {
         match self {
             NotServing::WaitsForPartner => f.write_str("waits for its partner's answer"),
+            NotServing::PartnerClockDiffers => f.write_str("its partner's clock differs"),
             NotServing::ClockBehind => f.write_str("clock behind"),
+            NotServing::ClockSet => f.write_str("clock set"),
+            NotServing::AsksPartnerClock => f.write_str("asks its partner's clock"),
             NotServing::JournalOlder => f.write_str("journal older than what its partner took"),
             NotServing::VolumeFull => f.write_str("volume full"),
             NotServing::GoesOnIn { seconds } => {

@@ -6,6 +6,7 @@ use crate::control_request::StatusFormat;
 use crate::json::json_of;
 use crate::lines::lines_of;
 use crate::metrics::metrics_of;
+use crate::notices::PartnerNotices;
 use crate::serving::{JournalState, ServingState};
 use crate::sync_times::SyncSummary;
 use crate::traffic::Traffic;
@@ -16,8 +17,8 @@ use server_timers::{RollState, Room};
 use std::alloc::{AllocError, Global};
 
 /// How a server is, when its clock reads `reading`.
-#[derive(Clone, Copy, Debug, PartialEq, Eq)]
-pub struct ServerStatus {
+#[derive(Clone, Copy)]
+pub struct ServerStatus<'a> {
     pub role: Role,
     pub reading: Reading,
     pub clock: ClockState,
@@ -34,6 +35,8 @@ pub struct ServerStatus {
     pub serving: ServingState,
     /// Whether it has all that its partner took of it.
     pub journal: JournalState,
+    /// What its partner told beside the frames.
+    pub notices: PartnerNotices<'a>,
 }
 
 /// Whether the clock may go on with the journal.
@@ -42,6 +45,8 @@ pub enum ClockState {
     Right,
     /// It reads more than twice the skew below the journal's last line: nothing is served.
     Behind,
+    /// Somebody set it, and nobody said yet that it is right: nothing is served.
+    Set,
 }
 
 /// The volume that a server writes.
@@ -81,7 +86,7 @@ pub enum LinkState {
     Connected { since: Reading },
 }
 
-impl ServerStatus {
+impl ServerStatus<'_> {
     /// By how many milliseconds the clock is ahead of the last line; below 0 where it is behind.
     pub fn ahead(&self) -> i64
         ensures { result ≡ pos self.now.reading -ℤ pos self.now.volume.written }
@@ -100,10 +105,14 @@ impl ServerStatus {
 }
 
 impl ClockState {
+    /// The name of each state.
+    pub(crate) const NAMES: [&'static str; 3] = ["right", "behind", "set"];
+
     pub(crate) fn name(&self) -> &'static str {
         match self {
             ClockState::Right => "right",
             ClockState::Behind => "behind",
+            ClockState::Set => "set",
         }
     }
 }

@@ -13,6 +13,9 @@ MOST = SKEW - 2
 # How long it is until either clock is set, on average, in seconds, and by how much it steps where that is little, in
 # milliseconds.
 STANDS, LITTLE = 0.6, 30
+# How far a clock steps at once, at most, in milliseconds: a step by more than the skew is a clock that was set, also where two
+# steps fall into one turn of a server.
+FARTHEST = SKEW // 2
 # Where a clock is set to, and how often: anywhere, to either end, to the end that the other is farthest from, by
 # little, right.
 AIMS = {"anywhere": 3, "end": 3, "apart": 2, "little": 2, "right": 1}
@@ -47,7 +50,8 @@ class Clocks(threading.Thread):
         return {"anywhere": self.dice.uniform(-MOST, MOST), "end": self.dice.choice([-MOST, MOST]), "right": 0.0}[aim]
 
     def step(self, side):
-        shift = self.aim(side)
+        before = self.shifts[side][-1]
+        shift = max(before - FARTHEST, min(before + FARTHEST, self.aim(side)))
         self.begins[side].append(now())
         self.delays[side].shift(shift)
         self.ends[side][-1] = now()

@@ -1,0 +1,42 @@
+//! What a server keeps beside its volumes.
+
+ghost use Rattle.disk_files.specs.Open.{lines_of};
+
+use access_records::AccessRecord;
+use clock_file::ClockFile;
+use clock_watch::{ClockRecord, ClockStore};
+use disk_files::{AccessRecordFolder, AccessRecordStore, KeepError};
+use lead_time::Reading;
+
+/// What a server keeps in its directory beside its volumes.
+#[derive(Drop)]
+pub(crate) struct SideFiles {
+    pub(crate) access: AccessRecordFolder,
+    pub(crate) clock: ClockFile,
+}
+
+impl AccessRecordStore for SideFiles {
+    ghost lines = { λ files volume. lines_of files.access.open volume };
+
+    fn read_records(&self, volume: u32) -> Result<Vec<AccessRecord>, KeepError> {
+        self.access.read_records(volume)
+    }
+
+    fn append_records(&mut self, volume: u32, records: &[AccessRecord]) -> Result<(), KeepError> {
+        self.access.append_records(volume, records)
+    }
+}
+
+impl ClockStore for SideFiles {
+    fn recorded(&self) -> Option<ClockRecord> {
+        self.clock.recorded()
+    }
+
+    fn present(&self, wall: Reading) -> Option<ClockRecord> {
+        self.clock.present(wall)
+    }
+
+    fn keep(&mut self, record: &ClockRecord) {
+        self.clock.keep(record);
+    }
+}
