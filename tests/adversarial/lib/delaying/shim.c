@@ -30,9 +30,15 @@ __attribute__((constructor)) static void begin(void) {
 }
 
 int clock_gettime(clockid_t clock, struct timespec *out) {
-    int done = (int)syscall(SYS_clock_gettime, clock, out);
-    if (done || (clock != CLOCK_REALTIME && clock != CLOCK_MONOTONIC)) return done;
-    int64_t shift = words[clock == CLOCK_REALTIME ? SHIFT : STEADY];
+    if (clock != CLOCK_REALTIME && clock != CLOCK_MONOTONIC) return (int)syscall(SYS_clock_gettime, clock, out);
+    int word = clock == CLOCK_REALTIME ? SHIFT : STEADY, done;
+    int64_t shift;
+    /* the shift that held at that moment: a thread may lose its processor between the two */
+    do {
+        shift = words[word];
+        done = (int)syscall(SYS_clock_gettime, clock, out);
+    } while (!done && words[word] != shift);
+    if (done) return done;
     int64_t reading = out->tv_sec * INT64_C(1000000000) + out->tv_nsec + shift;
     out->tv_sec = reading / SECOND;
     out->tv_nsec = reading % SECOND;
