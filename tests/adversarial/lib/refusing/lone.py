@@ -93,6 +93,8 @@ class Lone:
         if not server.start():
             yield f"doesn't start again, status {server.process.returncode}: {server.said()[-300:]!r}"
             return
+        if refusal and refusal.is_of_clock():
+            server.accept_clock()
         if told and not (refusal and refusal.is_far()):
             found = talker.answer(server, RENEW, client, max(told))
             if found is None or found[1] not in told:

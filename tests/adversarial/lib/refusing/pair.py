@@ -72,7 +72,9 @@ class Pair:
         first, second = talker.client(1), talker.client(2)
         given = self.served(servers, one, talker, first)
         lent = self.served(servers, other, talker, second)
-        if given and not self.takes(other, one, given):
+        # (whose clock is far off joins nobody)
+        is_far = refusal is not None and refusal.is_far()
+        if given and not is_far and not self.takes(other, one, given):
             yield f"B isn't told of {given} within {TOGETHER} s"
         if given:
             talker.answer(other, REBIND, first, given)
@@ -104,6 +106,7 @@ class Pair:
         for side, server in servers.items():
             if not ended(server, refusal if side == self.watched else None):
                 yield f"{side} doesn't stop: {server.said()[-300:]!r}"
+                server.kill()
         for side, server in servers.items():
             status, said = server.process.returncode, server.said()
             is_watched = refusal is not None and side == self.watched

@@ -37,7 +37,11 @@ prefix = "2001:db8::/61"
 unit = 64
 """
 LINK = 'link = "[{host}]:{port}"\nlink_key = "link.key"'
-STARTED = re.compile(f"node: (goes on with|begins) volume|{ASKS}")
+# What a server says that serves nobody since its clock was set, and what a person says of that.
+CLOCK_SET, CLOCK_IS_RIGHT = "node: serves nobody: its clock was set", "the clock is right"
+STARTED = re.compile(f"node: (goes on with|begins) volume|{ASKS}|{CLOCK_SET}")
+# Why it does nothing that wants a line, while its start waits for its clock.
+NOT_BEGUN = "it asks its partner's clock and writes no line yet"
 # The last line of a server that ends by itself: it says why.
 REASON = re.compile(r"<3>node: \S.*\n\Z")
 # What the program says where it has no memory before it serves.
@@ -146,15 +150,22 @@ class Server:
             return None
 
     def stop(self, *words):
-        """Has it stop: whether it has ended."""
+        """Has it stop: whether it has ended. One that has yet to begin closes no volume: it is told so much less."""
         until = time.monotonic() + LONGEST
         while self.is_up() and time.monotonic() < until:
-            self.told("stop", *words)
+            _, said = self.told("stop", *words)
+            if NOT_BEGUN in said:
+                self.told("stop")
             try:
                 self.process.wait(timeout=2)
             except subprocess.TimeoutExpired:
                 pass
         return not self.is_up()
+
+    def accept_clock(self):
+        """Where it goes by another clock than the one before, a person takes that for right."""
+        if CLOCK_SET in self.said():
+            self.told_well("clock-accepted", CLOCK_IS_RIGHT)
 
     def kill(self):
         if self.is_up():
