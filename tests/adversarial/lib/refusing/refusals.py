@@ -87,8 +87,8 @@ class Refusal:
         return self.is_of_clock() and self.how in ("back 3600000", "stand 0")
 
     def is_deaf(self):
-        """Whether nobody can tell the server anything from that call on."""
-        return self.kind == "accept4" and self.target.startswith("control") and self.how.startswith("stay")
+        """Whether nobody can tell the server anything from that call on: none of its sockets takes a connection."""
+        return self.kind == "accept4" and self.how.startswith("stay")
 
     def call(self):
         """The words that the shim takes."""
