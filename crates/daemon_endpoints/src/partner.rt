@@ -112,6 +112,14 @@ impl<D: ConnectionSource> PartnerEndpoint<D> {
         self.standing.as_ref()?.heard
     }
 
+    /// Returns whether anything came over the connection that stands since so long ago, by the monotonic clock.
+    pub fn is_heard_within(&self, limit: Duration, now: Instant) -> bool {
+        match &self.standing {
+            Some(standing) => standing.is_heard_within(limit, now),
+            None => false,
+        }
+    }
+
     /// Gives connections that have come a seat, as far as there is room. Where there is none the next is closed, and
     /// that is told: returns whether one was.
     fn accept_connections<L: Print>(&mut self, now: &Moment, log: &mut Log<'_, L>) -> bool

@@ -29,6 +29,7 @@ mod clock_wait;
 mod commands;
 mod daemon;
 mod error;
+mod expiring;
 mod keeping;
 mod refusal;
 mod reporting;
