@@ -101,10 +101,10 @@ const WAITING_METRICS: [&str; 12] = [
 ];
 
 const SERVING_METRICS: &str = "\
-# TYPE fengtuyas_server info
-# HELP fengtuyas_server What the server is.
+# TYPE fengtuyas_server_info gauge
+# HELP fengtuyas_server_info What the server is.
 fengtuyas_server_info{role=\"primary\"} 1
-# TYPE fengtuyas_clock stateset
+# TYPE fengtuyas_clock gauge
 # HELP fengtuyas_clock Whether the clock may go on with the journal.
 fengtuyas_clock{fengtuyas_clock=\"right\"} 1
 fengtuyas_clock{fengtuyas_clock=\"behind\"} 0
@@ -130,7 +130,7 @@ fengtuyas_not_serving{why=\"goes_on_after_restart\"} 0
 fengtuyas_not_serving{why=\"clock_set\"} 0
 fengtuyas_not_serving{why=\"asks_partner_clock\"} 0
 fengtuyas_not_serving{why=\"partner_clock_differs\"} 0
-# TYPE fengtuyas_journal stateset
+# TYPE fengtuyas_journal gauge
 # HELP fengtuyas_journal Whether the journal has all that the partner took of it.
 fengtuyas_journal{fengtuyas_journal=\"whole\"} 1
 fengtuyas_journal{fengtuyas_journal=\"older\"} 0
@@ -151,18 +151,18 @@ fengtuyas_volume_opened_timestamp_seconds 1795460400.000
 # UNIT fengtuyas_volume_written_timestamp_seconds seconds
 # HELP fengtuyas_volume_written_timestamp_seconds The reading of the volume's last line.
 fengtuyas_volume_written_timestamp_seconds 1795460504.420
-# TYPE fengtuyas_roll stateset
+# TYPE fengtuyas_roll gauge
 # HELP fengtuyas_roll Whether the next volume is due, or what forbids it though it is due.
 fengtuyas_roll{fengtuyas_roll=\"not_due\"} 0
 fengtuyas_roll{fengtuyas_roll=\"due\"} 0
 fengtuyas_roll{fengtuyas_roll=\"partner_down\"} 0
 fengtuyas_roll{fengtuyas_roll=\"unit_marked\"} 1
-# TYPE fengtuyas_room stateset
+# TYPE fengtuyas_room gauge
 # HELP fengtuyas_room How much room the volume has.
 fengtuyas_room{fengtuyas_room=\"enough\"} 1
 fengtuyas_room{fengtuyas_room=\"full_within_hour\"} 0
 fengtuyas_room{fengtuyas_room=\"full\"} 0
-# TYPE fengtuyas_partner stateset
+# TYPE fengtuyas_partner gauge
 # HELP fengtuyas_partner What the server takes its partner for.
 fengtuyas_partner{fengtuyas_partner=\"normal\"} 1
 fengtuyas_partner{fengtuyas_partner=\"waiting\"} 0
@@ -170,7 +170,7 @@ fengtuyas_partner{fengtuyas_partner=\"down\"} 0
 # TYPE fengtuyas_partner_since_timestamp_seconds gauge
 # UNIT fengtuyas_partner_since_timestamp_seconds seconds
 # HELP fengtuyas_partner_since_timestamp_seconds Since when it waits for its partner or takes it for down.
-# TYPE fengtuyas_link stateset
+# TYPE fengtuyas_link gauge
 # HELP fengtuyas_link How the server is linked to its partner.
 fengtuyas_link{fengtuyas_link=\"alone\"} 0
 fengtuyas_link{fengtuyas_link=\"apart\"} 0
@@ -183,7 +183,7 @@ fengtuyas_link_connected_timestamp_seconds 1795460500.000
 # UNIT fengtuyas_partner_heard_timestamp_seconds seconds
 # HELP fengtuyas_partner_heard_timestamp_seconds When the partner's last message was taken.
 fengtuyas_partner_heard_timestamp_seconds 1795460504.419
-# TYPE fengtuyas_partner_clock stateset
+# TYPE fengtuyas_partner_clock gauge
 # HELP fengtuyas_partner_clock Whether the partner's clock and this one may both be right.
 fengtuyas_partner_clock{fengtuyas_partner_clock=\"unknown\"} 0
 fengtuyas_partner_clock{fengtuyas_partner_clock=\"agrees\"} 1

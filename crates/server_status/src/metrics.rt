@@ -1,4 +1,4 @@
-//! A status as the text of OpenMetrics, for a monitor that scrapes it.
+//! A status as text that is OpenMetrics, and that readers of Prometheus's text format 0.0.4 take too.
 
 use crate::notices::{VERDICTS, verdict_name};
 use crate::serving::{NotServing, ServingState};
@@ -64,7 +64,7 @@ fn push_states(
     states: &[&'static str],
     state: &str,
 ) -> Result<(), AllocError> {
-    push_family(out, name, "stateset", help)?;
+    push_family(out, name, "gauge", help)?;
     for other in states {
         let holds = if *other == state { 1 } else { 0 };
         writeln!(
@@ -94,7 +94,7 @@ fn push_moment(
 /// Appends what the server and its clock are.
 fn push_server(out: &mut String, status: &ServerStatus<'_>) -> Result<(), AllocError> {
     let role = role_name(status.role);
-    push_family(out, "server", "info", "What the server is.")?;
+    push_family(out, "server_info", "gauge", "What the server is.")?;
     writeln!(out, "fengtuyas_server_info{{role=\"{role}\"}} 1")?;
     push_states(
         out,
