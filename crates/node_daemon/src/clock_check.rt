@@ -85,7 +85,7 @@ impl<
             lines: 0,
             head_lines: 0,
             opened: now.reading,
-            written: beaten,
+            spoken: beaten,
         };
         self.upkeep
             .due_actions(&growth, now.reading, None, OperatorRequest::Nothing)

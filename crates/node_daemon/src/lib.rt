@@ -35,6 +35,7 @@ mod reporting;
 mod service;
 mod serving;
 mod side_files;
+mod speaking;
 mod statuses;
 mod withholding;
 

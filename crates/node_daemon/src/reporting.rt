@@ -1,6 +1,10 @@
 //! How a server is: what its status says.
 
+ghost use Rattle.std.specs.Prelude.{◌≡◌, length};
+ghost use Rattle.node_daemon.specs.Speaking.{last_spoken};
+
 use crate::service::{ServiceState, ShutReason};
+use crate::speaking::last_spoken;
 use binding_rules::{Body, Role};
 use book_state::Pool;
 use daemon_endpoints::PartnerEndpoint;
@@ -122,13 +126,17 @@ fn shortage_of(shortage: &SessionShortage) -> JournalShortage {
 }
 
 /// How far a book's volume has grown, which begins with so many head lines.
-pub(crate) fn growth_of(book: &Book, head_lines: usize, now: Reading) -> Growth {
+pub(crate) fn growth_of(book: &Book, head_lines: usize, now: Reading) -> Growth
+    ensures lines { result.lines ≡ length book.now.lines }
+    ensures head { result.head_lines ≡ head_lines }
+    ensures spoken { result.spoken ≡ last_spoken now book.now.lines }
+{
     let lines = book.journal();
     Growth {
         lines: lines.len(),
         head_lines,
         opened: lines.first().map_or(now, |line| line.reading),
-        written: lines.last().map_or(now, |line| line.reading),
+        spoken: last_spoken(lines, now),
     }
 }
 
@@ -144,7 +152,10 @@ pub(crate) fn volume_of(
         lines: growth.lines,
         synced: kept,
         opened: growth.opened,
-        written: growth.written,
+        written: book
+            .journal()
+            .last()
+            .map_or(growth.opened, |line| line.reading),
         roll: owed.roll,
         room: owed.room,
     }
