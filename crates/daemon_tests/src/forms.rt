@@ -19,6 +19,7 @@ room: enough
 partner: normal
 link: connected since 2026-11-23T19:01:40.000Z
 heard: 2026-11-23T19:01:44.419Z
+refusal: none
 notices: understood
 partner_program: fengtuyas 1.0.0
 partner_clock: between 12 ms behind and 5 ms ahead
@@ -51,6 +52,7 @@ room: full
 partner: waiting since 2026-11-23T19:00:00.000Z
 link: apart
 heard: never
+refusal: 2026-11-23T19:00:00.000Z, it lacks messages of older volumes, which can't be told again
 notices: none, there is no connection
 partner_program: unknown
 partner_clock: unknown
@@ -74,6 +76,7 @@ const SERVING_JSON: &str = "\
 \"messages\":{\"rebind\":2,\"release\":5,\"renew\":400,\"request\":30,\"solicit\":31},\
 \"partner\":{\"clock\":{\"least_ms\":-12,\"most_ms\":5},\"connected_since_ms\":1795460500000,\
 \"heard_ms\":1795460504419,\"link\":\"connected\",\"notices\":\"understood\",\"program\":\"fengtuyas 1.0.0\",\
+\"refusal\":null,\
 \"settings\":[],\"standing\":\"normal\",\"standing_since_ms\":null},\"reading_ms\":1795460505623,\
 \"refused\":{\"bad_prefix_length\":0,\"duplicate_id\":0,\"ignored\":0,\"no_client_id\":0,\"not_ours\":9,\
 \"option_length\":0,\"server_id_missing\":0,\"server_id_present\":0,\"short\":1,\"too_deep\":0,\"too_many_ias\":0},\
@@ -85,7 +88,7 @@ const SERVING_JSON: &str = "\
 ";
 
 /// Lines of a status that waits, as OpenMetrics has them, which differ from one that serves.
-const WAITING_METRICS: [&str; 12] = [
+const WAITING_METRICS: [&str; 13] = [
     "fengtuyas_server_info{role=\"secondary\"} 1\n",
     "fengtuyas_clock{fengtuyas_clock=\"right\"} 0\n",
     "fengtuyas_clock{fengtuyas_clock=\"behind\"} 1\n",
@@ -95,6 +98,7 @@ const WAITING_METRICS: [&str; 12] = [
     "fengtuyas_partner{fengtuyas_partner=\"waiting\"} 1\n",
     "fengtuyas_partner_since_timestamp_seconds 1795460400.000\n",
     "fengtuyas_link{fengtuyas_link=\"apart\"} 1\n",
+    "fengtuyas_partner_refused 1\n",
     "# TYPE fengtuyas_link_connected_timestamp_seconds gauge\n",
     "# TYPE fengtuyas_sync_seconds summary\n",
     "# EOF\n",
@@ -183,6 +187,9 @@ fengtuyas_link_connected_timestamp_seconds 1795460500.000
 # UNIT fengtuyas_partner_heard_timestamp_seconds seconds
 # HELP fengtuyas_partner_heard_timestamp_seconds When the partner's last message was taken.
 fengtuyas_partner_heard_timestamp_seconds 1795460504.419
+# TYPE fengtuyas_partner_refused gauge
+# HELP fengtuyas_partner_refused Whether the partner was refused, and no connection has stood for a while since.
+fengtuyas_partner_refused 0
 # TYPE fengtuyas_partner_clock gauge
 # HELP fengtuyas_partner_clock Whether the partner's clock and this one may both be right.
 fengtuyas_partner_clock{fengtuyas_partner_clock=\"unknown\"} 0

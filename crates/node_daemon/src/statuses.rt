@@ -59,6 +59,7 @@ impl<
             standing: input.standing,
             link: self.link(),
             heard: self.partner.heard(),
+            refusal: self.partner.refusal(),
             traffic: self.clients.traffic(),
             syncs,
             notices: notices_of(&self.partner),

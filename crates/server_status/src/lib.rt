@@ -30,6 +30,7 @@ mod json;
 mod lines;
 mod metrics;
 mod notices;
+mod partner_refusal;
 mod serving;
 mod status;
 mod sync_times;
@@ -42,6 +43,7 @@ pub use control_request::{
     CLOCK_RIGHT, ControlRequest, PARTNER_STOPPED, ShutdownMode, StatusFormat,
 };
 pub use notices::{NoticeState, PartnerNotices};
+pub use partner_refusal::{LastRefusal, PartnerRefusal};
 pub use serving::{
     JournalShortage, JournalState, NotServing, ServingInput, ServingState, serving_of,
 };

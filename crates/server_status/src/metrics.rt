@@ -233,6 +233,12 @@ fn push_partner(out: &mut String, status: &ServerStatus<'_>) -> Result<(), Alloc
         "partner_heard_timestamp_seconds",
         "When the partner's last message was taken.",
         status.heard,
+    )?;
+    push_gauge(
+        out,
+        "partner_refused",
+        "Whether the partner was refused, and no connection has stood for a while since.",
+        if status.refusal.is_some() { 1 } else { 0 },
     )
 }
 
