@@ -44,7 +44,9 @@ impl DaemonError {
             self,
             DaemonError::NotCommitted(_)
                 | DaemonError::NotEnded(_)
-                | DaemonError::NotRolled(RollFailure::NotEnded(_) | RollFailure::NotBegun)
+                | DaemonError::NotRolled(
+                    RollFailure::NotEnded(_) | RollFailure::NotBegun | RollFailure::NoSpace,
+                )
         )
     }
 }
