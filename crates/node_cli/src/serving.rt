@@ -87,7 +87,7 @@ fn key_of(
 /// served, and 2 for any other fault.
 fn status_of(failure: &ServeFailure) -> u8 {
     match failure {
-        ServeFailure::Folder(_) | ServeFailure::Start(_) => 1,
+        ServeFailure::Folder(_) | ServeFailure::Start(_) | ServeFailure::ClockBehind { .. } => 1,
         ServeFailure::Ended(error) if error.is_disk() => 3,
         ServeFailure::Ended(_) | ServeFailure::Listen { .. } | ServeFailure::Control(_) => 2,
     }

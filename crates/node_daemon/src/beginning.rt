@@ -27,7 +27,7 @@ use daemon_endpoints::{Arrival, ClientEndpoint, ControlServer, PartnerEndpoint};
 use daemon_io::{ConnectionSource, Control, Datagrams, Poller};
 use disk_files::AccessRecordStore;
 use disk_model::Folder;
-use folder_start::{FolderRead, Pairing, StartFailure, StartMode, Started, start};
+use folder_start::{FolderRead, Pairing, StartMode, Started, start};
 use lead_time::Transit;
 use link_auth::{HandshakeRole, LinkKey, PeerAuthenticator};
 use order_book::Book;
@@ -146,7 +146,7 @@ fn now_of<C: Clocks>(clocks: &C) -> Result<Moment, ServeFailure>
 {
     match clocks.now() {
         Some(now) => Ok(now),
-        None => Err(ServeFailure::of_start(StartFailure::Clock)),
+        None => Err(ServeFailure::no_time()),
     }
 }
 
@@ -279,7 +279,7 @@ where
         clocks,
     ) {
         Ok(started) => Ok(started),
-        Err(error) => Err(ServeFailure::of_start(error)),
+        Err(error) => Err(ServeFailure::of_start(alloc, error)),
     }
 }
 

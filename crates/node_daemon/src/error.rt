@@ -4,6 +4,9 @@ use daemon_endpoints::ReceiveError;
 use disk_files::FolderError;
 use folder_start::{RollFailure, StartFailure};
 use server_core::{EndFault, VolumeCommitError};
+use server_log::moment_words;
+use server_start::StartError;
+use std::alloc::Global;
 use std::io;
 use std::net::SocketAddr;
 use thiserror::Error;
@@ -60,6 +63,12 @@ pub enum ServeFailure {
     /// The server doesn't start with what the directory has.
     #[error("{0}")]
     Start(StartFailure),
+    /// The clock reads more than twice the skew below the journal's last line: both, as RFC 3339 writes them.
+    #[error("set the clock right: it reads {now}, and the journal {last}")]
+    ClockBehind {
+        now: String,
+        last: String,
+    },
     /// A socket can't be opened at this address.
     #[error("can't listen at {address}: {error}")]
     Listen {
@@ -76,12 +85,21 @@ pub enum ServeFailure {
 
 impl ServeFailure {
     /// Why a server doesn't start.
-    pub(crate) fn of_start(failure: StartFailure) -> ServeFailure {
+    pub(crate) fn of_start(alloc: Global, failure: StartFailure) -> ServeFailure {
         match failure {
-            StartFailure::Clock => {
-                ServeFailure::Ended(DaemonError::Hearing(ReceiveError::Clock))
+            StartFailure::Clock => ServeFailure::no_time(),
+            StartFailure::Start(StartError::ClockBehind { now, last }) => {
+                match (moment_words(alloc, now), moment_words(alloc, last)) {
+                    (Ok(now), Ok(last)) => ServeFailure::ClockBehind { now, last },
+                    (Err(_), _) | (_, Err(_)) => ServeFailure::Start(StartFailure::Memory),
+                }
             }
             failure => ServeFailure::Start(failure),
         }
+    }
+
+    /// A clock tells no time.
+    pub(crate) fn no_time() -> ServeFailure {
+        ServeFailure::Ended(DaemonError::Hearing(ReceiveError::Clock))
     }
 }

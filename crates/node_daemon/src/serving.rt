@@ -199,7 +199,7 @@ fn read_volumes<C: Clocks>(
         clocks,
     ) {
         Ok(read) => Ok(read),
-        Err(error) => Err(ServeFailure::of_start(error)),
+        Err(error) => Err(ServeFailure::of_start(alloc, error)),
     }
 }
 
