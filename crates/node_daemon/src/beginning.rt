@@ -25,7 +25,7 @@ use client_limits::{Limiter, Limits};
 use clock_watch::{ClockStore, ClockWatch, PartnerLink};
 use daemon_endpoints::{Arrival, ClientEndpoint, ControlServer, PartnerEndpoint};
 use daemon_io::{ConnectionSource, Control, Datagrams, Poller};
-use disk_files::AccessRecordStore;
+use disk_files::{AccessRecordStore, VolumeWatch};
 use disk_model::Folder;
 use folder_start::{FolderRead, Pairing, StartMode, Started, start};
 use lead_time::Transit;
@@ -158,7 +158,7 @@ fn daemon_of<
     K: Control,
     C: Clocks,
     T: Poller,
-    A: AccessRecordStore + ClockStore,
+    A: AccessRecordStore + ClockStore + VolumeWatch,
     L: Print,
 >(
     alloc: Global,
@@ -193,6 +193,7 @@ fn daemon_of<
         clocks,
         clock: ClockWatch::new(now),
         beaten: None,
+        seen_linked: None,
         rest,
         keeper,
         log,
@@ -213,7 +214,7 @@ impl<
     K: Control,
     C: Clocks,
     T: Poller,
-    A: AccessRecordStore + ClockStore,
+    A: AccessRecordStore + ClockStore + VolumeWatch,
     L: Print,
 > Daemon<'_, G, D, K, C, T, A, L> {
     /// Begins with this book at a moment.
@@ -292,7 +293,7 @@ fn run_daemon<
     K: Control,
     C: Clocks,
     T: Poller,
-    A: AccessRecordStore + ClockStore,
+    A: AccessRecordStore + ClockStore + VolumeWatch,
     R: Wait,
     L: Print,
 >(
@@ -320,7 +321,7 @@ fn start_and_run<
     K: Control,
     C: Clocks,
     T: Poller,
-    A: AccessRecordStore + ClockStore,
+    A: AccessRecordStore + ClockStore + VolumeWatch,
     R: Wait,
     L: Print,
 >(
@@ -366,7 +367,7 @@ pub(crate) fn serve_folder<
     K: Control,
     C: Clocks,
     T: Poller,
-    A: AccessRecordStore + ClockStore,
+    A: AccessRecordStore + ClockStore + VolumeWatch,
     R: Wait,
     L: Print,
 >(

@@ -10,7 +10,7 @@ use binding_rules::ServerState;
 use clock_watch::ClockStore;
 use daemon_endpoints::Arrival;
 use daemon_io::{ConnectionSource, Control, Datagrams, Poller};
-use disk_files::AccessRecordStore;
+use disk_files::{AccessRecordStore, VolumeWatch};
 use disk_model::Folder;
 use order_book::{Book, Order};
 use server_clocks::{Clocks, Moment};
@@ -25,7 +25,7 @@ impl<
     K: Control,
     C: Clocks,
     T: Poller,
-    A: AccessRecordStore + ClockStore,
+    A: AccessRecordStore + ClockStore + VolumeWatch,
     L: Print,
 > Daemon<'_, G, D, K, C, T, A, L> {
     /// Hears one request, if one has come, and does it; its answer is held back. Returns whether one had come.

@@ -23,6 +23,10 @@ pub enum DaemonError {
     /// The volume that was closed wasn't ended.
     #[error("the volume isn't ended: {0}")]
     NotEnded(EndFault),
+    /// The file of the open volume has no link any more.
+    #[error("the file of volume {volume} was removed while it was served, and with it what was granted in it: don't \
+             start this server again, and see \"A lost disk\"")]
+    VolumeUnlinked { volume: u32 },
     /// Nobody can be heard any more.
     #[error("{0}")]
     Hearing(ReceiveError),

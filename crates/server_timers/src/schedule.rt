@@ -73,6 +73,13 @@ impl Timers {
         })
     }
 
+    /// After how many seconds without a line that tells its partner anything a server says that it lives.
+    pub fn heartbeat(&self) -> u32
+        ensures { result ≡ self.now.heartbeat }
+    {
+        self.heartbeat
+    }
+
     /// Returns whether a volume holds fewer than seven renewals of leases of so many seconds, each of which comes at
     /// half of that (RFC 8415, section 21.21: T1). Most evidence of a lease is in the volume in which it was granted.
     pub fn is_short_for(&self, life: u32) -> bool
