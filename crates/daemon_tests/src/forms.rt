@@ -1,7 +1,7 @@
 //! What is written of a status.
 
 use crate::statuses::{serving, waiting};
-use server_status::StatusFormat;
+use server_status::{StatusFormat, failed_status};
 use std::test::Fail;
 
 const SERVING_LINES: &str = "\
@@ -134,6 +134,7 @@ fengtuyas_not_serving{why=\"goes_on_after_restart\"} 0
 fengtuyas_not_serving{why=\"clock_set\"} 0
 fengtuyas_not_serving{why=\"asks_partner_clock\"} 0
 fengtuyas_not_serving{why=\"partner_clock_differs\"} 0
+fengtuyas_not_serving{why=\"disk_failed\"} 0
 # TYPE fengtuyas_journal gauge
 # HELP fengtuyas_journal Whether the journal has all that the partner took of it.
 fengtuyas_journal{fengtuyas_journal=\"whole\"} 1
@@ -296,6 +297,40 @@ fn writes_the_text_of_openmetrics(rt: HostRuntime) -> Result<(), Fail> {
     let text = status.text(rt.alloc(), StatusFormat::Metrics)?;
     for line in WAITING_METRICS {
         assert!(rt; text.as_str().contains(line));
+    }
+    Ok(())
+}
+
+const FAILED_METRICS: &str = "\
+# TYPE fengtuyas_serving gauge
+# HELP fengtuyas_serving Whether clients are served.
+fengtuyas_serving 0
+# TYPE fengtuyas_not_serving gauge
+# HELP fengtuyas_not_serving Why nobody is served.
+fengtuyas_not_serving{why=\"waits_for_partner\"} 0
+fengtuyas_not_serving{why=\"clock_behind\"} 0
+fengtuyas_not_serving{why=\"journal_older\"} 0
+fengtuyas_not_serving{why=\"volume_full\"} 0
+fengtuyas_not_serving{why=\"goes_on_after_restart\"} 0
+fengtuyas_not_serving{why=\"clock_set\"} 0
+fengtuyas_not_serving{why=\"asks_partner_clock\"} 0
+fengtuyas_not_serving{why=\"partner_clock_differs\"} 0
+fengtuyas_not_serving{why=\"disk_failed\"} 1
+# EOF
+";
+
+#[test]
+fn says_alone_that_the_disk_failed(rt: HostRuntime) -> Result<(), Fail> {
+    let forms = [
+        (StatusFormat::Lines, "serving: no, disk failed\n"),
+        (
+            StatusFormat::Json,
+            "{\"serving\":{\"is\":false,\"why\":\"disk_failed\"}}\n",
+        ),
+        (StatusFormat::Metrics, FAILED_METRICS),
+    ];
+    for (form, wanted) in forms {
+        assert_eq!(rt; failed_status(rt.alloc(), form)?.as_str(), wanted);
     }
     Ok(())
 }

@@ -18,6 +18,7 @@ ghost use Rattle.daemon_endpoints.specs.Receiving.{MayReceive};
 use crate::clock_wait::WaitEnd;
 use crate::daemon::Daemon;
 use crate::error::{DaemonError, ServeFailure};
+use crate::lingering::linger;
 use crate::reporting::head_lines_of;
 use crate::service::{ServiceState, service_of};
 use binding_rules::Role;
@@ -284,6 +285,32 @@ where
     }
 }
 
+/// Hears clients and the partner no more, and tells for a while that the disk failed.
+fn tell_failed<
+    G: Datagrams,
+    D: ConnectionSource,
+    K: Control,
+    C: Clocks,
+    T: Poller,
+    A: AccessRecordStore + ClockStore + VolumeWatch,
+    L: Print,
+>(daemon: Daemon<'_, G, D, K, C, T, A, L>) {
+    let Daemon {
+        alloc,
+        clients,
+        partner,
+        mut desk,
+        clocks,
+        mut rest,
+        log,
+        ..
+    } = daemon;
+    drop(clients);
+    drop(partner);
+    log.log(&LogEvent::DiskFailed);
+    linger(alloc, &mut desk, &clocks, &mut rest);
+}
+
 /// Runs a daemon until it is told to stop.
 #[tactic(auto, using(crate::proofs::Begun::has_run))]
 fn run_daemon<
@@ -308,7 +335,12 @@ where
 {
     match daemon.run(rt, running) {
         Ok(()) => Ok(()),
-        Err(error) => Err(ServeFailure::Ended(error)),
+        Err(error) => {
+            if error.is_disk() {
+                tell_failed(daemon);
+            }
+            Err(ServeFailure::Ended(error))
+        }
     }
 }
 

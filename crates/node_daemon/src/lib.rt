@@ -31,6 +31,7 @@ mod commands;
 mod daemon;
 mod error;
 mod keeping;
+mod lingering;
 mod refusal;
 mod reporting;
 mod service;

@@ -53,6 +53,9 @@ pub(crate) enum RequestRefusal {
     #[error("no volume may follow before the partner has acknowledged the units that were seized from it: the next \
              start would be refused (stop without --close goes on)")]
     CloseWhileMarked,
+    /// The disk failed.
+    #[error("the disk failed: this server ends, and has to be started again")]
+    DiskFailed,
     /// The book takes no such line.
     #[error("{0}")]
     Book(ServeError),

@@ -31,7 +31,7 @@ fn counts_of(alloc: Global, counts: &[(&'static str, u64)]) -> Result<Value, All
 }
 
 /// Whether clients are served, and why not.
-fn serving_value(alloc: Global, serving: &ServingState) -> Result<Value, AllocError> {
+pub(crate) fn serving_value(alloc: Global, serving: &ServingState) -> Result<Value, AllocError> {
     match serving {
         ServingState::Yes => json!(in alloc; { "is": true }),
         ServingState::No(why) => match why {

@@ -129,7 +129,7 @@ fn push_ahead(out: &mut String, ahead: i64) -> Result<(), AllocError> {
 }
 
 /// Appends whether clients are served, and each reason why they aren't.
-fn push_serving(out: &mut String, serving: &ServingState) -> Result<(), AllocError> {
+pub(crate) fn push_serving(out: &mut String, serving: &ServingState) -> Result<(), AllocError> {
     let why = serving.why_not();
     let serves = if why.is_none() { 1 } else { 0 };
     push_gauge(out, "serving", "Whether clients are served.", serves)?;
