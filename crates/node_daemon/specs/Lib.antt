@@ -3,3 +3,4 @@ pub mod Lasting
 pub mod Beginning
 pub mod Service
 pub mod Speaking
+pub mod Statuses

@@ -1,7 +1,10 @@
 //! How a server is: what its status says.
 
-ghost use Rattle.std.specs.Prelude.{◌≡◌, length};
+ghost use Rattle.std.specs.Prelude.{◌≡◌, ◌↔◌, length};
+ghost use Rattle.order_book.specs.Replayed.{state_of};
+ghost use Rattle.node_daemon.specs.Service.{IsShut};
 ghost use Rattle.node_daemon.specs.Speaking.{last_spoken};
+ghost use Rattle.node_daemon.specs.Statuses.{IsStanding};
 
 use crate::service::{ServiceState, ShutReason};
 use crate::speaking::last_spoken;
@@ -52,7 +55,9 @@ fn restarted(book: &Book) -> Option<Reading> {
 }
 
 /// What a server takes its partner for.
-pub(crate) fn standing_of(book: &Book, now: Reading) -> PartnerState {
+pub(crate) fn standing_of(book: &Book, now: Reading) -> PartnerState
+    ensures { IsStanding (state_of book.now).down (state_of book.now).waiting result }
+{
     match book.down() {
         Some(since) => PartnerState::Down { since },
         None if book.waiting() => PartnerState::Waiting {
@@ -94,7 +99,9 @@ pub(crate) fn going_on(book: &Book) -> Option<LogEvent> {
 }
 
 /// How the journal is, by whether the server may serve.
-pub(crate) fn journal_of(service: &ServiceState) -> JournalState {
+pub(crate) fn journal_of(service: &ServiceState) -> JournalState
+    ensures { result ≡ JournalState.Whole ↔ (IsShut service.now → ⊥) }
+{
     match service {
         ServiceState::Open | ServiceState::HoldsOff { .. } => JournalState::Whole,
         ServiceState::Shut(ShutReason::PartnerServes) => {
