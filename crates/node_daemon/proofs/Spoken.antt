@@ -1,5 +1,5 @@
 -- The last line that tells the partner anything, looked for from the end.
-use Rattle.std.specs.Prelude.{◌≡◌, ◌<◌, ◌≤◌, ◌-◌, ℕ, Option, Some, None, List, [], ◌∷◌, ◌++◌, refl, length}
+use Rattle.std.specs.Prelude.{◌≡◌, ◌<◌, ◌≤◌, ◌-◌, ℕ, Some, None, List, [], ◌∷◌, ◌++◌, refl, length}
 use Rattle.std.proofs.Common.{ap, sym, ◌∙◌, take, get_or, suc, arith}
 use Rattle.std.proofs.Math.Seq.{take-suc}
 use Rattle.journal_lines.specs.declared.line.Line.{Line}
