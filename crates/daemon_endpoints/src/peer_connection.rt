@@ -57,8 +57,8 @@ pub(crate) struct PeerConnection<D: ConnectionSource> {
     listened: Instant,
     /// When octets came last.
     came: Option<Instant>,
-    /// Whether the two have joined: each has named what it took last.
-    has_joined: bool,
+    /// Whether it was told that the two have joined: each has named what it took last.
+    pub(crate) has_joined: bool,
     /// Why it is over once all that is held back has gone out.
     pub(crate) parting: Option<DisconnectReason>,
 }
@@ -311,11 +311,19 @@ impl<D: ConnectionSource> PeerConnection<D> {
         }
     }
 
-    /// Tells that the two have joined, once they have.
-    pub(crate) fn log_joined<L: Print>(&mut self, stage: Option<SessionStage>, log: &Log<'_, L>)
+    /// Tells that the two have joined, once they have. Of a partner that was refused it is told once the connection has
+    /// stood for a while: else the line would cover the refusal, which may follow again.
+    pub(crate) fn log_joined<L: Print>(
+        &mut self,
+        stage: Option<SessionStage>,
+        was_refused: bool,
+        now: &Moment,
+        log: &Log<'_, L>,
+    )
         ensures { self.new.connection ≡ self.old.connection }
     {
-        if !self.has_joined && matches!(stage, Some(SessionStage::Joined { .. })) {
+        let may_last = !was_refused || self.has_stood(now);
+        if !self.has_joined && may_last && matches!(stage, Some(SessionStage::Joined { .. })) {
             self.has_joined = true;
             log.log(&LogEvent::Connected);
         }

@@ -1,7 +1,7 @@
 //! A node as a program: its words are the command. Of `check` and `run` standard input has the settings, standard
 //! output gets what they are worth or the journal, and the status says whether the node ran (0), its settings were
 //! refused (1) or a fault kept it from that (2). `serve` serves a directory as a daemon, and ends by 3 where the disk
-//! failed; the others ask the daemon of a directory, and print what it answers.
+//! failed, and by 4 where its volume was removed; the others ask the daemon of a directory, and print what it answers.
 #![tactic(auto)]
 
 ghost use Rattle.std.specs.Prelude.{◌<◌, ◌^◌, length, IsErrOf};

@@ -4,3 +4,4 @@ mod Lasting
 pub mod Begun
 pub mod Shutting
 pub mod Waiting
+pub mod Spoken

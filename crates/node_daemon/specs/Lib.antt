@@ -3,3 +3,5 @@ pub mod Lasting
 pub mod Beginning
 pub mod Service
 pub mod Expiring
+pub mod Speaking
+pub mod Statuses

@@ -18,6 +18,7 @@ ghost use Rattle.daemon_endpoints.specs.Receiving.{MayReceive};
 use crate::clock_wait::WaitEnd;
 use crate::daemon::Daemon;
 use crate::error::{DaemonError, ServeFailure};
+use crate::lingering::linger;
 use crate::reporting::head_lines_of;
 use crate::service::{ServiceState, service_of};
 use binding_rules::Role;
@@ -25,9 +26,9 @@ use client_limits::{Limiter, Limits};
 use clock_watch::{ClockStore, ClockWatch, PartnerLink};
 use daemon_endpoints::{Arrival, ClientEndpoint, ControlServer, PartnerEndpoint};
 use daemon_io::{ConnectionSource, Control, Datagrams, Poller};
-use disk_files::AccessRecordStore;
+use disk_files::{AccessRecordStore, VolumeWatch};
 use disk_model::Folder;
-use folder_start::{FolderRead, Pairing, StartFailure, StartMode, Started, start};
+use folder_start::{FolderRead, Pairing, StartMode, Started, start};
 use lead_time::Transit;
 use link_auth::{HandshakeRole, LinkKey, PeerAuthenticator};
 use order_book::Book;
@@ -146,7 +147,7 @@ fn now_of<C: Clocks>(clocks: &C) -> Result<Moment, ServeFailure>
 {
     match clocks.now() {
         Some(now) => Ok(now),
-        None => Err(ServeFailure::of_start(StartFailure::Clock)),
+        None => Err(ServeFailure::no_time()),
     }
 }
 
@@ -158,7 +159,7 @@ fn daemon_of<
     K: Control,
     C: Clocks,
     T: Poller,
-    A: AccessRecordStore + ClockStore,
+    A: AccessRecordStore + ClockStore + VolumeWatch,
     L: Print,
 >(
     alloc: Global,
@@ -193,6 +194,7 @@ fn daemon_of<
         clocks,
         clock: ClockWatch::new(now),
         beaten: None,
+        seen_linked: None,
         rest,
         keeper,
         log,
@@ -213,7 +215,7 @@ impl<
     K: Control,
     C: Clocks,
     T: Poller,
-    A: AccessRecordStore + ClockStore,
+    A: AccessRecordStore + ClockStore + VolumeWatch,
     L: Print,
 > Daemon<'_, G, D, K, C, T, A, L> {
     /// Begins with this book at a moment.
@@ -279,8 +281,34 @@ where
         clocks,
     ) {
         Ok(started) => Ok(started),
-        Err(error) => Err(ServeFailure::of_start(error)),
+        Err(error) => Err(ServeFailure::of_start(alloc, error)),
     }
+}
+
+/// Hears clients and the partner no more, and tells for a while that the disk failed.
+fn tell_failed<
+    G: Datagrams,
+    D: ConnectionSource,
+    K: Control,
+    C: Clocks,
+    T: Poller,
+    A: AccessRecordStore + ClockStore + VolumeWatch,
+    L: Print,
+>(daemon: Daemon<'_, G, D, K, C, T, A, L>) {
+    let Daemon {
+        alloc,
+        clients,
+        partner,
+        mut desk,
+        clocks,
+        mut rest,
+        log,
+        ..
+    } = daemon;
+    drop(clients);
+    drop(partner);
+    log.log(&LogEvent::DiskFailed);
+    linger(alloc, &mut desk, &clocks, &mut rest);
 }
 
 /// Runs a daemon until it is told to stop.
@@ -292,7 +320,7 @@ fn run_daemon<
     K: Control,
     C: Clocks,
     T: Poller,
-    A: AccessRecordStore + ClockStore,
+    A: AccessRecordStore + ClockStore + VolumeWatch,
     R: Wait,
     L: Print,
 >(
@@ -307,7 +335,12 @@ where
 {
     match daemon.run(rt, running) {
         Ok(()) => Ok(()),
-        Err(error) => Err(ServeFailure::Ended(error)),
+        Err(error) => {
+            if error.is_disk() {
+                tell_failed(daemon);
+            }
+            Err(ServeFailure::Ended(error))
+        }
     }
 }
 
@@ -320,7 +353,7 @@ fn start_and_run<
     K: Control,
     C: Clocks,
     T: Poller,
-    A: AccessRecordStore + ClockStore,
+    A: AccessRecordStore + ClockStore + VolumeWatch,
     R: Wait,
     L: Print,
 >(
@@ -366,7 +399,7 @@ pub(crate) fn serve_folder<
     K: Control,
     C: Clocks,
     T: Poller,
-    A: AccessRecordStore + ClockStore,
+    A: AccessRecordStore + ClockStore + VolumeWatch,
     R: Wait,
     L: Print,
 >(

@@ -12,7 +12,7 @@ use crate::error::DaemonError;
 use crate::refusal::RequestRefusal;
 use clock_watch::{ClockStore, PartnerLink, PartnerSight, RecordVerdict, StartClock};
 use daemon_io::{ConnectionSource, Control, Datagrams, Poller};
-use disk_files::AccessRecordStore;
+use disk_files::{AccessRecordStore, VolumeWatch};
 use link_notices::ClockVerdict;
 use order_book::Book;
 use server_clocks::{Clocks, Moment};
@@ -45,7 +45,7 @@ impl<
     K: Control,
     C: Clocks,
     T: Poller,
-    A: AccessRecordStore + ClockStore,
+    A: AccessRecordStore + ClockStore + VolumeWatch,
     L: Print,
 > Daemon<'_, G, D, K, C, T, A, L> {
     /// What the kept record says of the clock now: nothing where there is none, or the system doesn't say enough.

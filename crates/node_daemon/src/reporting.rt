@@ -1,6 +1,13 @@
 //! How a server is: what its status says.
 
+ghost use Rattle.std.specs.Prelude.{◌≡◌, ◌↔◌, length};
+ghost use Rattle.order_book.specs.Replayed.{state_of};
+ghost use Rattle.node_daemon.specs.Service.{IsShut};
+ghost use Rattle.node_daemon.specs.Speaking.{last_spoken};
+ghost use Rattle.node_daemon.specs.Statuses.{IsStanding};
+
 use crate::service::{ServiceState, ShutReason};
+use crate::speaking::last_spoken;
 use binding_rules::{Body, Role};
 use book_state::Pool;
 use daemon_endpoints::PartnerEndpoint;
@@ -48,7 +55,9 @@ fn restarted(book: &Book) -> Option<Reading> {
 }
 
 /// What a server takes its partner for.
-pub(crate) fn standing_of(book: &Book, now: Reading) -> PartnerState {
+pub(crate) fn standing_of(book: &Book, now: Reading) -> PartnerState
+    ensures { IsStanding (state_of book.now).down (state_of book.now).waiting result }
+{
     match book.down() {
         Some(since) => PartnerState::Down { since },
         None if book.waiting() => PartnerState::Waiting {
@@ -90,7 +99,9 @@ pub(crate) fn going_on(book: &Book) -> Option<LogEvent> {
 }
 
 /// How the journal is, by whether the server may serve.
-pub(crate) fn journal_of(service: &ServiceState) -> JournalState {
+pub(crate) fn journal_of(service: &ServiceState) -> JournalState
+    ensures { result ≡ JournalState.Whole ↔ (IsShut service.now → ⊥) }
+{
     match service {
         ServiceState::Open | ServiceState::HoldsOff { .. } => JournalState::Whole,
         ServiceState::Shut(ShutReason::PartnerServes) => {
@@ -122,13 +133,17 @@ fn shortage_of(shortage: &SessionShortage) -> JournalShortage {
 }
 
 /// How far a book's volume has grown, which begins with so many head lines.
-pub(crate) fn growth_of(book: &Book, head_lines: usize, now: Reading) -> Growth {
+pub(crate) fn growth_of(book: &Book, head_lines: usize, now: Reading) -> Growth
+    ensures lines { result.lines ≡ length book.now.lines }
+    ensures head { result.head_lines ≡ head_lines }
+    ensures spoken { result.spoken ≡ last_spoken now book.now.lines }
+{
     let lines = book.journal();
     Growth {
         lines: lines.len(),
         head_lines,
         opened: lines.first().map_or(now, |line| line.reading),
-        written: lines.last().map_or(now, |line| line.reading),
+        spoken: last_spoken(lines, now),
     }
 }
 
@@ -144,7 +159,10 @@ pub(crate) fn volume_of(
         lines: growth.lines,
         synced: kept,
         opened: growth.opened,
-        written: growth.written,
+        written: book
+            .journal()
+            .last()
+            .map_or(growth.opened, |line| line.reading),
         roll: owed.roll,
         room: owed.room,
     }

@@ -3,6 +3,7 @@
 ghost use Rattle.std.specs.Prelude.{◌≡◌, ◌↔◌, IsTrue, IfSome, None};
 ghost use Rattle.node_daemon.specs.Service.{IsOpen, IsShort, IsShut, IsHeldOff, IsNextService};
 ghost use Rattle.node_daemon.specs.Service.{IsAfterStart};
+ghost use Rattle.node_daemon.specs.Statuses.{IsHoldingOff};
 
 use failover_session::{JournalShortage, SessionStage};
 use folder_start::is_survivor;
@@ -76,7 +77,9 @@ impl ServiceState {
     }
 
     /// How many seconds a server holds off still, rounded up; none where it doesn't.
-    pub(crate) fn seconds_left(&self, now: Instant) -> Option<u64> {
+    pub(crate) fn seconds_left(&self, now: Instant) -> Option<u64>
+        ensures { result ≡ None ↔ (IsHoldingOff self.now → ⊥) }
+    {
         match self {
             ServiceState::HoldsOff { since } => {
                 let waited = now.duration_since(*since).as_secs();

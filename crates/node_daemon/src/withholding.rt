@@ -13,7 +13,7 @@ use crate::service::{PartnerView, ServiceState};
 use clock_watch::ClockStore;
 use daemon_endpoints::Arrival;
 use daemon_io::{ConnectionSource, Control, Datagrams, Poller};
-use disk_files::AccessRecordStore;
+use disk_files::{AccessRecordStore, VolumeWatch};
 use disk_model::Folder;
 use order_book::Book;
 use server_clocks::{Clocks, Moment};
@@ -26,7 +26,7 @@ impl<
     K: Control,
     C: Clocks,
     T: Poller,
-    A: AccessRecordStore + ClockStore,
+    A: AccessRecordStore + ClockStore + VolumeWatch,
     L: Print,
 > Daemon<'_, G, D, K, C, T, A, L> {
     /// Sees what the partner shows of this journal over the connection, and tells a person where that changes whether

@@ -1,2 +1,3 @@
 pub mod RateLimits
 pub mod Watches
+pub mod Refusals

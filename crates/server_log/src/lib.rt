@@ -23,6 +23,6 @@ mod watch;
 
 pub use disconnect_reason::DisconnectReason;
 pub use level::Level;
-pub use log::Log;
+pub use log::{Log, moment_words};
 pub use log_event::LogEvent;
 pub use watch::{SeenClock, StateWatch};

@@ -73,7 +73,7 @@ impl Timers {
         })
     }
 
-    /// After how many seconds without a line a contact is owed.
+    /// After how many seconds without a line that tells its partner anything a server says that it lives.
     pub fn heartbeat(&self) -> u32
         ensures { result ≡ self.now.heartbeat }
     {
@@ -88,11 +88,11 @@ impl Timers {
         2 * HOUR_SECONDS * u64::from(self.volume_hours) < 7 * u64::from(life)
     }
 
-    /// Returns whether nothing was written for so long.
+    /// Returns whether nothing was written for so long that tells the partner anything.
     fn is_contact_due(&self, growth: &Growth, now: Reading) -> bool
         ensures { IsTrue result ↔ IsContactDue self.now growth.now now }
     {
-        growth.written.milliseconds() + 1000 * u64::from(self.heartbeat) <= now.milliseconds()
+        growth.spoken.milliseconds() + 1000 * u64::from(self.heartbeat) <= now.milliseconds()
     }
 
     /// Returns whether the volume is old enough.
