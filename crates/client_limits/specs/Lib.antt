@@ -2,4 +2,5 @@ pub mod Holders
 pub mod Limiting
 pub mod Origins
 pub mod Quotas
+pub mod Contexts
 pub mod Rates

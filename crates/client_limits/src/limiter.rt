@@ -314,6 +314,7 @@ impl Admission for Limiter {
             book,
             clients: &self.clients,
             ports: &self.ports,
+            now,
         };
         let strays = moved_clients_in(&known, port, message);
         let permits = permits_by(self.alloc, &known, port, message)?;
