@@ -9,9 +9,11 @@ abbrev pub known_of : LimitContext → Known
 known_of c =
     record {
       limits = c.limits.now;
+      reach = c.reach;
       book = state_of c.book.now;
       clients = c.clients.now;
       ports = c.ports.now;
+      records = c.records.now;
       now = c.now;
     }
 

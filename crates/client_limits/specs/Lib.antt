@@ -1,3 +1,4 @@
+pub mod GrantRecords
 pub mod Holders
 pub mod Limiting
 pub mod Origins

@@ -1,14 +1,18 @@
-//! Which IA_PDs of a message may be ordered.
+//! Which IA_PDs of a message may be ordered: by how much their client and its port may have, and by that port.
 
 ghost use Rattle.std.specs.Prelude.{◌≡◌, ◌+◌, IfOk, length, option_map};
 ghost use Rattle.client_limits.specs.Quotas.{has_unit, has_under, holds_under, is_current, is_used, count_of};
 ghost use Rattle.client_limits.specs.Quotas.{count_used, has_one, is_reached, may_ask, is_other, is_elsewhere};
-ghost use Rattle.client_limits.specs.Quotas.{asks_for_more, is_port_full, is_full, is_denied, permit_by, may_take};
+ghost use Rattle.client_limits.specs.Quotas.{asks_for_more, is_port_full, is_full, is_refused, quota_permit, may_take};
+ghost use Rattle.client_limits.specs.Quotas.{is_known, is_unknown, is_apart, port_match, other_permit, unknown_permit};
+ghost use Rattle.client_limits.specs.Quotas.{permit_for, is_allowed, is_omitted, extends, is_left};
 ghost use Rattle.client_limits.specs.Quotas.{permits_from, permits_of};
 ghost use Rattle.client_limits.specs.Contexts.{known_of, asking_of};
 
+use crate::grant_records::GrantRecords;
 use crate::holders::Holders;
 use crate::limits::{Limits, PortRule};
+use crate::partner_reach::PartnerReach;
 use binding_rules::{Unit, UnitStatus};
 use client_id::{Duid, Iaid};
 use client_service::Permit;
@@ -22,11 +26,15 @@ use std::alloc::{AllocError, Global};
 #[derive(Clone, Copy)]
 pub(crate) struct LimitContext<'a> {
     pub limits: &'a Limits,
+    /// How far the partner is.
+    pub reach: PartnerReach,
     pub book: &'a Book,
     /// Whose units are.
     pub clients: &'a Holders,
     /// By which relay ports units were given.
     pub ports: &'a Holders,
+    /// Of which grants there are access records.
+    pub records: &'a GrantRecords,
     /// When it came.
     pub now: Reading,
 }
@@ -152,14 +160,77 @@ fn is_other(given: Option<&[u8]>, port: Option<&[u8]>) -> bool
     }
 }
 
-/// Returns whether an IA_PD comes from another port than its unit was given by.
+/// Returns whether the port of a unit is known: there is an access record of this server's last grant of it, and the
+/// partner told of no later one.
+fn is_known(known: &LimitContext<'_>, unit: &Prefix) -> bool
+    ensures { result ≡ is_known (known_of known.now) unit.now }
+{
+    match known.book.unit(*unit) {
+        Some(state) => {
+            known.records.has(unit.first())
+                && state.told.milliseconds() <= state.out_end.milliseconds()
+        }
+        None => false,
+    }
+}
+
+/// Returns whether an IA_PD comes from another port than the one that is known for its unit.
 fn has_moved(known: &LimitContext<'_>, asking: &Requester<'_>, iaid: Iaid) -> bool
     ensures { result ≡ is_elsewhere (known_of known.now) (asking_of asking.now) iaid }
 {
     known.clients.units(asking.client.as_bytes()).iter().any(|unit| {
         has_under(known, asking.client, iaid, unit)
+            && is_known(known, unit)
             && is_other(known.ports.holder(unit.first()), asking.port)
     })
+}
+
+/// Returns whether an IA_PD's unit has no port that is known.
+fn is_unknown(known: &LimitContext<'_>, asking: &Requester<'_>, iaid: Iaid) -> bool
+    ensures { result ≡ is_unknown (known_of known.now) (asking_of asking.now) iaid }
+{
+    known.clients.units(asking.client.as_bytes()).iter().any(|unit| has_under(
+        known,
+        asking.client,
+        iaid,
+        unit,
+    ) && !is_known(known, unit))
+}
+
+/// Returns whether the partner is taken for down, or the two have been apart for more than a minute.
+fn is_apart(known: &LimitContext<'_>) -> bool
+    ensures { result ≡ is_apart (known_of known.now) }
+{
+    known.book.down().is_some() || matches!(known.reach, PartnerReach::Apart)
+}
+
+/// Whether the port of an IA_PD's unit is the one that the message came by.
+#[derive(Clone, Copy, Debug, PartialEq, Eq)]
+enum PortMatch {
+    /// It is, or there is no unit, or ports are free.
+    Same,
+    /// It is another.
+    Other,
+    /// It isn't known.
+    Unknown,
+}
+
+/// Returns whether the port of an IA_PD's unit is the message's, where associations belong to their ports.
+fn port_match(known: &LimitContext<'_>, asking: &Requester<'_>, iaid: Iaid) -> PortMatch
+    ensures { result ≡ port_match (known_of known.now) (asking_of asking.now) iaid }
+{
+    match known.limits.ports {
+        PortRule::Free => PortMatch::Same,
+        PortRule::Bound => {
+            if has_moved(known, asking, iaid) {
+                PortMatch::Other
+            } else if is_unknown(known, asking, iaid) {
+                PortMatch::Unknown
+            } else {
+                PortMatch::Same
+            }
+        }
+    }
 }
 
 /// Returns whether an IA_PD asks for a unit, and its client has none under it.
@@ -209,29 +280,83 @@ fn is_full(known: &LimitContext<'_>, asking: &Requester<'_>, place: usize, more:
         || is_port_full(known, asking, more)
 }
 
-/// Returns whether an IA_PD is denied.
-fn is_denied(
+/// Returns whether a quota refuses an IA_PD, at a place of a message, where so many before it may be given one more.
+fn is_refused(
     known: &LimitContext<'_>,
     asking: &Requester<'_>,
     place: usize,
     more: usize,
     iaid: Iaid,
 ) -> bool
-    ensures { result ≡ is_denied (known_of known.now) (asking_of asking.now) place more iaid }
+    ensures { result ≡ is_refused (known_of known.now) (asking_of asking.now) place more iaid }
 {
-    (known.limits.ports == PortRule::Bound && has_moved(known, asking, iaid))
-        || (asks_for_more(known, asking, iaid) && is_full(known, asking, place, more))
+    asks_for_more(known, asking, iaid) && is_full(known, asking, place, more)
 }
 
-/// Whether an IA_PD may be ordered.
-fn permit_by(is_denied: bool) -> Permit
-    ensures { result ≡ permit_by is_denied }
+/// Whether an IA_PD may be ordered by the quotas.
+fn quota_permit(is_refused: bool) -> Permit
+    ensures { result ≡ quota_permit is_refused }
 {
-    if is_denied {
+    if is_refused {
         Permit::Denied
     } else {
         Permit::Allowed
     }
+}
+
+/// Whether an IA_PD may be ordered whose unit was given by another port: it may not.
+fn other_permit(kind: ClientKind) -> Permit
+    ensures { result ≡ other_permit kind }
+{
+    match kind {
+        ClientKind::Release => Permit::Unbound,
+        ClientKind::Solicit | ClientKind::Request | ClientKind::Renew | ClientKind::Rebind => {
+            Permit::Denied
+        }
+    }
+}
+
+/// Whether an IA_PD may be ordered whose unit has no port that is known, by whether the partner is apart and by what
+/// the quotas say of it.
+fn unknown_permit(kind: ClientKind, is_apart: bool, quota: Permit) -> Permit
+    ensures { result ≡ unknown_permit kind is_apart quota }
+{
+    match kind {
+        ClientKind::Solicit | ClientKind::Request => quota,
+        ClientKind::Renew | ClientKind::Rebind => {
+            if is_apart {
+                Permit::Anew
+            } else {
+                Permit::Omitted
+            }
+        }
+        ClientKind::Release => Permit::Omitted,
+    }
+}
+
+/// Returns whether an IA_PD may be ordered, at a place of a message, where so many before it may be given one more.
+fn permit_for(
+    known: &LimitContext<'_>,
+    asking: &Requester<'_>,
+    place: usize,
+    more: usize,
+    iaid: Iaid,
+) -> Permit
+    ensures { result ≡ permit_for (known_of known.now) (asking_of asking.now) place more iaid }
+{
+    let quota = quota_permit(is_refused(known, asking, place, more, iaid));
+    match port_match(known, asking, iaid) {
+        PortMatch::Same => quota,
+        PortMatch::Other => other_permit(asking.kind),
+        PortMatch::Unknown => unknown_permit(asking.kind, is_apart(known), quota),
+    }
+}
+
+/// Returns whether a permit allows what is asked.
+fn is_allowed(permit: Permit) -> bool
+    ensures { result ≡ is_allowed permit }
+{
+    matches!(permit, Permit::Allowed)
 }
 
 /// Returns whether an IA_PD may be given a unit more.
@@ -244,7 +369,7 @@ fn may_take(
 ) -> bool
     ensures { result ≡ may_take (known_of known.now) (asking_of asking.now) place more iaid }
 {
-    asks_for_more(known, asking, iaid) && !is_denied(known, asking, place, more, iaid)
+    asks_for_more(known, asking, iaid) && is_allowed(permit_for(known, asking, place, more, iaid))
 }
 
 /// Says of each of some IA_PDs, in their order, whether it may be ordered.
@@ -260,7 +385,7 @@ fn permits(
     let mut more = 0;
     for place in 0..ias.len() {
         let iaid = ias[place].iaid;
-        let permit = permit_by(is_denied(known, asking, place, more, iaid));
+        let permit = permit_for(known, asking, place, more, iaid);
         if may_take(known, asking, place, more, iaid) {
             more += 1;
         }
@@ -286,6 +411,27 @@ pub(crate) fn permits_by(
         kind: message.kind,
     };
     permits(alloc, known, &asking, message.ias.as_slice())
+}
+
+/// Returns whether a permit has the answer say nothing.
+fn is_omitted(permit: &Permit) -> bool
+    ensures { result ≡ is_omitted permit.now }
+{
+    matches!(permit, Permit::Omitted)
+}
+
+/// Returns whether a message of this type extends leases.
+fn extends(kind: ClientKind) -> bool
+    ensures { result ≡ extends kind }
+{
+    matches!(kind, ClientKind::Renew | ClientKind::Rebind)
+}
+
+/// Returns whether all that a message asks for is left to the partner: it is a RENEW or REBIND, and has no answer.
+pub(crate) fn is_left_to_partner(kind: ClientKind, permits: &[Permit]) -> bool
+    ensures { result ≡ is_left kind permits.now }
+{
+    extends(kind) && !matches!(permits, []) && permits.iter().all(|permit| is_omitted(permit))
 }
 
 /// Counts the IA_PDs of a message that come from another port than their unit was given by.
