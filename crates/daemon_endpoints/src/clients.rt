@@ -7,7 +7,7 @@ ghost use Rattle.daemon_endpoints.specs.Receiving.{MayReceive, HasHeard};
 use crate::arrival::Arrival;
 use crate::receiving::ReceiveError;
 use access_records::{AccessRecord, Address};
-use client_limits::Limiter;
+use client_limits::{Limiter, PartnerReach};
 use client_service::Admission;
 use daemon_io::Datagrams;
 use dhcp6_pd::{ClientKind, PdError, PdFault, ServerKind};
@@ -149,7 +149,8 @@ impl<G: Datagrams> ClientEndpoint<G> {
             }
             DatagramOutcome::Unanswered(_)
             | DatagramOutcome::UnansweredInformation(_)
-            | DatagramOutcome::EarlyRelease => {
+            | DatagramOutcome::EarlyRelease
+            | DatagramOutcome::LeftToPartner => {
                 self.traffic.unanswered = self.traffic.unanswered.saturating_add(1);
             }
             DatagramOutcome::TooMany => {
@@ -166,12 +167,14 @@ impl<G: Datagrams> ClientEndpoint<G> {
         }
     }
 
-    /// Hears the datagrams that have come, 256 at most. The clocks are read after each: a line that was written for it
-    /// mustn't be older than what it answers. Their answers are held back. Returns how many came.
+    /// Hears the datagrams that have come, 256 at most, while the partner is so far. The clocks are read after each: a
+    /// line that was written for it mustn't be older than what it answers. Their answers are held back. Returns how many
+    /// came.
     pub fn receive<F: Folder + Drop, C: Clocks, L: Print>(
         &mut self,
         running: &mut ServerCore<F, Arrival<G::Peer>>,
         manner: &ReplyPolicy,
+        reach: PartnerReach,
         clocks: &C,
         log: &mut Log<'_, L>,
     ) -> Result<usize, ReceiveError>
@@ -181,6 +184,7 @@ impl<G: Datagrams> ClientEndpoint<G> {
         ensures transit { self.new.transit ≡ self.old.transit }
         ensures heard { HasHeard C.gives running.old running.new }
     {
+        self.limiter.set_partner_reach(reach);
         for count in 0..MOST_HEARD {
             let (length, peer) = match self.datagrams.receive(&mut self.buffer) {
                 Ok(Some(came)) => came,

@@ -24,7 +24,7 @@ use crate::service::{ServiceState, service_of};
 use binding_rules::Role;
 use client_limits::{Limiter, Limits};
 use clock_watch::{ClockStore, ClockWatch, PartnerLink};
-use daemon_endpoints::{Arrival, ClientEndpoint, ControlServer, PartnerEndpoint};
+use daemon_endpoints::{Arrival, ClientEndpoint, ControlServer, PartnerContact, PartnerEndpoint};
 use daemon_io::{ConnectionSource, Control, Datagrams, Poller};
 use disk_files::{AccessRecordStore, VolumeWatch};
 use disk_model::Folder;
@@ -190,6 +190,7 @@ fn daemon_of<
         upkeep: settings.upkeep,
         clients: ClientEndpoint::new(alloc, datagrams, server.transit(), limiter)?,
         partner: PartnerEndpoint::new(alloc, door, keeper_of(server.role(), key))?,
+        contact: PartnerContact::new(now.instant),
         desk: ControlServer::new(alloc, control),
         clocks,
         clock: ClockWatch::new(now),
