@@ -9,7 +9,7 @@ use crate::daemon::Daemon;
 use clock_watch::ClockStore;
 use daemon_endpoints::Arrival;
 use daemon_io::{ConnectionSource, Control, Datagrams, Poller};
-use disk_files::AccessRecordStore;
+use disk_files::{AccessRecordStore, VolumeWatch};
 use disk_model::Folder;
 use failover_session::SessionStage;
 use lead_time::Reading;
@@ -103,7 +103,7 @@ impl<
     K: Control,
     C: Clocks,
     T: Poller,
-    A: AccessRecordStore + ClockStore,
+    A: AccessRecordStore + ClockStore + VolumeWatch,
     L: Print,
 > Daemon<'_, G, D, K, C, T, A, L> {
     /// What is known of whether the partner may have renewed a lease.
