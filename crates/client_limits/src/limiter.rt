@@ -7,9 +7,9 @@ ghost use Rattle.client_limits.specs.Limiting.{MayAdmit, MayDrop};
 use crate::grant_records::GrantRecords;
 use crate::holders::Holders;
 use crate::limits::Limits;
-use crate::origin::{name_by, port_named, port_of};
+use crate::origin::{name_by, port_named, port_of, port_words};
 use crate::partner_reach::PartnerReach;
-use crate::quotas::{LimitContext, is_left_to_partner, moved_clients_in, permits_by};
+use crate::quotas::{LimitContext, is_left_to_partner, moved_clients_in, permits_by, refused_in};
 use crate::rates::Rates;
 use access_records::{AccessRecord, Address, RelayPort};
 use binding_rules::{Body, Status, UnitStatus};
@@ -22,6 +22,7 @@ use order_book::Book;
 use prefix_range::Prefix;
 use std::alloc::{AllocError, Global};
 use std::mem;
+use std::str;
 
 /// The relay port of the message that was asked about last, and the octets that name it.
 #[derive(Drop)]
@@ -60,6 +61,7 @@ pub struct Limiter {
     source: Option<Address>,
     records: Vec<AccessRecord>,
     moved_clients: u64,
+    refused: u64,
 }
 
 /// The client and the unit that an event gives it, if it does.
@@ -118,6 +120,7 @@ impl Limiter {
             source: None,
             records: Vec::new(alloc),
             moved_clients: 0,
+            refused: 0,
         }
     }
 
@@ -142,6 +145,18 @@ impl Limiter {
     /// Returns how many IA_PDs came from another relay port than their unit was given by.
     pub fn moved_clients(&self) -> u64 {
         self.moved_clients
+    }
+
+    /// Returns how many IA_PDs quotas refused.
+    pub fn refused(&self) -> u64 {
+        self.refused
+    }
+
+    /// The words that name the relay port of the message that was asked about last, as an access record has them; none
+    /// where nothing names it.
+    pub fn port_words(&self) -> Option<&str> {
+        let name = self.origin.as_ref()?.name.as_ref()?;
+        str::from_utf8(port_words(name)).ok()
     }
 
     /// Notes that a unit was given to a client.
@@ -375,7 +390,9 @@ impl Admission for Limiter {
         };
         let strays = moved_clients_in(&known, port, message);
         let permits = permits_by(self.alloc, &known, port, message)?;
+        let refused = refused_in(&known, port, message, &permits);
         self.moved_clients = self.moved_clients.saturating_add(strays);
+        self.refused = self.refused.saturating_add(refused);
         if is_left_to_partner(message.kind, &permits) {
             return Err(DropReason::LeftToPartner);
         }

@@ -434,6 +434,29 @@ pub(crate) fn is_left_to_partner(kind: ClientKind, permits: &[Permit]) -> bool
     extends(kind) && !matches!(permits, []) && permits.iter().all(|permit| is_omitted(permit))
 }
 
+/// Counts the IA_PDs of a message that a quota refuses: of those that are denied all whose port isn't another.
+pub(crate) fn refused_in(
+    known: &LimitContext<'_>,
+    port: Option<&[u8]>,
+    message: &ClientMessage,
+    permits: &[Permit],
+) -> u64 {
+    let asking = Requester {
+        client: &message.client,
+        port,
+        kind: message.kind,
+    };
+    let mut count = 0;
+    for (place, ia) in message.ias.as_slice().iter().enumerate() {
+        if matches!(permits.get(place), Some(Permit::Denied))
+            && port_match(known, &asking, ia.iaid) != PortMatch::Other
+        {
+            count += 1;
+        }
+    }
+    count
+}
+
 /// Counts the IA_PDs of a message that come from another port than their unit was given by.
 pub(crate) fn moved_clients_in(
     known: &LimitContext<'_>,

@@ -131,6 +131,7 @@ impl<G: Datagrams> ClientEndpoint<G> {
     pub fn traffic(&self) -> Traffic {
         Traffic {
             held: self.held.len() as u64,
+            over_quota: self.limiter.refused(),
             ..self.traffic
         }
     }
@@ -192,13 +193,14 @@ impl<G: Datagrams> ClientEndpoint<G> {
                 Err(error) => return Err(ReceiveError::Datagrams(error)),
             };
             let now = read_clocks(clocks)?;
-            let strays = self.limiter.moved_clients();
+            let (strays, refused) = (self.limiter.moved_clients(), self.limiter.refused());
             self.limiter.comes_from(source_of::<G>(&peer));
             let reading = now.reading;
             let datagram = &self.buffer[..length];
             let outcome = hear(running, &mut self.limiter, manner, datagram, peer, now);
             self.count(&outcome, reading, log);
             self.log_moved_clients(strays, reading, log);
+            self.log_refused(refused, reading, log);
         }
         Ok(MOST_HEARD)
     }
@@ -233,6 +235,13 @@ impl<G: Datagrams> ClientEndpoint<G> {
     fn log_moved_clients<L: Print>(&self, before: u64, now: Reading, log: &mut Log<'_, L>) {
         if self.limiter.moved_clients() > before {
             log.log_limited(&LogEvent::Stray, now);
+        }
+    }
+
+    /// Tells by which relay port was asked for what a quota refused, if there is more of it than before.
+    fn log_refused<L: Print>(&self, before: u64, now: Reading, log: &mut Log<'_, L>) {
+        if self.limiter.refused() > before {
+            log.log_refused_port(self.limiter.port_words(), now);
         }
     }
 

@@ -31,6 +31,7 @@ messages: 31 solicit, 30 request, 400 renew, 2 rebind, 5 release
 refused: 1 short, 0 option_length, 0 duplicate_id, 0 no_client_id, 0 server_id_present, 0 server_id_missing, \
 9 not_ours, 0 too_deep, 0 too_many_ias, 0 ignored, 0 bad_prefix_length
 answers: 31 advertise, 435 reply
+over_quota: 8
 unanswered: 2
 late: 3
 held: 6
@@ -64,6 +65,7 @@ messages: 0 solicit, 0 request, 0 renew, 0 rebind, 0 release
 refused: 0 short, 0 option_length, 0 duplicate_id, 0 no_client_id, 0 server_id_present, 0 server_id_missing, \
 0 not_ours, 0 too_deep, 0 too_many_ias, 0 ignored, 0 bad_prefix_length
 answers: 0 advertise, 0 reply
+over_quota: 0
 unanswered: 0
 late: 0
 held: 0
@@ -74,7 +76,7 @@ const SERVING_JSON: &str = "\
 {\"ahead_ms\":1203,\"answers\":{\"advertise\":31,\"reply\":435},\"clock\":\"right\",\"due\":7,\"held\":6,\
 \"journal\":\"whole\",\"late\":3,\"marked\":1,\
 \"messages\":{\"rebind\":2,\"release\":5,\"renew\":400,\"request\":30,\"solicit\":31},\
-\"partner\":{\"clock\":{\"least_ms\":-12,\"most_ms\":5},\"connected_since_ms\":1795460500000,\
+\"over_quota\":8,\"partner\":{\"clock\":{\"least_ms\":-12,\"most_ms\":5},\"connected_since_ms\":1795460500000,\
 \"heard_ms\":1795460504419,\"link\":\"connected\",\"notices\":\"understood\",\"program\":\"fengtuyas 1.0.0\",\
 \"refusal\":null,\
 \"settings\":[],\"standing\":\"normal\",\"standing_since_ms\":null},\"reading_ms\":1795460505623,\
@@ -234,6 +236,9 @@ fengtuyas_refused_datagrams_total{fault=\"bad_prefix_length\"} 0
 # HELP fengtuyas_answers Answers that were sent.
 fengtuyas_answers_total{kind=\"advertise\"} 31
 fengtuyas_answers_total{kind=\"reply\"} 435
+# TYPE fengtuyas_quota_refusals counter
+# HELP fengtuyas_quota_refusals IA_PDs that asked for a prefix which a quota refused.
+fengtuyas_quota_refusals_total 8
 # TYPE fengtuyas_unanswered_messages counter
 # HELP fengtuyas_unanswered_messages Messages without an answer.
 fengtuyas_unanswered_messages_total 2

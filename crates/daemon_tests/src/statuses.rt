@@ -77,6 +77,7 @@ pub(crate) fn serving_with<'a>(
                 advertise: 31,
                 reply: 435,
             },
+            over_quota: 8,
             unanswered: 2,
             late: 3,
             held: 6,

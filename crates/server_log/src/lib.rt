@@ -19,6 +19,7 @@ mod level;
 mod log;
 mod log_event;
 mod rate_limit;
+mod refused_ports;
 mod watch;
 
 pub use disconnect_reason::DisconnectReason;

@@ -201,6 +201,7 @@ fn add_unanswered(
     object: &mut Map<String, Value>,
     traffic: &Traffic,
 ) -> Result<(), AllocError> {
+    add(alloc, object, "over_quota", traffic.over_quota)?;
     add(alloc, object, "unanswered", traffic.unanswered)?;
     add(alloc, object, "late", traffic.late)?;
     add(alloc, object, "held", traffic.held)

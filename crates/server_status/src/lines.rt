@@ -171,6 +171,8 @@ fn push_traffic(out: &mut String, traffic: &Traffic) -> Result<(), AllocError> {
     push_counts(out, "messages", &traffic.messages.named())?;
     push_counts(out, "refused", &traffic.faults.named())?;
     push_counts(out, "answers", &traffic.answers.named())?;
+    let over_quota = traffic.over_quota;
+    writeln!(out, "over_quota: {over_quota}")?;
     writeln!(out, "unanswered: {unanswered}")?;
     writeln!(out, "late: {late}")?;
     writeln!(out, "held: {held}")

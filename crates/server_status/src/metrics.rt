@@ -298,6 +298,12 @@ fn push_traffic(out: &mut String, traffic: &Traffic) -> Result<(), AllocError> {
     )?;
     push_counter(
         out,
+        "quota_refusals",
+        "IA_PDs that asked for a prefix which a quota refused.",
+        traffic.over_quota,
+    )?;
+    push_counter(
+        out,
         "unanswered_messages",
         "Messages without an answer.",
         traffic.unanswered,
