@@ -10,7 +10,7 @@ ghost use Rattle.folder_start.specs.Pairing.{StepCanBeAnswered};
 ghost use Rattle.folder_start.specs.Reading.{IsOpened};
 ghost use Rattle.folder_start.specs.Started.{HasBegun};
 ghost use Rattle.node_daemon.specs.Turning.{ways};
-ghost use Rattle.node_daemon.specs.Service.{IsAfterStart};
+ghost use Rattle.service_state.specs.Service.{IsAfterStart};
 ghost use Rattle.node_daemon.specs.Beginning.{pairing_by, link_by, Meets, HasRun};
 ghost use Rattle.node_daemon.specs.Beginning.{HasBegunAndRun, HasServed};
 ghost use Rattle.daemon_endpoints.specs.Receiving.{MayReceive};
@@ -18,16 +18,15 @@ ghost use Rattle.daemon_endpoints.specs.Receiving.{MayReceive};
 use crate::clock_wait::WaitEnd;
 use crate::daemon::Daemon;
 use crate::error::{DaemonError, ServeFailure};
-use crate::reporting::head_lines_of;
-use crate::service::{ServiceState, service_of};
+use crate::lingering::linger;
 use binding_rules::Role;
 use client_limits::{Limiter, Limits};
 use clock_watch::{ClockStore, ClockWatch, PartnerLink};
-use daemon_endpoints::{Arrival, ClientEndpoint, ControlServer, PartnerEndpoint};
+use daemon_endpoints::{Arrival, ClientEndpoint, ControlServer, PartnerContact, PartnerEndpoint};
 use daemon_io::{ConnectionSource, Control, Datagrams, Poller};
-use disk_files::AccessRecordStore;
+use disk_files::{AccessRecordStore, VolumeWatch};
 use disk_model::Folder;
-use folder_start::{FolderRead, Pairing, StartFailure, StartMode, Started, start};
+use folder_start::{FolderRead, Pairing, StartMode, Started, start};
 use lead_time::Transit;
 use link_auth::{HandshakeRole, LinkKey, PeerAuthenticator};
 use order_book::Book;
@@ -37,6 +36,7 @@ use server_core::ServerCore;
 use server_log::{Log, LogEvent, StateWatch};
 use server_status::SyncTimes;
 use server_timers::OperatorRequest;
+use service_state::{ServiceState, head_lines_of, service_of};
 use std::alloc::{AllocError, Global};
 use std::net::SocketAddr;
 use std::sync::Wait;
@@ -146,7 +146,7 @@ fn now_of<C: Clocks>(clocks: &C) -> Result<Moment, ServeFailure>
 {
     match clocks.now() {
         Some(now) => Ok(now),
-        None => Err(ServeFailure::of_start(StartFailure::Clock)),
+        None => Err(ServeFailure::no_time()),
     }
 }
 
@@ -158,7 +158,7 @@ fn daemon_of<
     K: Control,
     C: Clocks,
     T: Poller,
-    A: AccessRecordStore + ClockStore,
+    A: AccessRecordStore + ClockStore + VolumeWatch,
     L: Print,
 >(
     alloc: Global,
@@ -189,10 +189,12 @@ fn daemon_of<
         upkeep: settings.upkeep,
         clients: ClientEndpoint::new(alloc, datagrams, server.transit(), limiter)?,
         partner: PartnerEndpoint::new(alloc, door, keeper_of(server.role(), key))?,
+        contact: PartnerContact::new(now.instant),
         desk: ControlServer::new(alloc, control),
         clocks,
         clock: ClockWatch::new(now),
         beaten: None,
+        seen_linked: None,
         rest,
         keeper,
         log,
@@ -213,7 +215,7 @@ impl<
     K: Control,
     C: Clocks,
     T: Poller,
-    A: AccessRecordStore + ClockStore,
+    A: AccessRecordStore + ClockStore + VolumeWatch,
     L: Print,
 > Daemon<'_, G, D, K, C, T, A, L> {
     /// Begins with this book at a moment.
@@ -279,8 +281,34 @@ where
         clocks,
     ) {
         Ok(started) => Ok(started),
-        Err(error) => Err(ServeFailure::of_start(error)),
+        Err(error) => Err(ServeFailure::of_start(alloc, error)),
     }
+}
+
+/// Hears clients and the partner no more, and tells for a while that the disk failed.
+fn tell_failed<
+    G: Datagrams,
+    D: ConnectionSource,
+    K: Control,
+    C: Clocks,
+    T: Poller,
+    A: AccessRecordStore + ClockStore + VolumeWatch,
+    L: Print,
+>(daemon: Daemon<'_, G, D, K, C, T, A, L>) {
+    let Daemon {
+        alloc,
+        clients,
+        partner,
+        mut desk,
+        clocks,
+        mut rest,
+        log,
+        ..
+    } = daemon;
+    drop(clients);
+    drop(partner);
+    log.log(&LogEvent::DiskFailed);
+    linger(alloc, &mut desk, &clocks, &mut rest);
 }
 
 /// Runs a daemon until it is told to stop.
@@ -292,7 +320,7 @@ fn run_daemon<
     K: Control,
     C: Clocks,
     T: Poller,
-    A: AccessRecordStore + ClockStore,
+    A: AccessRecordStore + ClockStore + VolumeWatch,
     R: Wait,
     L: Print,
 >(
@@ -307,7 +335,12 @@ where
 {
     match daemon.run(rt, running) {
         Ok(()) => Ok(()),
-        Err(error) => Err(ServeFailure::Ended(error)),
+        Err(error) => {
+            if error.is_disk() {
+                tell_failed(daemon);
+            }
+            Err(ServeFailure::Ended(error))
+        }
     }
 }
 
@@ -320,7 +353,7 @@ fn start_and_run<
     K: Control,
     C: Clocks,
     T: Poller,
-    A: AccessRecordStore + ClockStore,
+    A: AccessRecordStore + ClockStore + VolumeWatch,
     R: Wait,
     L: Print,
 >(
@@ -366,7 +399,7 @@ pub(crate) fn serve_folder<
     K: Control,
     C: Clocks,
     T: Poller,
-    A: AccessRecordStore + ClockStore,
+    A: AccessRecordStore + ClockStore + VolumeWatch,
     R: Wait,
     L: Print,
 >(

@@ -10,6 +10,7 @@ from .stage import DOWN, LONG, NORMAL, asked, ran
 # A user that has nothing of the server's; what it says at the file, and what it has the program say.
 STRANGER = 65534
 LINES = ("status", "stop", "stop close", "roll", " ".join(DOWN), *NORMAL)
+NO_PERMISSION = "no permission to ask the server in this directory"
 COMMANDS = (("status",), ("status", "--json"), ("stop",), ("stop", "--close"), ("roll",), DOWN, NORMAL)
 
 
@@ -96,7 +97,7 @@ def stranger(play):
     own, one.node = one.node, program
     for words in COMMANDS:
         status, out, said = ran(one, *words, **how)
-        is_refused = status in (1, 2) and out == ""
+        is_refused = status == 2 and out == "" and NO_PERMISSION in said
         play.see(is_refused, f"another user's {' '.join(words)} has status {status}, {(out + said)[:99]!r}")
     one.node = own
     play.see(one.events() == before, f"another user was there, and {one.side} writes {one.events()[len(before):][:3]}")
