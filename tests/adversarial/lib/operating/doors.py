@@ -64,7 +64,7 @@ def answer_to(server, line):
 
 
 def open_way(server):
-    """Lets another user look into the directory, and run a copy of the program; None where folders above keep it out."""
+    """Lets another user look into the directory and run a copy of the program; None where folders above forbid it."""
     for folder in (server.folder, server.beside, server.beside.parent):
         folder.chmod(0o755)
     program = server.beside / "node"
