@@ -1,3 +1,4 @@
+pub mod Contact
 pub mod Joining
 pub mod Receiving
 pub mod Saying

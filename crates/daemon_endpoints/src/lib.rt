@@ -6,7 +6,7 @@
 //! They stand on devices that don't wait (`daemon_io`), and on a server that runs (`server_core`).
 //!
 //! ```text
-//! clients.receive(&mut running, &manner, &clocks, &mut log)?;
+//! clients.receive(&mut running, &manner, reach, &clocks, &mut log)?;
 //! partner.receive(&mut running, &settings, &now, &clocks, &mut log)?;
 //! let Committed { mut running, leaving } = running.commit()?;
 //! send_committed(&mut clients, &mut partner, &mut running, &answers, &frames, &clocks, &now, &mut log);
@@ -20,6 +20,7 @@ mod control_server;
 mod handing;
 mod parting;
 mod partner;
+mod partner_contact;
 mod partner_view;
 mod peer_connection;
 mod peer_notices;
@@ -30,5 +31,6 @@ pub use arrival::Arrival;
 pub use clients::ClientEndpoint;
 pub use control_server::ControlServer;
 pub use partner::PartnerEndpoint;
+pub use partner_contact::PartnerContact;
 pub use receiving::ReceiveError;
 pub use sending::send_committed;

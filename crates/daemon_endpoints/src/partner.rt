@@ -20,6 +20,7 @@ use server_clocks::{Clocks, Moment};
 use server_core::ServerCore;
 use server_log::{DisconnectReason, Log, LogEvent};
 use server_settings::Settings;
+use server_status::LastRefusal;
 use std::alloc::{AllocError, Global};
 use std::marker::Model;
 use std::time::{Duration, Instant};
@@ -37,6 +38,10 @@ pub struct PartnerEndpoint<D: ConnectionSource> {
     pub(crate) standing: Option<PeerConnection<D>>,
     /// What the two told each other by notices over the connection before.
     pub(crate) last: Option<NoticeTalk>,
+    /// When the partner was heard last over a connection that is over.
+    last_heard: Option<Reading>,
+    /// Why the partner was refused last, until a connection with it has stood for a while.
+    refusal: Option<LastRefusal>,
 }
 
 impl<D: ConnectionSource> Model for PartnerEndpoint<D> {
@@ -99,6 +104,8 @@ impl<D: ConnectionSource> PartnerEndpoint<D> {
             waiting: PendingPeers::new(alloc, keeper),
             standing: None,
             last: None,
+            last_heard: None,
+            refusal: None,
         })
     }
 
@@ -107,9 +114,25 @@ impl<D: ConnectionSource> PartnerEndpoint<D> {
         Some(self.standing.as_ref()?.begun.reading)
     }
 
-    /// When the partner was heard last over the connection that stands.
+    /// When the partner was heard last, over the connection that stands or one before; none where it never was.
     pub fn heard(&self) -> Option<Reading> {
-        self.standing.as_ref()?.heard
+        match &self.standing {
+            Some(standing) => standing.heard.or(self.last_heard),
+            None => self.last_heard,
+        }
+    }
+
+    /// Why the partner was refused last, if it was and no connection with it has stood for a while since.
+    pub fn refusal(&self) -> Option<LastRefusal> {
+        self.refusal
+    }
+
+    /// Returns whether anything came over the connection that stands since so long ago, by the monotonic clock.
+    pub fn is_heard_within(&self, limit: Duration, now: Instant) -> bool {
+        match &self.standing {
+            Some(standing) => standing.is_heard_within(limit, now),
+            None => false,
+        }
     }
 
     /// Gives connections that have come a seat, as far as there is room. Where there is none the next is closed, and
@@ -167,8 +190,16 @@ impl<D: ConnectionSource> PartnerEndpoint<D> {
     {
         if let Some(standing) = self.standing.take() {
             standing.log_disconnect(DisconnectReason::Replaced, now, log);
-            self.keep_talk(standing.into_talk());
+            self.keep_traces(standing);
         }
+    }
+
+    /// Keeps of a connection that is over when the partner was heard last, and what the two told each other.
+    fn keep_traces(&mut self, standing: PeerConnection<D>)
+        ensures { self.new ≡ self.old }
+    {
+        self.last_heard = standing.heard.or(self.last_heard);
+        self.keep_talk(standing.into_talk());
     }
 
     /// Keeps what the two told each other over a connection that is over, where the partner said anything of itself.
@@ -192,9 +223,15 @@ impl<D: ConnectionSource> PartnerEndpoint<D> {
         ensures { self.new ≡ self.old }
     {
         standing.log_disconnect(parting, now, log);
+        if let Some(why) = parting.refusal() {
+            self.refusal = Some(LastRefusal {
+                why,
+                at: now.reading,
+            });
+        }
         self.door
             .back_off(standing.pause(&parting, now), now.instant);
-        self.keep_talk(standing.into_talk());
+        self.keep_traces(standing);
     }
 
     /// Begins the session over the connection of who was let in, or its talk of notices.
@@ -234,7 +271,10 @@ impl<D: ConnectionSource> PartnerEndpoint<D> {
             return Ok(false);
         };
         let has_come = standing.receive(running, settings, &mut self.buffer, now.instant, clocks)?;
-        standing.log_joined(running.stage(), log);
+        standing.log_joined(running.stage(), self.refusal.is_some(), now, log);
+        if standing.has_joined {
+            self.refusal = None;
+        }
         standing.log_settings(now, log);
         standing.log_silence(now, log);
         standing.close_if_stale(has_other, now);

@@ -28,7 +28,7 @@ use server_log::{DisconnectReason, Log, LogEvent};
 use server_settings::Settings;
 use std::alloc::Global;
 use std::mem;
-use std::time::Instant;
+use std::time::{Duration, Instant};
 
 /// How many seconds a connection stands that has stood for a while.
 const A_WHILE: u64 = 10;
@@ -55,8 +55,10 @@ pub(crate) struct PeerConnection<D: ConnectionSource> {
     pub(crate) heard: Option<Reading>,
     /// When octets came last, or it was told that none did; before, when it began.
     listened: Instant,
-    /// Whether the two have joined: each has named what it took last.
-    has_joined: bool,
+    /// When octets came last.
+    came: Option<Instant>,
+    /// Whether it was told that the two have joined: each has named what it took last.
+    pub(crate) has_joined: bool,
     /// Why it is over once all that is held back has gone out.
     pub(crate) parting: Option<DisconnectReason>,
 }
@@ -114,6 +116,7 @@ impl<D: ConnectionSource> PeerConnection<D> {
             begun: *now,
             heard: None,
             listened: now.instant,
+            came: None,
             has_joined: false,
             parting,
         }
@@ -148,6 +151,7 @@ impl<D: ConnectionSource> PeerConnection<D> {
                 self.quiet.begin(now.instant);
                 self.heard = Some(now.reading);
                 self.listened = now.instant;
+                self.came = Some(now.instant);
                 self.lead(&buffer[..count], now.reading);
                 Arrived::Octets
             }
@@ -194,6 +198,7 @@ impl<D: ConnectionSource> PeerConnection<D> {
         ensures files { HasSameFiles running.old running.new }
         ensures connection { self.new.connection ≡ self.old.connection }
     {
+        running.see_clock(heard.now.instant);
         let events = mem::replace(&mut self.events, Vec::new(self.alloc));
         match hand_on(
             running,
@@ -306,11 +311,19 @@ impl<D: ConnectionSource> PeerConnection<D> {
         }
     }
 
-    /// Tells that the two have joined, once they have.
-    pub(crate) fn log_joined<L: Print>(&mut self, stage: Option<SessionStage>, log: &Log<'_, L>)
+    /// Tells that the two have joined, once they have. Of a partner that was refused it is told once the connection has
+    /// stood for a while: else the line would cover the refusal, which may follow again.
+    pub(crate) fn log_joined<L: Print>(
+        &mut self,
+        stage: Option<SessionStage>,
+        was_refused: bool,
+        now: &Moment,
+        log: &Log<'_, L>,
+    )
         ensures { self.new.connection ≡ self.old.connection }
     {
-        if !self.has_joined && matches!(stage, Some(SessionStage::Joined { .. })) {
+        let may_last = !was_refused || self.has_stood(now);
+        if !self.has_joined && may_last && matches!(stage, Some(SessionStage::Joined { .. })) {
             self.has_joined = true;
             log.log(&LogEvent::Connected);
         }
@@ -341,6 +354,14 @@ impl<D: ConnectionSource> PeerConnection<D> {
         if now.instant.duration_since(self.listened).as_secs() >= LONG_SILENCE {
             self.listened = now.instant;
             log.log_limited(&LogEvent::PartnerSilent, now.reading);
+        }
+    }
+
+    /// Returns whether octets came over it since so long ago.
+    pub(crate) fn is_heard_within(&self, limit: Duration, now: Instant) -> bool {
+        match self.came {
+            Some(came) => now.duration_since(came) <= limit,
+            None => false,
         }
     }
 

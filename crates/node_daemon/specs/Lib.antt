@@ -1,4 +1,3 @@
 pub mod Turning
 pub mod Lasting
 pub mod Beginning
-pub mod Service

@@ -6,7 +6,7 @@ use client_service::{
 use dhcp6_pd::decode;
 use exclusive_book::{ExclusiveBook, ExclusivePairBook};
 use failover_message::encode;
-use failover_session::{FailoverSession, LinkInput, SessionPolicy};
+use failover_session::{FailoverSession, LinkInput, SessionPolicy, SessionStage};
 use lead_time::Reading;
 use prefix_range::Prefix;
 use server_book::{Book, LeaseRequest, Order, Reply, ReplyPolicy, Settings, read_settings};
@@ -122,6 +122,17 @@ impl Server {
         carry(alloc, &mut self.talk, wire)
     }
 
+    /// Ends the lowest lease that has ended, as a daemon does: none that the partner may have renewed.
+    fn end_lease(&mut self, now: Reading) {
+        let has_joined = matches!(self.talk.stage(), SessionStage::Joined { .. });
+        if !has_joined || !self.talk.partner_told_all() || self.own.book.waiting() {
+            return;
+        }
+        if let Some(prefix) = self.own.book.first_to_expire(now) {
+            let _is_done = self.order(now, &Order::Expire(prefix));
+        }
+    }
+
     /// One turn of its end, whose frames go on their way. Says whether the connection goes on.
     pub fn turn(
         &mut self,
@@ -130,6 +141,7 @@ impl Server {
         came: &LinkInput<'_>,
         wire: &mut Vec<u8>,
     ) -> Result<bool, Fail> {
+        self.end_lease(now);
         let done = self.talk.poll(&ExclusivePairBook, &mut self.own, &self.settings, now, came);
         carry(alloc, &mut self.talk, wire)?;
         Ok(done.is_ok() && !self.talk.stage().has_ended())
