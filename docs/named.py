@@ -5,7 +5,9 @@ from closure import ROOT
 
 PROOFS = ROOT / "docs/proofs"
 FOLDERS = ("must-fail", "further")
-SAYS = re.compile(r"(?:write_str|write!)\(\s*(?:f, *)?\"([^\"{]*)")
+# What a running server says stands there.
+LOG, SPEAKERS = ROOT / "crates/server_log/src", ("event_words.rt", "disconnect_reason.rt", "log.rt")
+SAYS = re.compile(r"(?:write!\(|Some\(|&str = )\s*(?:f,\s*)?\"([^\"{\\]*)")
 
 
 def is_edit(crate, name):
@@ -61,7 +63,7 @@ def crates():
 def notices():
     """A sentence for each line of a running server's that the page on it doesn't have."""
     page = (ROOT / "docs/operating/watching.md").read_text()
-    for line in SAYS.findall((ROOT / "crates/server_log/src/log_event.rt").read_text()):
+    for line in SAYS.findall("".join((LOG / name).read_text() for name in SPEAKERS)):
         if (begin := line.partition(":")[0].strip()) and f"`{begin}" not in page:
             yield f"watching.md: {line} isn't there"
 

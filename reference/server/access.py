@@ -33,6 +33,11 @@ def port_words(port):
     return f"{address_word(link)} {identifier_word(interface)} {identifier_word(remote)}"
 
 
+def unit_of(event):
+    """The unit of a line that a record may be of: one that grants it, or carries it into a volume; else None."""
+    return {"grant": event[3:4], "unit": event[1:2]}.get(event[0], (None,))[0]
+
+
 def record(number, port, source):
     """The record of the line of that number; `source` is None where it isn't known."""
     return f"{number} {port_words(port)} {NOTHING if source is None else address_word(source)}"

@@ -3,6 +3,7 @@ early: the partner may still tell again what it gives back."""
 
 from . import answers, messages
 from .book import BookRefusal
+from .permit import ALL
 
 KINDS = (messages.REQUEST, messages.RENEW, messages.REBIND)
 
@@ -42,12 +43,12 @@ def told_without_line(book, floor, order, reading):
     return ("given", unit.prefix, left) if left > 0 and 2 * left >= valid else None
 
 
-def all_told_again(book, floor, message, reading, denied=()):
-    """The answers to a message all of which is told again; None where a line is due for one of its IA_PDs. `denied` are
-    the places of those that may not be ordered."""
-    if message.kind not in KINDS or book.waiting or not message.associations:
+def all_told_again(book, floor, message, reading, permit=ALL):
+    """The answers to a message all of which is told again; None where a line is due for one of its IA_PDs. Those that
+    may not be ordered have none, and keep no other from being told again."""
+    if message.kind not in KINDS or book.waiting or not message.associations or permit.anew:
         return None
-    found = [answers.NO_PREFIX if place in denied else told_without_line(book, floor, order, reading)
+    found = [permit.of(place) or told_without_line(book, floor, order, reading)
              for place, order in enumerate(answers.orders_of(message))]
     return None if None in found else found
 
@@ -59,25 +60,26 @@ def early_until(book, floor, unit):
     return granted + 1000 * floor + 2 * book.skew if granted >= 0 and floor != 0 else 0
 
 
-def named_units(book, message):
-    """The units that a message names and that are its client's own, each under the IAID by which it names it."""
-    named = [(book.table.get(prefix), association.identifier) for association in message.associations
-             for prefix in association.prefixes]
+def named_units(book, message, permit=ALL):
+    """The units that a message names, may order, and that are its client's own, each under the IAID by which it names
+    it."""
+    named = [(book.table.get(prefix), association.identifier) for place, association in enumerate(message.associations)
+             for number, prefix in enumerate(association.prefixes) if permit.of(place, number) is None]
     return [unit for unit, identifier in named if unit is not None and unit.holds(message.client, identifier)]
 
 
-def is_early(book, floor, message, clock):
-    """Whether nothing is done of a message, a RELEASE that is early for one of the prefixes that it names. What the
-    clock itself shows is compared, though the journal's last reading be greater."""
+def is_early(book, floor, message, clock, permit=ALL):
+    """Whether nothing is done of a message, a RELEASE that is early for one of the prefixes that it names and may give
+    back. What the clock itself shows is compared, though the journal's last reading be greater."""
     return message.kind == messages.RELEASE and any(clock < early_until(book, floor, unit)
-                                                    for unit in named_units(book, message))
+                                                    for unit in named_units(book, message, permit))
 
 
-def leaves_lines(book, message, manner, denied):
+def leaves_lines(book, message, manner, permit=ALL):
     """Whether a message that is ordered leaves a line."""
     orders = answers.orders_by_association(message, manner)
-    return any(leaves_line(book, message, order) for place, those in enumerate(orders) if place not in denied
-               for order in those)
+    return any(leaves_line(book, message, order) for place, those in enumerate(orders)
+               for number, order in enumerate(those) if permit.of(place, number) is None)
 
 
 def leaves_line(book, message, order):

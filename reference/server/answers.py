@@ -3,6 +3,7 @@
 from . import messages
 from .book import BookRefusal
 from .manner import Manner, handed_out
+from .permit import ALL
 
 ORDER_OF_KIND = {messages.SOLICIT: "request", messages.REQUEST: "request", messages.RENEW: "renew",
                  messages.REBIND: "renew", messages.RELEASE: "release"}
@@ -39,12 +40,12 @@ def orders_by_association(message, manner=PLAIN):
     return [[order] for order in orders_of(message)]
 
 
-def answer_to_orders(book, message, orders, denied, reading):
-    """What is told of an IA_PD: what the first of its orders is told that finds a binding. `denied` are orders that
-    may not be done."""
+def answer_to_orders(book, message, place, orders, permit, reading):
+    """What is told of the IA_PD of a place: what the first of its orders is told that finds a binding, or that may not
+    be done."""
     told = NO_BINDING
-    for order in orders:
-        answer = NO_PREFIX if order in denied else answer_to(book, message, order, reading)
+    for number, order in enumerate(orders):
+        answer = permit.of(place, number) or answer_to(book, message, order, reading)
         if told == NO_BINDING:
             told = answer
     return told
@@ -56,9 +57,11 @@ def refused_addresses(manner, message):
 
 
 def octets_of(own, message, answers, manner=PLAIN):
-    """The octets of an answer that has these parts, None where there is none: a REBIND that nothing is told of."""
+    """The octets of an answer that has these parts, None where there is none: a RENEW or REBIND that nothing is told
+    of, or a message without IA_PDs. A RELEASE is told Success at least."""
     answers = [NOTHING if is_left(manner, message, answer) else answer for answer in answers]
-    if message.kind != messages.INFORMATION_REQUEST and all(answer == NOTHING for answer in answers):
+    is_told = any(answer != NOTHING for answer in answers) or (bool(answers) and message.kind == messages.RELEASE)
+    if message.kind != messages.INFORMATION_REQUEST and not is_told:
         return None
     return messages.encode(message, own, answers, handed_out(manner, message), refused_addresses(manner, message))
 
@@ -68,12 +71,11 @@ def is_left(manner, message, answer):
     return message.kind == messages.REBIND and manner.is_silent and answer == NO_BINDING
 
 
-def serve(book, own, message, reading, manner=PLAIN, denied=()):
-    """The octets of the answer to a message that was read, None where there is none; `denied` are the places of the
-    IA_PDs that may not be ordered."""
+def serve(book, own, message, reading, manner=PLAIN, permit=ALL):
+    """The octets of the answer to a message that was read, None where there is none."""
     answers = []
     for place, orders in enumerate(orders_by_association(message, manner)):
-        answer = answer_to_orders(book, message, orders, orders if place in denied else (), reading)
+        answer = answer_to_orders(book, message, place, orders, permit, reading)
         if answer is None:
             return None
         answers.append(answer)

@@ -109,7 +109,7 @@ class Book:
     def _grant(self, reading, client, identifier, prefix, valid):
         unit = self.table.get(prefix)
         self.table.change(unit, ACTIVE, client, identifier)
-        unit.mine += 1
+        unit.raise_mine()
         unit.own_end = max(unit.own_end, reading + 1000 * valid + 2 * self.skew + self.transit)
         unit.out_end = reading + 2000 * self.life
         unit.due = ACTIVE
@@ -123,24 +123,24 @@ class Book:
     def _ended(self, prefix, status):
         unit = self.table.get(prefix)
         self.table.change(unit, status, unit.client, unit.identifier)
-        unit.mine += 1
+        unit.raise_mine()
         unit.due = status
 
     def _backup(self, _reading, prefix):
         unit = self.table.get(prefix)
         self.table.change(unit, BACKUP)
-        unit.mine += 1
+        unit.raise_mine()
         unit.due = BACKUP
 
     def _reclaim(self, _reading, prefix):
         unit = self.table.get(prefix)
-        unit.mine += 1
+        unit.raise_mine()
         unit.due = FREE
 
     def _seize(self, _reading, prefix):
         unit = self.table.get(prefix)
         self.table.free(unit, rules.own_pool(self.role))
-        unit.mine += 1
+        unit.raise_mine()
         unit.mark = True
 
     def _send(self, _reading, _term, serial, body):

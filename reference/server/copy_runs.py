@@ -303,6 +303,7 @@ def survivor_has_mark(program, role):
         scene.may_say(told, QUIET)
         scene.asks(frames.UPDATE_REQUEST_ALL)
         scene.expect(scene.sent(("contact", 0, 0)), ("send", scene.book.term, scene.book.serial + 2, told))
+        scene.hears_none(Frame(frames.UPDATE_DONE))
         scene.expect(*scene.says(("reply", "accept", unit.prefix, unit.mine, unit.seen + 1, unit.mine)))
         scene.hears(Frame(frames.UPDATE_DONE))
         scene.serves(is_joined=True)

@@ -61,6 +61,11 @@ class Honest(Partner):
                 self.keys.add((body[1], body[2], body[3]))
                 self.say("send update", unit.prefix)
 
+    def tell_again(self):
+        """Tells what is due once more."""
+        self.keys.clear()
+        self.speak()
+
     def own_client(self):
         """A client asks us."""
         kind = self.draws.pick(5, "request", 3, "renew", 2, "release")

@@ -6,7 +6,7 @@ from .life_ports import behind, drawn_ports
 from .limits import Limits
 from .messages import INFORMATION_REQUEST, REBIND, RELEASE, RENEW, REQUEST, SOLICIT
 from .program import LEAST_TRANSIT, now
-from .units import FREE
+from .units import ACTIVE, FREE
 from .values import Line, Settings, prefix_of
 
 OWN = bytes.fromhex("00030001020000000009")
@@ -29,6 +29,7 @@ class LifeDraws(Draws):
         self.ports = ports
         self.weights = [random.choice((1, 4, 12)) for _ in range(6)]
         self.strays = random.choice((0.0, 0.1, 0.3))
+        self.claims = 0.0
         self.asking = b""
         self.moments = []
         self.heaps = True
@@ -78,6 +79,29 @@ class LifeDraws(Draws):
         _, self.asking, identifier, prefix, kinds = self.random.choice(self.moments[-2:])
         return self.message(self.random.choice(kinds), self.asking, [(identifier, prefix)])
 
+    def claim_of_bound(self, limits):
+        """Has somebody claim what clients have, mostly behind another port, where a port is bound."""
+        self.claims = 0.3 if limits.bind_to_port else 0.0
+
+    def claim(self):
+        """What is asked, for one or more units that somebody has, under the name of that client; None mostly."""
+        held = [unit for unit in self.book.table.ordered if unit.status == ACTIVE]
+        if not held or not self.chance(self.claims):
+            return None
+        self.asking = self.random.choice(held).client
+        units = [unit for unit in held if unit.client == self.asking]
+        units = self.random.sample(units, min(len(units), self.pick(5, 1, 3, 2, 1, 3)))
+        kind = self.pick(4, RELEASE, 3, RENEW, 3, REBIND, 1, REQUEST, 1, SOLICIT)
+        wanted = [(unit.identifier, unit.prefix) for unit in units]
+        if kind == RELEASE and self.chance(0.2):
+            wanted = [(units[0].identifier, *(unit.prefix for unit in units)), *wanted[1:]]
+        wanted += self.pick(5, [], 1, wanted[:1], 1, [(self.random.getrandbits(32), units[0].prefix)])
+        return self.message(kind, self.asking, wanted)
+
+    def any_port(self):
+        """The port of who claims, mostly another than that of the client whose name he has."""
+        return self.random.choice(self.ports) if self.chance(0.6) else self.port()
+
     def asked(self, kind, client, identifiers, port):
         """What a client asks for these identity associations, behind a port."""
         octets = self.message(kind, client, [(identifier, None) for identifier in identifiers])
@@ -101,8 +125,9 @@ class LifeDraws(Draws):
                 yield self.asked(kind, client, [1], at)
 
     def datagram(self):
-        octets = self.timely() or self.client_message()
-        port, name = self.port(), "direct"
+        claim = self.claim()
+        octets = claim or self.timely() or self.client_message()
+        port, name = self.port() if claim is None else self.any_port(), "direct"
         if port is not None:
             more = [self.foreign_option()] if self.chance(0.1) else []
             hops, peer, name = self.random.randrange(256), self.octets(16), "relayed"

@@ -8,12 +8,19 @@ from . import access, answers
 from .life_draws import (WAITS, LifeDraws, bounds_of, drawn_ages, drawn_ahead, drawn_floor, drawn_life, drawn_limits,
                          drawn_records, drawn_short_times, drawn_tail, drawn_times, end_bound, half_of_units,
                          write_past)
+from .life_partner import LinkedLife
 from .limits import NOT_SAID, Limits
 from .linkend import partner_of
 from .lives import Life
 from .manner_draws import drawn_manner
 from .program import Daemon, now
 from .serving import plain_settings
+from .stories import StoryDraws
+
+# Of a life whose leases end: how often a partner that is there says something in front of a datagram, and leaves.
+OFTEN, LEAVES = 0.3, 0.03
+# Whether it has a partner, and whether that is there: else it waits all its life.
+PARTNERS = (*[(False, False)] * 5, (True, False), *[(True, True)] * 3)
 
 
 def serve_floor_once(program, seed, count, tally):
@@ -43,35 +50,40 @@ def serve_floor_once(program, seed, count, tally):
 
 
 def serve_ends_once(program, seed, count, tally):
-    """One life of a server whose leases end meanwhile: those of a past that are nearly over, or short ones."""
+    """One life of a server whose leases end meanwhile: those of a past that are nearly over, or short ones. Some have a
+    partner; without it none ends."""
     source = random.Random(seed)
     is_short = source.random() < 0.2
     settings = drawn_short_times(source) if is_short else drawn_times(source, has_past=True)
-    told = Limits(renew_floor=source.choice((0, 1, 31_536_000)), units_per_client=source.choice((0, 0, 2)),
+    told = Limits(renew_floor=source.choice((0, 1, 31_536_000)), units_per_client=source.choice((0, 0, 1, 2, 3)),
                   units_per_port=source.choice((0, 1, 3)), bind_to_port=source.random() < 0.3)
     manner = replace(drawn_manner(source), releases_each=True)
     bound = end_bound(settings)
     readings = sorted(now() - bound + source.randrange(-100, WAITS[1]) for _ in range(source.choice((3, 20, 60))))
     readings = readings[:half_of_units(settings)]
-    host, book, draws = drawn_life(source, settings, readings[0])
+    has_link, is_joined = source.choice(PARTNERS)
+    host, book, draws = drawn_life(source, settings, readings[0], kind=StoryDraws if is_joined else LifeDraws)
     write_past(source, book, draws, readings)
     draws.await_bounds([bound - 1, bound, bound + 1])
+    draws.claim_of_bound(told)
     draws.pauses = (0, 0, 0.01, 0.03) if is_short else (0,)
     records = drawn_records(source, book, draws)
-    has_link = source.random() < 0.2
     past, text = list(book.lines), access.text(book, records)
-    with Daemon(program, settings, manner, host, has_link, past, told, text) as daemon:
-        life = Life(daemon, draws, book, told, tally, manner)
+    with partner_of(settings) as link, \
+            Daemon(program, settings, manner, host, has_link, past, told, text, link if is_joined else None) as daemon:
+        words = daemon, draws, book, told, tally, manner
+        life = LinkedLife(*words, often=OFTEN, leaves=LEAVES) if is_joined else Life(*words)
         life.take_records(records)
         life.run(count)
-    daemon.count(tally, "lives whose leases end")
+    daemon.count(tally, "lives whose leases end" + ", with a partner" * is_joined)
 
 
-def drawn_quota_life(source, settings):
+def drawn_quota_life(source, settings, told):
     """A life with a past whose grants have records, some of them."""
     begun = now()
     host, book, draws = drawn_life(source, settings, begun, (2, 5, 12, 30), (1, 2, 4, 12))
     draws.heaps = False
+    draws.claim_of_bound(told)
     count = min(half_of_units(settings), source.choice((0, 3, 10, 20)))
     write_past(source, book, draws, [begun] * count if count > 1 else [])
     return host, book, draws, drawn_records(source, book, draws)
@@ -83,7 +95,7 @@ def serve_limits_once(program, seed, count, tally):
     settings = drawn_times(source)
     told = drawn_limits(source)
     manner = replace(drawn_manner(source), releases_each=True)
-    host, book, draws, records = drawn_quota_life(source, settings)
+    host, book, draws, records = drawn_quota_life(source, settings, told)
     past = list(book.lines) if book.lines[-1].event[0] == "grant" else []
     text = access.text(book, records)
     text += drawn_tail(source, text)

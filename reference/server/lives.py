@@ -4,17 +4,25 @@ The clock is the daemon's own. A line shows its reading; a message that leaves n
 its sending and its answer, and whatever any of these gives is taken.
 """
 
+import copy
 import time
 from collections import Counter
 
-from . import access, again, answers, journal, matching, messages, rolling, rules
+from . import access, again, answers, journal, matching, messages, rolling
 from .beginning import first_events
 from .book import BookRefusal
+from .ends import Ends
 from .life_ports import port_of
 from .limiting import Hearing, Policy, named
 from .manner import settings_rows
-from .program import Difference, now, settings_line
+from .program import PATIENCE, Difference, now, settings_line
 from .units import ACTIVE
+from .ways import ways_of
+
+
+# How long a server is without its partner, in milliseconds, before it answers what that may know; and how much later or
+# earlier than our clock says it may find so.
+APART, SLACK = 60_000, 100
 
 
 class Tail:
@@ -33,6 +41,10 @@ class Tail:
         whole = octets[:octets.rfind(b"\n") + 1]
         self.place += len(whole)
         return whole.decode().split("\n")[:-1]
+
+    def ends_with(self, row):
+        """Whether the row is the last that is there by now."""
+        return self.path.exists() and self.path.read_bytes().endswith((row + "\n").encode())
 
 
 class Exchange:
@@ -68,8 +80,10 @@ class Life:
         self.policy = Policy(self.limits)
         self.hearing = Hearing(self.limits.client_rate)
         self.own = daemon.settings.own
+        self.ends = Ends(daemon.has_link)
         self.exchanges = []
         self.noted = []
+        self.parted = (daemon.began, now())
         self.tail, self.records = Tail(daemon.volume), Tail(daemon.records)
         self.ask()
         self.look_at_opening(self.tail.rows())
@@ -105,20 +119,29 @@ class Life:
         return [journal.spelled_line_of(row) for row in self.tail.rows()]
 
     def take_unasked(self, lines):
-        """Takes over lines that no client asked for: those by which leases end, each of which has to be over by its
-        reading."""
+        """Takes over lines that no client asked for: those by which leases end, each of which has to be due."""
         for line in lines:
             if line.event[0] not in self.UNASKED:
                 self.fault(f"a line that nobody asked for: {journal.line_text(line)}")
+            if line.event[0] == "expire":
+                self.look_at_end(line)
             try:
                 self.book.append(line)
             except BookRefusal as refusal:
                 self.fault(f"{journal.line_text(line)}: {refusal}")
-            self.tally["leases that ended"] += line.event[0] == "expire"
+
+    def look_at_end(self, line):
+        unit = self.book.table.get(line.event[1])
+        if unit is None or not self.ends.is_due(self.book, unit, line.reading):
+            self.fault(f"a lease ends that the partner may have renewed, or that isn't over: {journal.line_text(line)}")
+        self.tally["leases that ended"] += 1
+        self.tally["leases that ended with a partner"] += self.ends.has_partner
 
     def be_answered(self, link):
         """Our end of the link joins a server that waits, answers it and leaves, so that it serves."""
+        before = now()
         events = link.answer_and_leave(self.book)
+        self.parted = (before, now())
         self.ask()
         lines = self.new_lines()
         if [line.event for line in lines] != events:
@@ -133,18 +156,52 @@ class Life:
             self.fault("the access records of the past are others")
 
     def take_records(self, records):
-        """What a start takes of a volume's records: the port of each, in their order, or that none is named."""
+        """What a start takes of a volume's records, in their order: those of units' last grants."""
         self.noted = list(records)
+        given = [(access.unit_of(line.event), line.number) for line in self.book.lines]
+        last = {prefix: number for prefix, number in given if prefix is not None}
         for number, port in records:
-            event = self.book.lines[number - 1].event
-            self.policy.granted(event[3] if event[0] == "grant" else event[1], port)
+            prefix = access.unit_of(self.book.lines[number - 1].event)
+            if last[prefix] == number:
+                self.policy.granted(prefix, port)
 
     def begin_again(self):
         """Has the daemon stop and begin again, by its volume and records alone; one with a partner waits for it."""
-        self.daemon.begin_again()
-        self.policy, self.hearing = Policy(self.limits), Hearing(self.limits.client_rate)
+        self.start_again()
         self.ask()
-        lines = self.new_lines()
+        self.look_at_start(self.new_lines())
+        self.tally["begun again"] += 1
+
+    def begin_next(self):
+        """Has the daemon stop with its volume closed, and begin the next one, which has to say what this one left; its
+        records do so before anybody asks."""
+        before = now()
+        self.start_again("--close")
+        self.closed(before)
+        self.take_records(self.noted)
+        lines = self.enter_next()
+        records = self.records_of_units()
+        self.await_records(records)
+        self.look_at_records(records)
+        self.ask()
+        self.look_at_start(lines + self.new_lines())
+        self.tally["volumes that a start began"] += 1
+
+    def await_records(self, wanted):
+        """Waits until a start has written these records, of which nobody asked."""
+        until = time.monotonic() + PATIENCE
+        while wanted and not self.records.ends_with(wanted[-1]) and time.monotonic() < until:
+            time.sleep(0.01)
+
+    def start_again(self, *words):
+        """Stops the daemon by these words, and starts it once more."""
+        before = now()
+        self.daemon.begin_again(*words)
+        self.parted = (before, now())
+        self.policy, self.hearing = Policy(self.limits), Hearing(self.limits.client_rate)
+
+    def look_at_start(self, lines):
+        """What a start writes stands in these lines; it takes the records of its volume."""
         for event in first_events(self.book, self.daemon.has_link):
             restart = next((line for line in lines if line.event == event), None)
             if restart is None:
@@ -154,7 +211,6 @@ class Life:
             lines = lines[lines.index(restart) + 1:]
         self.take_unasked(lines)
         self.take_records(self.noted)
-        self.tally["begun again"] += 1
 
     def look_at_records(self, wanted):
         """The records that were written since are these; the first of a volume stands behind the head."""
@@ -244,113 +300,137 @@ class Life:
         else:
             while left and not self.fits(exchange, message):
                 self.take_unasked([left.pop(0)])
-            if not self.is_early(exchange, message):
-                self.judge_if_heard(exchange, message)
+            self.judge_if_heard(exchange, message, ways_of(self, exchange, message))
         self.take_unasked(left)
         self.expect_ended()
 
     def expect_ended(self):
-        """Each turn hears what came, then does what is owed, and only then has answers leave: no lease is left that was
-        over as the message before the last was sent."""
-        moment = self.exchanges[-2].before if len(self.exchanges) > 1 else self.daemon.began
-        for places in self.book.table.held.values():
-            for unit in map(self.book.table.ordered.__getitem__, places):
-                if rules.may_expire(unit, moment):
-                    self.fault(f"a lease that is over since {unit.own_end}: {unit.prefix}")
+        """No lease is left that has to have ended."""
+        self.ends.note(self.book)
+        moment = self.ends.owed(self.daemon.began, self.exchanges)
+        left = None if moment is None else self.ends.left(self.book, moment)
+        if left is not None:
+            self.fault(f"a lease that is over since {left.own_end}: {left.prefix}")
 
     def fits(self, exchange, message):
         """Whether what became of a message without lines may be so before the next line that no client asked for."""
-        if exchange.lines:
-            return True
-        early = self.early(exchange, message)
-        if all(early) or (any(early) and exchange.answer is None):
-            return exchange.answer is None
-        denied = self.policy.denied(self.book, message, port_of(message))
-        if not again.leaves_lines(self.book, message, self.manner, denied):
-            answer = answers.serve(self.book, self.own, message, exchange.before, self.manner, denied)
-            if self.small(answer) == exchange.answer:
-                return True
-        found = [self.told_again(message, at, denied) for at in self.readings(exchange)]
-        return exchange.answer in [self.small(answer) for answer in found if answer is not None]
+        return bool(exchange.lines) or any(self.is_so(exchange.answer, message, way)
+                                           for way in ways_of(self, exchange, message))
 
-    def early(self, exchange, message):
-        """Whether nothing is done of a message, by each clock by which it can have been looked at."""
-        return [again.is_early(self.book, self.limits.renew_floor, message, at) for at in self.readings(exchange)]
-
-    def is_early(self, exchange, message):
-        """Whether nothing was done of a message, an early RELEASE, which counts for nothing then."""
-        if message.kind != messages.RELEASE:
+    def is_so(self, answer, message, way):
+        """Whether a message that left no line may have been answered so."""
+        if way.is_early:
+            return answer is None
+        if way.told is not None:
+            return answer == self.small(way.told)
+        if again.leaves_lines(self.book, message, self.manner, way.permit):
             return False
-        early = self.early(exchange, message)
-        is_silent = exchange.answer is None and not exchange.lines
-        if all(early) and not is_silent:
-            self.fault("awaited that nothing is done of an early RELEASE")
-        self.count_release(exchange, message, is_silent and any(early))
-        return is_silent and any(early)
+        return answer == self.small(answers.serve(self.book, self.own, message, way.at, self.manner, way.permit))
 
-    def count_release(self, exchange, message, is_early):
+    def count_release(self, message, ways, is_early):
         """Counts a RELEASE of a unit of which the partner told, and how near to its bound it came."""
         bound = max((again.early_until(self.book, self.limits.renew_floor, unit)
-                     for unit in again.named_units(self.book, message)), default=0)
-        near = {at - bound for at in self.readings(exchange)}
+                     for unit in again.named_units(self.book, message, ways[0].permit)), default=0)
+        near = {way.at - bound for way in ways}
         self.tally["RELEASEs that are early"] += is_early
         self.tally["RELEASEs that are early by the clock alone"] += is_early and bound <= self.book.lines[-1].reading
         self.tally["RELEASEs that were early once"] += bound > 0 and not is_early
         self.tally["RELEASEs a millisecond before their bound"] += bound > 0 and near == {-1}
         self.tally["RELEASEs at their bound"] += bound > 0 and near == {0}
 
-    def judge_if_heard(self, exchange, message):
+    def judge_if_heard(self, exchange, message, ways):
         is_counted = self.limits.client_rate != 0 and message.kind != messages.INFORMATION_REQUEST
-        if not is_counted or self.is_heard(exchange, message):
-            self.judge(exchange, message, self.policy.denied(self.book, message, port_of(message)))
+        if not is_counted or self.is_heard(exchange, message, ways):
+            self.judge(exchange, message, ways)
 
-    def is_heard(self, exchange, message):
+    def is_heard(self, exchange, message, possible):
         """Whether a message is heard; where that can't be told, since it has no answer either way, it isn't judged."""
         key = (message.client, named(port_of(message)))
-        ways = self.hearing.ways(key, {reading // 1000 for reading in self.readings(exchange)})
+        ways = self.hearing.ways(key, {way.at // 1000 for way in possible})
         heard = {way for way in ways if way[2]}
         has_answer = exchange.answer is not None or exchange.lines
-        if not has_answer and not self.is_silent(message):
+        is_silent = any(self.is_silent(message, way) for way in possible)
+        if not has_answer and not is_silent:
             self.hearing.note(key, ways - heard or heard)
         else:
             self.hearing.note(key, heard if has_answer else ways)
         if has_answer and not heard:
             self.fault("awaited that it isn't heard")
-        self.tally["messages that aren't heard"] += not has_answer and not self.is_silent(message) and ways != heard
+        self.tally["messages that aren't heard"] += not has_answer and not is_silent and ways != heard
         return has_answer or ways == heard
 
-    def is_silent(self, message):
+    def is_silent(self, message, way):
         """Whether a message has no answer though it is heard."""
-        if not message.associations or (self.book.waiting and message.kind != messages.RELEASE):
+        if way.is_early or not message.associations or (self.book.waiting and message.kind != messages.RELEASE):
             return True
+        left = message.kind == messages.REBIND and self.manner.is_silent
         held = self.book.table.held
-        return (message.kind == messages.REBIND and self.manner.is_silent
-                and not any(held.get((message.client, one.identifier)) for one in message.associations))
+        return message.kind in (messages.RENEW, messages.REBIND) and all(
+            way.permit.of(place) == answers.NOTHING or (left and not held.get((message.client, one.identifier)))
+            for place, one in enumerate(message.associations))
 
-    def told_again(self, message, reading, denied):
+    def apart(self, exchange):
+        """Whether the server may take itself for long without its partner, as it does alone, or may not."""
+        if not self.daemon.has_link or self.book.down is not None:
+            return (True,)
+        if self.parted is None:
+            return (False,)
+        least, most = exchange.before - self.parted[1] - SLACK, exchange.after - self.parted[0] + SLACK
+        return tuple(sorted({least > APART, most > APART}))
+
+    def told_again(self, message, reading, permit):
         """The answer that tells again what the client has; None where the message is ordered."""
         at = self.book.reading_after(reading)
-        parts = again.all_told_again(self.book, self.limits.renew_floor, message, at, denied)
+        parts = again.all_told_again(self.book, self.limits.renew_floor, message, at, permit)
         return None if parts is None else answers.octets_of(self.own, message, parts, self.manner)
 
-    def judge(self, exchange, message, denied):
+    def judge(self, exchange, message, ways):
         """Holds what became of a message that was heard against the book."""
-        self.tally["IA_PDs denied"] += len(denied)
-        found = [self.told_again(message, at, denied) for at in self.readings(exchange)]
-        if not exchange.lines and exchange.answer in [self.small(answer) for answer in found if answer is not None]:
+        is_early = exchange.answer is None and not exchange.lines and any(way.is_early for way in ways)
+        if message.kind == messages.RELEASE:
+            self.count_release(message, ways, is_early)
+        if is_early:
+            return
+        ways = [way for way in ways if not way.is_early]
+        if not ways:
+            self.fault("awaited that nothing is done of an early RELEASE")
+        self.count_permit(message, ways[0].permit)
+        if not exchange.lines and exchange.answer in [self.small(way.told) for way in ways if way.told is not None]:
             self.tally["messages told again"] += 1
             self.tally["told again, of grants that share a reading"] += self.shares_reading(message)
             self.tally["told again, of what the partner told"] += any(unit.told for unit in self.asked_units(message))
             return
-        if None not in found:
-            self.fault(f"awaited what remains: {found[-1].hex()}")
-        at = self.readings(exchange)[found.index(None)]
+        ordered = [way for way in ways if way.told is None]
+        if not ordered:
+            self.fault(f"awaited what remains: {ways[-1].told.hex()}")
         self.tally["ordered, the partner's acknowledgement being due"] += message.kind in again.KINDS and any(
             unit.standing and not again.is_settled(unit) for unit in self.asked_units(message))
-        count = len(self.book.lines)
-        answer = answers.serve(self.book, self.own, message, at, self.manner, denied)
+        way, count = self.fitting(exchange, message, ordered), len(self.book.lines)
+        answer = answers.serve(self.book, self.own, message, way.at, self.manner, way.permit)
         self.expect(exchange, self.small(answer), "its orders", self.book.lines[count:])
         self.note_grants(self.book.lines[count:], port_of(message))
+
+    def fitting(self, exchange, message, ways):
+        """Of ways that let differ what may be ordered the first by which answer and lines are as they were."""
+        different, count = [], len(self.book.lines)
+        for way in ways:
+            if all(way.permit != other.permit for other in different):
+                different.append(way)
+        for way in different if len(different) > 1 else ():
+            book = copy.deepcopy(self.book)
+            answer = answers.serve(book, self.own, message, way.at, self.manner, way.permit)
+            if (self.small(answer), book.lines[count:]) == (exchange.answer, exchange.lines):
+                self.tally["messages whose moment said what is ordered"] += 1
+                return way
+        return ways[0]
+
+    def count_permit(self, message, permit):
+        """Counts what isn't ordered, and what is ordered since it is unknown."""
+        self.tally["IA_PDs denied"] += permit.count(answers.NO_PREFIX)
+        self.tally["IA_PDs of RELEASEs from another port"] += permit.count(answers.NO_BINDING)
+        kind = "RELEASEs" if message.kind == messages.RELEASE else "renewals"
+        self.tally[f"IA_PDs of {kind} left to the partner"] += permit.count(answers.NOTHING)
+        self.tally["IA_PDs of renewals of what is unknown, ordered"] += len(permit.anew)
 
     def asked_units(self, message):
         """The units that a message's client has and asks for."""
@@ -387,22 +467,27 @@ class Life:
         before = now()
         self.daemon.told("roll")
         self.closed(before)
-        lines, ends = rolling.split([journal.spelled_line_of(row) for row in self.next_volume()])
+        lines = self.enter_next()
+        self.look_at_records(self.records_of_units())
+        self.take_unasked(lines)
+        self.tally["rolls"] += 1
+
+    def enter_next(self):
+        """Goes over to the next volume, whose head has to say what this one left; the lines behind that."""
+        lines, more = rolling.split([journal.spelled_line_of(row) for row in self.next_volume()])
         following = rolling.follow(self.book, lines)
         if isinstance(following, str):
             self.fault(following)
         if not self.book.lines[-1].reading <= lines[0].reading == lines[-1].reading <= max(now(), lines[0].reading):
             self.fault("the next volume's head isn't of this moment")
         self.draws.book = self.book = following
-        self.look_at_records(self.records_of_units(lines))
-        self.take_unasked(ends)
-        self.tally["rolls"] += 1
+        return more
 
-    def records_of_units(self, lines):
-        """What the records of a next volume begin with: those of units that somebody has and whose port is known."""
-        units = [line for line in lines if line.event[0] == "unit" and line.event[2] == ACTIVE]
-        self.noted = [(line.number, self.policy.ports[line.event[1]]) for line in units
-                      if self.policy.ports.get(line.event[1])]
+    def records_of_units(self):
+        """What the records of a next volume begin with: those of units that somebody has by a grant with a record."""
+        units = [line for line in self.book.lines if line.event[0] == "unit" and line.event[2] == ACTIVE]
+        self.noted = [(line.number, self.policy.records[line.event[1]]) for line in units
+                      if self.policy.is_recorded(self.book.table.get(line.event[1]))]
         return [access.record(number, port, None) for number, port in self.noted]
 
     def next_volume(self):
@@ -412,6 +497,9 @@ class Life:
         if head != f"pd-journal 2 {self.book.role} {self.book.volume + 1}":
             self.fault(f"the next volume is {head}")
         return rows
+
+    def finish(self):
+        """What is done before the last volume is closed."""
 
     def closed(self, before):
         """The volume has a close line and the end behind what was looked at, and behind lines that no client asked
@@ -435,9 +523,10 @@ class Life:
                 self.roll()
             # A volume of which nobody was told is begun anew, and isn't gone on with.
             if place == again_at and rolling.split(self.book.lines)[1]:
-                self.begin_again()
+                self.draws.pick(1, self.begin_again, 1, self.begin_next)()
             self.put(*self.draws.datagram())
             time.sleep(self.draws.random.choice(self.draws.pauses))
+        self.finish()
         before = now()
         self.daemon.journal()
         self.daemon.silent()

@@ -256,7 +256,8 @@ def older_partner(program, role):
             rows = scene.daemon.told("status").splitlines()
             wanted = ["notices: none, its partner is of an older version", "partner_program: unknown",
                       "partner_clock: unknown", "settings: unknown"]
-            if rows[rows.index(next(row for row in rows if row.startswith("heard: "))) + 1:][:4] != wanted:
+            first = next((place for place, row in enumerate(rows) if row.startswith("notices: ")), 0)
+            if rows[first:][:4] != wanted:
                 scene.fault(f"awaited {wanted}: {rows}")
             scene.link.write(octets_of(f"clock 1 {now()}"))
             scene.is_ended()

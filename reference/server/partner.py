@@ -43,6 +43,8 @@ class Partner:
         self.datagrams = 0
         self.joined = False
         self.finished = False
+        self.is_first_told = False
+        self.withheld = None
         self.questions = []
 
     def told(self):
@@ -59,7 +61,24 @@ class Partner:
         else:
             raise Difference("the node closes each connection at its start")
         self.next_resent = self.link.connection.told_by_us + 1
+        self.is_first_told = False
+        self.withheld = self.draws.pick(3, 0, 2, self.random.randrange(60))
         self.tally["connections"] += 1
+
+    def tell_again(self):
+        """Tells what is due once more: a partner without a book has nothing."""
+
+    def say_done(self):
+        """Says that all is told that was due as the two joined: else the node ends no lease."""
+        self.withheld = None
+        self.send(Frame(frames.UPDATE_DONE))
+
+    def say_done_in_time(self):
+        """Says so at once mostly, and at times some steps later."""
+        if self.withheld == 0:
+            self.say_done()
+        elif self.withheld is not None:
+            self.withheld -= 1
 
     def resend(self):
         """Sends again what the node hasn't taken."""
@@ -123,6 +142,11 @@ class Partner:
         """Another frame of the node has come."""
         if frame.kind == frames.DISCONNECT:
             self.finished = True
+        elif frame.kind == frames.UPDATE_DONE:
+            self.is_first_told = True
+        elif frame.kind == frames.UPDATE_REQUEST:
+            self.tell_again()
+            self.say_done()
         elif frame.kind == frames.POOL_REQUEST:
             self.questions.append(frame)
 
@@ -249,6 +273,7 @@ class Partner:
     def run(self):
         self.open()
         while self.datagrams < self.node.count - 1:
+            self.say_done_in_time()
             self.step()
             self.poll()
         return self.finish()

@@ -223,15 +223,15 @@ class Daemon(Program):
             self.link.vouch(self)
         return super().__enter__()
 
-    def begin_again(self):
-        """Stops it with its volume open, and starts it once more."""
-        self.stop()
+    def begin_again(self, *words):
+        """Stops it by these words, and starts it once more: with its volume open it goes on with that."""
+        self.stop(*words)
         self.leave()
         self.errors = tempfile.NamedTemporaryFile()
         self.process = subprocess.Popen(self.words, stdin=subprocess.DEVNULL, stdout=self.output, stderr=self.errors)
         if self.link is not None:
             self.link.vouch(self)
-        self.wait_for(f"goes on with volume {self.number}")
+        self.wait_for(f"begins volume {self.number + 1}" if words else f"goes on with volume {self.number}")
 
     def __exit__(self, kind, fault, trace):
         self.is_given_up = isinstance(fault, Difference) and self.was_late()

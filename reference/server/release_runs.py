@@ -112,7 +112,7 @@ def give_back_several(life):
 
 
 def give_back_beside_limits(life):
-    """An early RELEASE counts for no limit, and isn't even denied; one that isn't early is."""
+    """An early RELEASE counts for the rate, and one that is denied isn't early."""
     unit = life.given(b"elsewhere", port=HOME)
     life.tells(unit)
     for port in (AWAY, None, HOME):

@@ -20,6 +20,9 @@ from .values import NOBODY
 QUIET = 0.3
 # Seconds of a heartbeat, where one is asked for: so many that nothing else takes as long.
 HEARTBEAT = 2
+# A line that a quiet server writes may show so many milliseconds less than its heartbeat.
+SLACK = 100
+STOPPED = ("partner-down", "the partner is stopped")
 A_MOMENT = 0.02
 SAID = "<3>node: serves nobody: its journal lacks messages that its partner took"
 SHORT = "no, journal older than what its partner took"
@@ -98,6 +101,20 @@ class Scene:
         while self.look() and self.waiting_lines[0].event == self.sent(body):
             self.follow(self.sent(body))
 
+    def beat(self):
+        """The reading behind which a heartbeat is counted: a contact that is taken is no sign of life."""
+        return next(line.reading for line in reversed(self.book.lines)
+                    if line.event[0] != "take" or line.event[3][0] != "contact")
+
+    def follow_behind(self, body, event):
+        """The next line is this one, but for what may be said at any time."""
+        until = time.monotonic() + PATIENCE
+        while not self.look() and time.monotonic() < until:
+            time.sleep(A_MOMENT)
+        while self.look() and self.waiting_lines[0].event == self.sent(body) != event:
+            self.follow(self.sent(body))
+        self.follow(event)
+
     def still(self, seconds=QUIET):
         """No line is written meanwhile."""
         time.sleep(seconds)
@@ -113,8 +130,17 @@ class Scene:
         if frame != wanted:
             self.fault(f"awaited {wanted}, our end hears {frame}")
 
+    def hears_none(self, frame, seconds=QUIET):
+        """Our end hears none of these frames, which the journal doesn't know, over this connection or meanwhile."""
+        until = time.monotonic() + seconds
+        while (left := until - time.monotonic()) > 0 and self.link.read(left):
+            pass
+        if frame in [*self.others, *self.link.waiting]:
+            self.fault(f"our end hears {frame}")
+
     def greets(self, told):
         """Our end joins, and says that it took messages up to `told`; the node says what it took."""
+        self.others = []
         for _ in range(PATIENCE * 10):
             if self.link.open(told):
                 break
@@ -147,8 +173,10 @@ class Scene:
         self.link.send(Frame(kind))
 
     def answers(self, *due):
-        """Our end, which has joined, answers a daemon that waits, and tells at once what is due, a body at most."""
+        """Our end, which has joined, answers a daemon that waits, which tells at once what is due, a body at most. Of
+        ours nothing is due."""
         self.hears(Frame(frames.UPDATE_REQUEST_ALL))
+        self.asks(frames.UPDATE_DONE)
         self.expect(*map(self.sent, due))
         self.expect(*self.says(("contact", 0, 0)), ("send", self.book.term, self.book.serial + 1, self.book.contact()))
         self.expect(*self.says(("contact", 0, self.book.restart)))

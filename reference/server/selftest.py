@@ -4,7 +4,8 @@ where FOLDER (optional) holds real clients' datagrams and what each says."""
 import pathlib
 import sys
 
-from . import again_selftest, answers, frames, journal, manner_selftest, messages, notice_selftest
+from . import (again_selftest, answers, ends_selftest, frames, journal, limiting_selftest, manner_selftest, messages,
+               notice_selftest)
 from .book import Book, BookRefusal
 from .values import Line, Settings, prefix_of, prefix_text, units_of
 
@@ -234,7 +235,7 @@ def captures(folder):
 def main():
     for test in (read_messages, read_remote_identifiers, answer_messages, keep_a_book, lead_times, move_a_unit,
                  partner_down, link_frames, *manner_selftest.EXAMPLES, *again_selftest.EXAMPLES,
-                 *notice_selftest.EXAMPLES):
+                 *limiting_selftest.EXAMPLES, *ends_selftest.EXAMPLES, *notice_selftest.EXAMPLES):
         test()
     for folder in sys.argv[1:]:
         captures(pathlib.Path(folder))

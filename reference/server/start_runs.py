@@ -8,18 +8,15 @@ import tempfile
 import time
 from concurrent.futures import ThreadPoolExecutor
 
-from . import answers, copy_runs, frames, journal, matching, stories
+from . import answers, copy_runs, end_runs, frames, journal, matching, rest_runs, stories
 from .beginning import NEVER_ANSWERED, NO_CLOSE, NOT_ANSWERED, lone_refusal, quiet_event
 from .book import Book
 from .linkend import partner_of
 from .program import PATIENCE, Daemon, Difference, address_text, free_port, now, serve_settings_text
-from .scenes import HEARTBEAT, QUIET, Scene, lived, scene_of, settings_of
+from .scenes import HEARTBEAT, QUIET, SLACK, STOPPED, Scene, lived, scene_of, settings_of
 from .values import NOBODY
 
 HOST = "127.0.0.1"
-STOPPED = ("partner-down", "the partner is stopped")
-# A line that a quiet server writes may show so many milliseconds less than its heartbeat.
-SLACK = 100
 
 
 def first_of_both(program, role):
@@ -107,7 +104,7 @@ def first_is_begun_again(program, role):
 
 def quiet(scene, is_joined=False):
     """Nothing happens to a server for `heartbeat` seconds: what it then writes."""
-    before = scene.book.lines[-1].reading
+    before = scene.beat()
     scene.expect(quiet_event(scene.book, is_joined))
     passed = scene.book.lines[-1].reading - before
     if passed < 1000 * HEARTBEAT - SLACK:
@@ -270,11 +267,11 @@ def closes_alone(program, _):
 
 
 # With the roles of each; those that wait longest first.
-SCRIPTS = (*copy_runs.LONG, (heartbeats, "AB"), *copy_runs.SCRIPTS, (first_of_both, "AB"), (first_is_begun_again, "AB"),
+SCRIPTS = (*copy_runs.LONG, *end_runs.SCRIPTS, (heartbeats, "AB"), *copy_runs.SCRIPTS, (first_of_both, "AB"), (first_is_begun_again, "AB"),
            (first_is_begun_anew, "AB"), (begun_alone, "A"), (both_are_new, "B"), (lone_starts, "A"),
-           (closes_with_partner, "AB"), (closes_alone, "A"))
-# Those that wait for half a minute take no other's place.
-SIDE_BY_SIDE = 7 + sum(len(roles) for _, roles in copy_runs.LONG)
+           (closes_with_partner, "AB"), (closes_alone, "A"), *rest_runs.SCRIPTS)
+# Those that wait for long take no other's place.
+SIDE_BY_SIDE = 7 + sum(len(roles) for _, roles in (*copy_runs.LONG, *end_runs.SCRIPTS))
 
 
 def play(script, program, role):

@@ -13,6 +13,8 @@ STEPS = {FREE: ("given", "given", "given", "moved"), BACKUP: ("known", "given_by
          ACTIVE: ("given", "given", "given", "known", "known", "given_back", "given_back", "given_by_partner",
                   "given_back_at_partner", "taken_over"),
          RELEASED: ("known", "known", "expired_at_partner")}
+# And at the secondary, whose units the partner moves.
+STEPS_OF_SECONDARY = {**STEPS, FREE: ("moved", "given", "given_by_partner"), BACKUP: ("given", "given", "known")}
 MOST_STEPS = 8
 # Ways by which a unit that somebody has, or nobody, comes to whoever has it then: each in one reading.
 WAYS = (("given", "known"), ("given", "known", "given"), ("given", "known", "given", "given_back", "known", "given"),
@@ -59,6 +61,8 @@ class Story:
         self.add("take", self.book.term, 1 + last_taken(self.book), body)
 
     def given(self):
+        if self.unit.status == FREE and self.book.role == "B":
+            self.moved()
         valid = rules.allowed_lifetime(self.book, self.unit, self.reading)
         self.add("grant", *self.holder(), self.unit.prefix, valid)
 
@@ -66,7 +70,11 @@ class Story:
         self.add("release", *self.holder(), self.unit.prefix)
 
     def moved(self):
-        self.add("backup", self.unit.prefix)
+        """The unit comes to the secondary, from the primary that moves it."""
+        if self.book.role == "A":
+            self.add("backup", self.unit.prefix)
+        else:
+            self.take(partners_update(self.unit, "backup", 0, (NOBODY, 0)))
 
     def known(self):
         """The partner is told of what is due, if anything, and acknowledges it."""
@@ -96,9 +104,10 @@ class Story:
 
     def run(self):
         """Some steps, and mostly one of the ways; the unit isn't free behind them."""
+        steps = STEPS if self.book.role == "A" else STEPS_OF_SECONDARY
         for _ in range(self.draws.random.randrange(MOST_STEPS)):
             self.asking = self.draws.holder() if self.draws.chance(0.2) else self.asking
-            self.go([self.draws.random.choice(STEPS[self.unit.status])])
+            self.go([self.draws.random.choice(steps[self.unit.status])])
         if self.unit.status in (FREE, ACTIVE) and self.draws.chance(0.7):
             self.go(self.draws.random.choice(WAYS))
         if self.unit.status == FREE:

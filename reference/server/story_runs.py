@@ -4,8 +4,9 @@ reading."""
 import random
 from dataclasses import replace
 
-from . import answers
-from .life_draws import WAITS, bounds_of, drawn_ages, drawn_floor, drawn_life, drawn_times, half_of_units
+from . import access, answers
+from .life_draws import (WAITS, bounds_of, drawn_ages, drawn_floor, drawn_life, drawn_records, drawn_times,
+                         half_of_units)
 from .life_partner import LinkedLife
 from .limits import Limits
 from .linkend import partner_of
@@ -22,7 +23,7 @@ def drawn_settings(source):
     mclt, life = settings.mclt, settings.life
     if source.random() < 0.7:
         mclt, life = min(mclt, life), max(mclt, life)
-    return replace(settings, skew=source.choice((settings.skew, 250, 2000, 5000, 5000)), mclt=mclt, life=life)
+    return replace(settings, role=source.choice("AAB"), skew=source.choice((settings.skew, 250, 2000, 5000, 5000)), mclt=mclt, life=life)
 
 
 def drawn_readings(source, settings, floor, begun):
@@ -36,11 +37,20 @@ def drawn_readings(source, settings, floor, begun):
     return sorted(begun - age for age in ages)
 
 
+def drawn_limits(source, settings):
+    """Limits of a server that tells again; in some lives it believes nobody but who sits where a prefix was given."""
+    told = Limits(renew_floor=drawn_floor(source, settings) or None, client_rate=source.choice((0, 0, 0, 3)))
+    told.bind_to_port = source.random() < 0.4
+    if source.random() < 0.3:
+        told.units_per_client, told.units_per_port = source.choice((0, 1, 2, 4)), source.choice((0, 1, 3, 6))
+    return told
+
+
 def serve_stories_once(program, seed, count, tally):
     """One life whose past, clients and partner are drawn."""
     source = random.Random(seed)
     settings = drawn_settings(source)
-    told = Limits(renew_floor=drawn_floor(source, settings) or None, client_rate=source.choice((0, 0, 0, 3)))
+    told = drawn_limits(source, settings)
     floor = told.in_force(settings.life).renew_floor
     manner = replace(drawn_manner(source), releases_each=True)
     readings = drawn_readings(source, settings, floor, now())
@@ -48,9 +58,14 @@ def serve_stories_once(program, seed, count, tally):
     write_stories(book, draws, readings, half_of_units(settings))
     draws.await_bounds(bounds_of(settings, floor))
     draws.await_releases(floor)
+    draws.claim_of_bound(told)
+    records = drawn_records(source, book, draws)
+    past, text = list(book.lines), access.text(book, records)
     with partner_of(settings) as link, \
-            Daemon(program, settings, manner, host, True, list(book.lines), told, link=link) as daemon:
-        LinkedLife(daemon, draws, book, told, tally, manner).run(count)
+            Daemon(program, settings, manner, host, True, past, told, text, link=link) as daemon:
+        life = LinkedLife(daemon, draws, book, told, tally, manner)
+        life.take_records(records)
+        life.run(count)
     daemon.count(tally, "lives of shared readings")
 
 

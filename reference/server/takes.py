@@ -61,9 +61,20 @@ def take_update(book, reading, term, update):
         return REJECT
     become(book, unit, update)
     unit.seen = mine
-    unit.mine += 1
+    unit.raise_mine(by_take=True)
     unit.pending = ("reply", ACCEPT, prefix, mine, unit.mine, unit.seen)
     return ACCEPT
+
+
+def goes_first(unit, body):
+    """Whether a server that takes this message tells its own change of the unit before it replies: so renewals that
+    crossed come to rest."""
+    return body[:2] == ("update", ACTIVE) and unit.due == ACTIVE and unit.by_take and body[4] == unit.mine
+
+
+def is_held_back(role, unit):
+    """Whether a server of the role doesn't tell what is due of a unit before its next connection."""
+    return role == "B" and unit.due == ACTIVE and unit.by_take and not unit.mark
 
 
 def acknowledged(book, unit):
@@ -71,7 +82,7 @@ def acknowledged(book, unit):
     if unit.mark:
         unit.mark = False
         if unit.due is not None:
-            unit.mine += 1
+            unit.raise_mine(by_take=True)
         return
     change, unit.due = unit.due, None
     if change == ACTIVE:

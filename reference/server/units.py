@@ -10,11 +10,12 @@ FREE, BACKUP, ACTIVE, EXPIRED, RELEASED = "free", "backup", "active", "expired",
 class Unit:
     """One prefix that is delegated as a whole, with what its server and the partner know of it.
 
-    `standing` is its last grant line of the volume, as long as no later line has ended the lease.
+    `standing` is its last grant line of the volume, as long as no later line has ended the lease; `by_take` says
+    whether `mine` was last raised by a take.
     """
 
     __slots__ = ("prefix", "place", "status", "client", "identifier", "mine", "seen", "own_end", "out_end",
-                 "acked", "told", "due", "pending", "mark", "standing")
+                 "acked", "told", "due", "pending", "mark", "standing", "by_take")
 
     def __init__(self, prefix, place):
         self.prefix = prefix
@@ -27,6 +28,7 @@ class Unit:
         self.pending = None
         self.mark = False
         self.standing = None
+        self.by_take = False
         self.forget()
 
     def forget(self):
@@ -39,6 +41,11 @@ class Unit:
 
     def holds(self, client, identifier):
         return self.status == ACTIVE and self.client == client and self.identifier == identifier
+
+    def raise_mine(self, by_take=False):
+        """Counts one more change."""
+        self.mine += 1
+        self.by_take = by_take
 
     def update(self):
         """The body of the update that is due for this unit, None where none is."""

@@ -1,13 +1,11 @@
 -- What is decided of IA_PDs, one after the other.
 use Rattle.std.proofs.Common.{ℕ, List}
-use Rattle.std.specs.Prelude.{option_map}
-use Rattle.order_book.specs.Replayed.{state_of}
 use Rattle.dhcp6_pd.specs.declared.message.IaPd.{IaPd}
 use Rattle.client_service.specs.declared.permit.Permit.{Permit}
 use Rattle.client_limits.specs.declared.quotas.LimitContext.{LimitContext}
 use Rattle.client_limits.specs.declared.quotas.Requester.{Requester}
+use Rattle.client_limits.specs.Contexts.{known_of, asking_of}
 use Rattle.client_limits.specs.Quotas.{permits_from}
 
 abbrev pub all_permits : LimitContext → Requester → ℕ → ℕ → List IaPd → List Permit
-all_permits k a place more ias = permits_from k.limits.now (state_of k.book.now) k.clients.now k.ports.now a.client.now
-    (option_map (λ o. o.now) a.port) a.kind place more ias
+all_permits k a place more ias = permits_from (known_of k) (asking_of a) place more ias

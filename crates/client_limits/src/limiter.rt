@@ -2,12 +2,14 @@
 
 ghost use Rattle.std.specs.Prelude.{◌≡◌, IfOk};
 ghost use Rattle.client_limits.specs.Origins.{port_of, name_by, named};
-ghost use Rattle.client_limits.specs.Limiting.{MayAdmit};
+ghost use Rattle.client_limits.specs.Limiting.{MayAdmit, MayDrop};
 
+use crate::grant_records::GrantRecords;
 use crate::holders::Holders;
 use crate::limits::Limits;
-use crate::origin::{name_by, port_named, port_of};
-use crate::quotas::{LimitContext, moved_clients_in, permits_by};
+use crate::origin::{name_by, port_named, port_of, port_words};
+use crate::partner_reach::PartnerReach;
+use crate::quotas::{LimitContext, is_left_to_partner, moved_clients_in, permits_by, refused_in};
 use crate::rates::Rates;
 use access_records::{AccessRecord, Address, RelayPort};
 use binding_rules::{Body, Status, UnitStatus};
@@ -15,11 +17,11 @@ use client_id::Duid;
 use client_service::{Admission, DropReason, Permit};
 use dhcp6_pd::ClientMessage;
 use journal_lines::{Event, Line};
-use lead_time::Reading;
+use lead_time::{End, Reading};
 use order_book::Book;
 use prefix_range::Prefix;
 use std::alloc::{AllocError, Global};
-use std::mem;
+use std::{mem, str};
 
 /// The relay port of the message that was asked about last, and the octets that name it.
 #[derive(Drop)]
@@ -44,16 +46,21 @@ struct ScanPosition {
 pub struct Limiter {
     alloc: Global,
     limits: Limits,
+    /// How far the partner is.
+    reach: PartnerReach,
     rates: Rates,
     /// Whom units were given to.
     clients: Holders,
     /// By which relay ports units were given.
     ports: Holders,
+    /// Of which of its last grants there are access records.
+    recorded: GrantRecords,
     seen: ScanPosition,
     origin: Option<RelayOrigin>,
     source: Option<Address>,
     records: Vec<AccessRecord>,
     moved_clients: u64,
+    refused: u64,
 }
 
 /// The client and the unit that an event gives it, if it does.
@@ -74,6 +81,24 @@ fn given_by(event: &Event) -> Option<(Duid, Prefix)> {
     }
 }
 
+/// Returns whether a line that a volume began with stands for a grant of this server by which somebody may have the unit
+/// still.
+fn stands_for_grant(event: &Event) -> bool {
+    match event {
+        Event::Unit(kept) => kept.out_end > End::ZERO,
+        _ => false,
+    }
+}
+
+/// Returns whether the line at an index of a book, which gives a unit, is of this server's last grant of it. Where its
+/// volume has none, a unit line stands for one of an earlier volume.
+fn is_last_grant(book: &Book, index: usize, event: &Event, unit: &Prefix) -> bool {
+    match book.last_grant(unit) {
+        Some(place) => place == index,
+        None => stands_for_grant(event),
+    }
+}
+
 /// Notes that a unit was given by a port, unless that is known.
 fn give_to(ports: &mut Holders, unit: Prefix, name: &[u8]) -> Result<(), AllocError> {
     if ports.holder(unit.first()) == Some(name) {
@@ -90,9 +115,11 @@ impl Limiter {
         Limiter {
             alloc,
             limits,
+            reach: PartnerReach::Near,
             rates: Rates::new(alloc),
             clients: Holders::new(alloc),
             ports: Holders::new(alloc),
+            recorded: GrantRecords::new(alloc),
             seen: ScanPosition {
                 volume: 0,
                 lines: 0,
@@ -101,7 +128,15 @@ impl Limiter {
             source: None,
             records: Vec::new(alloc),
             moved_clients: 0,
+            refused: 0,
         }
+    }
+
+    /// Says how far the partner is from now on.
+    pub fn set_partner_reach(&mut self, reach: PartnerReach)
+        ensures { self.new ≡ record self.old { reach = reach } }
+    {
+        self.reach = reach;
     }
 
     /// Says which address the next message comes from, if that is known.
@@ -120,9 +155,22 @@ impl Limiter {
         self.moved_clients
     }
 
+    /// Returns how many IA_PDs quotas refused.
+    pub fn refused(&self) -> u64 {
+        self.refused
+    }
+
+    /// The words that name the relay port of the message that was asked about last, as an access record has them; none
+    /// where nothing names it.
+    pub fn port_words(&self) -> Option<&str> {
+        let name = self.origin.as_ref()?.name.as_ref()?;
+        str::from_utf8(port_words(name)).ok()
+    }
+
     /// Notes that a unit was given to a client.
     fn give(&mut self, client: &Duid, unit: Prefix) -> Result<(), AllocError>
         ensures limits { self.new.limits ≡ self.old.limits }
+        ensures reach { self.new.reach ≡ self.old.reach }
     {
         if self.clients.holder(unit.first()) == Some(client.as_bytes()) {
             return Ok(());
@@ -152,6 +200,7 @@ impl Limiter {
         source: Option<Address>,
     ) -> Result<(), AllocError>
         ensures limits { self.new.limits ≡ self.old.limits }
+        ensures reach { self.new.reach ≡ self.old.reach }
     {
         self.records.push(AccessRecord {
             number,
@@ -161,31 +210,50 @@ impl Limiter {
         Ok(())
     }
 
-    /// Notes a line that no message's orders added. Of a unit that a volume began with, and whose port is known, a
-    /// record is kept.
+    /// Keeps a record of a unit that a volume began with by the line of this number, where there was one of its last
+    /// grant.
+    fn carry_record(&mut self, number: u32, unit: &Prefix) -> Result<(), AllocError>
+        ensures limits { self.new.limits ≡ self.old.limits }
+        ensures reach { self.new.reach ≡ self.old.reach }
+    {
+        let named = match self.ports.holder(unit.first()) {
+            Some(name) => port_named(self.alloc, name),
+            None => None,
+        };
+        let port = match named {
+            Some(port) => Some(Some(port)),
+            None => self.recorded.unnamed_port(unit.first()),
+        };
+        match port {
+            Some(port) => self.keep(number, port, None),
+            None => Ok(()),
+        }
+    }
+
+    /// Notes a line that no message's orders added. Of a grant there is no record, and of a unit that a volume began
+    /// with one is kept.
     fn enter(&mut self, line: &Line) -> Result<(), AllocError>
         ensures limits { self.new.limits ≡ self.old.limits }
+        ensures reach { self.new.reach ≡ self.old.reach }
     {
         let Some((client, unit)) = given_by(&line.event) else {
             return Ok(());
         };
         self.give(&client, unit)?;
-        if !matches!(line.event, Event::Unit(_)) {
-            return Ok(());
-        }
-        let port = match self.ports.holder(unit.first()) {
-            Some(name) => port_named(self.alloc, name),
-            None => None,
-        };
-        match port {
-            Some(port) => self.keep(line.number, Some(port), None),
-            None => Ok(()),
+        match &line.event {
+            Event::Grant(_) => {
+                self.recorded.forget(unit.first());
+                Ok(())
+            }
+            event if stands_for_grant(event) => self.carry_record(line.number, &unit),
+            _ => Ok(()),
         }
     }
 
     /// Looks through the lines of a book that it hasn't seen yet, which no message's orders added.
     pub fn scan_book(&mut self, book: &Book) -> Result<(), AllocError>
         ensures limits { self.new.limits ≡ self.old.limits }
+        ensures reach { self.new.reach ≡ self.old.reach }
     {
         let volume = book.head().volume();
         if self.seen.volume != volume {
@@ -204,12 +272,14 @@ impl Limiter {
         let Event::Grant(lease) = &line.event else {
             return Ok(());
         };
+        self.recorded.forget(lease.prefix.first());
         self.give(&lease.client, lease.prefix)?;
         self.give_by_port(lease.prefix)?;
         let port = match &self.origin {
             Some(origin) => Some(origin.port.clone()?),
             None => None,
         };
+        self.recorded.note(lease.prefix.first(), port.as_ref())?;
         self.keep(line.number, port, self.source)
     }
 
@@ -223,7 +293,8 @@ impl Limiter {
         Ok(())
     }
 
-    /// Notes by which port the unit of a record's line was given: by none where the record names none.
+    /// Notes by which port the unit of a record's line was given, where that is the unit's last grant: by none where the
+    /// record names none.
     fn enter_record(&mut self, book: &Book, record: &AccessRecord) -> Result<(), AllocError> {
         let Some(index) = record.number.checked_sub(1) else {
             return Ok(());
@@ -234,14 +305,18 @@ impl Limiter {
         let Some((_, unit)) = given_by(&line.event) else {
             return Ok(());
         };
+        if !is_last_grant(book, index as usize, &line.event, &unit) {
+            return Ok(());
+        }
         let name = match &record.port {
             Some(port) => name_by(self.alloc, port)?,
             None => None,
         };
         match name {
-            Some(name) => give_to(&mut self.ports, unit, &name),
-            None => self.ports.forget(&unit),
+            Some(name) => give_to(&mut self.ports, unit, &name)?,
+            None => self.ports.forget(&unit)?,
         }
+        self.recorded.note(unit.first(), record.port.as_ref())
     }
 
     /// Looks through the book of a start, and notes what the access records of its volume say.
@@ -256,6 +331,7 @@ impl Limiter {
     /// Returns whether a message of a client, behind the port of its origin, is heard now.
     fn is_within_rate(&mut self, now: Reading, client: &Duid) -> Result<bool, AllocError>
         ensures limits { self.new.limits ≡ self.old.limits }
+        ensures reach { self.new.reach ≡ self.old.reach }
         ensures origin { self.new.origin ≡ self.old.origin }
     {
         if self.limits.client_rate == 0 {
@@ -291,6 +367,8 @@ impl Limiter {
 impl Admission for Limiter {
     ghost lets = { MayAdmit };
 
+    ghost drops = { MayDrop };
+
     fn permits(
         &mut self,
         book: &Book,
@@ -311,13 +389,21 @@ impl Admission for Limiter {
         };
         let known = LimitContext {
             limits: &self.limits,
+            reach: self.reach,
             book,
             clients: &self.clients,
             ports: &self.ports,
+            records: &self.recorded,
+            reading: now,
         };
         let strays = moved_clients_in(&known, port, message);
         let permits = permits_by(self.alloc, &known, port, message)?;
+        let refused = refused_in(&known, port, message, &permits);
         self.moved_clients = self.moved_clients.saturating_add(strays);
+        self.refused = self.refused.saturating_add(refused);
+        if is_left_to_partner(message.kind, &permits) {
+            return Err(DropReason::LeftToPartner);
+        }
         Ok(permits)
     }
 

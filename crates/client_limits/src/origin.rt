@@ -67,6 +67,17 @@ pub(crate) fn name_by(alloc: Global, port: &RelayPort) -> Result<Option<Vec<u8>>
     Ok(Some(name_of(alloc, port.clone()?)?))
 }
 
+/// The words of a port in the octets that name it: without the number in front, and without the source behind.
+pub(crate) fn port_words(name: &[u8]) -> &[u8] {
+    let Some(behind) = name.strip_prefix(b"1 ") else {
+        return name;
+    };
+    match behind.strip_suffix(b" -\n") {
+        Some(words) => words,
+        None => behind,
+    }
+}
+
 /// The port that these octets name.
 pub(crate) fn port_named(alloc: Global, name: &[u8]) -> Option<RelayPort> {
     let line = name.strip_suffix(b"\n")?;

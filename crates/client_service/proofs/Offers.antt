@@ -3,7 +3,7 @@ use Rattle.std.specs.Prelude.{◌≡◌, ℕ, List, [], ◌∷◌, ◌++◌, tak
 use Rattle.std.specs.Prelude.{if◌then◌else◌}
 use Rattle.std.proofs.Common.{ap, subst, ◌∙◌, append-nil, inl, inr}
 use Rattle.client_service.specs.declared.permit.Permit.{Permit}
-use Rattle.client_service.specs.declared.permit.Permit.TheVariants.{Allowed, Denied}
+use Rattle.client_service.specs.declared.permit.Permit.TheVariants.{Allowed, Anew, Denied, Unbound, Omitted}
 use Rattle.dhcp6_pd.specs.declared.message.ClientKind.TheVariants.{Solicit}
 use Rattle.dhcp6_pd.specs.declared.message.ClientMessage.{ClientMessage}
 use Rattle.dhcp6_pd.specs.declared.message.IaPd.{IaPd}
@@ -68,7 +68,11 @@ module _ (MayHave : List Receipt → Journal → Type 0) (now : ℕ) where
         → EndsBy MayHave permit partner m.kind now had (order_for m ia) added result → last_number added ≡ None
     advertises_by Allowed partner had ia added result h =
         numbers_nothing partner had (order_for m ia) added result (of_solicit partner had ia added result h)
+    advertises_by Anew partner had ia added result h =
+        numbers_nothing partner had (order_for m ia) added result (of_solicit partner had ia added result h)
     advertises_by Denied partner had ia added result h = ap (λ rs. last_number rs) h.0
+    advertises_by Unbound partner had ia added result h = ap (λ rs. last_number rs) h.0
+    advertises_by Omitted partner had ia added result h = ap (λ rs. last_number rs) h.0
 
     advertises : (permits : List Permit) (partner : PartnerAvailability) (had : List Receipt) (ias : List IaPd)
         (answers : List IaAnswer) (added : List Receipt)
@@ -88,7 +92,11 @@ module _ (MayHave : List Receipt → Journal → Type 0) (now : ℕ) where
         → EndsBy MayHave permit Up m.kind now had (order_for m ia) added result → added ≡ []
     adds_none_by Allowed had ia added result h =
         at_once_nothing had (order_for m ia) added result (of_solicit Up had ia added result h)
+    adds_none_by Anew had ia added result h =
+        at_once_nothing had (order_for m ia) added result (of_solicit Up had ia added result h)
     adds_none_by Denied had ia added result h = h.0
+    adds_none_by Unbound had ia added result h = h.0
+    adds_none_by Omitted had ia added result h = h.0
 
     adds_nothing : (permits : List Permit) (had : List Receipt) (ias : List IaPd) (answers : List IaAnswer)
         (added : List Receipt) → AreTold MayHave Up m permits now had ias answers added → added ≡ []

@@ -1,9 +1,9 @@
 -- What a client is told of its whole message, or why it is told nothing.
-use Rattle.std.specs.Prelude.{◌≡◌, ⊤, true, false, ℕ, ◌<◌, List, [], ◌∷◌, ◌++◌, length, take, drop, slice_get, Option}
+use Rattle.std.specs.Prelude.{◌≡◌, ⊤, Bool, true, false, ℕ, ◌<◌, List, [], ◌∷◌, ◌++◌, length, take, drop, slice_get, Option}
 use Rattle.std.specs.Prelude.{Some, None}
 use Rattle.std.specs.Prelude.{Ok, Err}
 use Rattle.client_service.specs.declared.permit.Permit.{Permit}
-use Rattle.client_service.specs.declared.permit.Permit.TheVariants.{Allowed}
+use Rattle.client_service.specs.declared.permit.Permit.TheVariants.{Allowed, Anew, Denied, Unbound, Omitted}
 use Rattle.dhcp6_pd.specs.declared.message.ClientMessage.{ClientMessage}
 use Rattle.dhcp6_pd.specs.declared.message.IaPd.{IaPd}
 use Rattle.dhcp6_pd.specs.declared.numbers.TheConstants.{MAX_OCTETS}
@@ -32,6 +32,14 @@ permit_of (Some permit) = permit
 
 abbrev pub permit_at : List Permit → ℕ → Permit
 permit_at permits place = permit_of (slice_get permits place)
+
+-- whether an IA_PD of this permit is ordered
+abbrev pub is_ordered : Permit → Bool
+is_ordered Allowed = true
+is_ordered Anew = true
+is_ordered Denied = false
+is_ordered Unbound = false
+is_ordered Omitted = false
 
 -- each IA_PD in its order is told this, by its permit and the receipts that its own order added
 abbrev pub AreTold : (List Receipt → Journal → Type 0) → PartnerAvailability → ClientMessage → List Permit → ℕ → List Receipt

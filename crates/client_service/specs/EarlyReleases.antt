@@ -1,6 +1,6 @@
 -- Which releases come too early: the partner may still tell the client again what it gives back, and hears of the release
 -- only later.
-use Rattle.std.specs.Prelude.{◌≡◌, ℕ, ◌+◌, ◌*◌, ◌<◌, ◌≤◌, true, slice_get, Option, Some, None}
+use Rattle.std.specs.Prelude.{◌≡◌, ℕ, ◌+◌, ◌*◌, ◌<◌, ◌≤◌, true, List, slice_get, Option, Some, None}
 use Rattle.prefix_range.specs.Prefix.{Prefix}
 use Rattle.binding_rules.specs.declared.unit.UnitStatus.TheVariants.{Active}
 use Rattle.dhcp6_pd.specs.declared.message.ClientMessage.{ClientMessage}
@@ -15,7 +15,8 @@ use Rattle.order_book.specs.declared.order.Order.{Order}
 use Rattle.order_book.specs.declared.order.Order.TheVariants.{Release}
 use Rattle.order_book.specs.Replayed.{state_of}
 use Rattle.client_service.specs.declared.terms.ReuseTerms.{ReuseTerms}
-use Rattle.client_service.specs.Answering.{order_for}
+use Rattle.client_service.specs.declared.permit.Permit.{Permit}
+use Rattle.client_service.specs.Answering.{order_for, permit_at, is_ordered}
 
 -- the desired lifetime that an open line states, in seconds
 abbrev pub lifetime_in : Event → ℕ
@@ -52,6 +53,11 @@ abbrev pub IsEarlyAt : Journal → ReuseTerms → ℕ → ClientMessage → ℕ 
 IsEarlyAt j t now m place =
     (ia : IaPd) × (slice_get m.ias place ≡ Some ia) × IsEarlyOrder j t now (order_for m ia)
 
--- one of its IA_PDs
-abbrev pub HasEarlyRelease : Journal → ReuseTerms → ℕ → ClientMessage → Type 0
-HasEarlyRelease j t now m = (place : ℕ) × IsEarlyAt j t now m place
+-- and it may be ordered
+abbrev pub IsOrderedEarly : Journal → ReuseTerms → ℕ → ClientMessage → List Permit → ℕ → Type 0
+IsOrderedEarly j t now m permits place =
+    (is_ordered (permit_at permits place) ≡ true) × IsEarlyAt j t now m place
+
+-- one of its IA_PDs that may be ordered
+abbrev pub HasEarlyRelease : Journal → ReuseTerms → ℕ → ClientMessage → List Permit → Type 0
+HasEarlyRelease j t now m permits = (place : ℕ) × IsOrderedEarly j t now m permits place

@@ -1,7 +1,7 @@
 -- What a client is told of its whole message without a line: what it has already, for the seconds that remain of it.
 use Rattle.std.specs.Prelude.{◌≡◌, ◌≢◌, false, ℕ, ⊤, max, List, [], ◌∷◌, drop, Option, Some, None}
 use Rattle.client_service.specs.declared.permit.Permit.{Permit}
-use Rattle.client_service.specs.declared.permit.Permit.TheVariants.{Allowed, Denied}
+use Rattle.client_service.specs.declared.permit.Permit.TheVariants.{Allowed, Anew, Denied, Unbound, Omitted}
 use Rattle.dhcp6_pd.specs.declared.message.ClientKind.TheVariants.{Solicit}
 use Rattle.dhcp6_pd.specs.declared.message.ClientMessage.{ClientMessage}
 use Rattle.dhcp6_pd.specs.declared.message.IaPd.{IaPd}
@@ -10,7 +10,7 @@ use Rattle.journal_lines.specs.declared.line.Journal.{Journal}
 use Rattle.order_book.specs.declared.order.Order.{Order}
 use Rattle.order_book.specs.declared.error.BookError.TheVariants.{NoPrefix as NoPrefixLeft, NoBinding as NoSuchBinding}
 use Rattle.server_book.specs.declared.messages.IaAnswer.{IaAnswer}
-use Rattle.server_book.specs.declared.messages.IaAnswer.TheVariants.{Given, NoPrefix, NoBinding}
+use Rattle.server_book.specs.declared.messages.IaAnswer.TheVariants.{Given, NoPrefix, NoBinding, Released}
 use Rattle.server_book.specs.declared.reply_policy.ReplyPolicy.{ReplyPolicy}
 use Rattle.server_book.specs.Messages.{answer_of, is_elsewhere}
 use Rattle.locked_book.specs.declared.receipt.Receipt.{Receipt}
@@ -47,11 +47,15 @@ IsReused MayHave t now had order NoPrefix None = ByRefusal MayHave now had order
 IsReused MayHave t now had order NoBinding None = ByRefusal MayHave now had order [] NoSuchBinding
 IsReused MayHave t now had order _ _ = ⊥
 
--- and of one that may not be ordered: NoPrefix, whatever its client has
+-- and of one by its permit: nothing is told again of one that is to be ordered anew; one that may not be ordered is
+-- told NoPrefix, or NoBinding, or nothing, whatever its client has
 abbrev pub IsReusedBy : (List Receipt → Journal → Type 0) → Permit → ReuseTerms → ℕ → List Receipt → Order → IaAnswer
     → Option ℕ → Type 0
 IsReusedBy MayHave Allowed t now had order answer number = IsReused MayHave t now had order answer number
+IsReusedBy MayHave Anew t now had order answer number = ⊥
 IsReusedBy MayHave Denied t now had order answer number = (answer ≡ NoPrefix) × (number ≡ None)
+IsReusedBy MayHave Unbound t now had order answer number = (answer ≡ NoBinding) × (number ≡ None)
+IsReusedBy MayHave Omitted t now had order answer number = (answer ≡ Released) × (number ≡ None)
 
 -- each IA_PD in its order, by its permit
 abbrev pub AreReused : (List Receipt → Journal → Type 0) → ReuseTerms → ClientMessage → List Permit → ℕ → List Receipt

@@ -3,7 +3,7 @@
 use Rattle.std.specs.Prelude.{◌≡◌, ◌≢◌, ◌⊎◌, ℕ, ⊤, List, [], ◌∷◌, ◌++◌, Some, None, Result, Ok, Err}
 use Rattle.prefix_range.specs.Prefix.{Prefix}
 use Rattle.client_service.specs.declared.permit.Permit.{Permit}
-use Rattle.client_service.specs.declared.permit.Permit.TheVariants.{Allowed, Denied}
+use Rattle.client_service.specs.declared.permit.Permit.TheVariants.{Allowed, Anew, Denied, Unbound, Omitted}
 use Rattle.dhcp6_pd.specs.declared.message.ClientKind.{ClientKind}
 use Rattle.dhcp6_pd.specs.declared.message.ClientKind.TheVariants.{Solicit}
 use Rattle.journal_lines.specs.declared.line.Journal.{Journal}
@@ -132,8 +132,12 @@ EndsWithSeize MayHave Down kind now had order added result =
 
 -- ---- by its permit
 
--- An IA_PD that may be ordered ends as its order does. One that may not is told NoPrefix, and nothing is ordered.
+-- An IA_PD that may be ordered ends as its order does. Of one that may not nothing is ordered: it is told NoPrefix, or
+-- NoBinding, or, as of a prefix that was taken back, the answer says nothing of it.
 abbrev pub EndsBy : (List Receipt → Journal → Type 0) → Permit → PartnerAvailability → ClientKind → ℕ → List Receipt → Order
     → List Receipt → Result IaAnswer ServeError → Type 0
 EndsBy MayHave Allowed partner kind now had order added result = EndsWithSeize MayHave partner kind now had order added result
+EndsBy MayHave Anew partner kind now had order added result = EndsWithSeize MayHave partner kind now had order added result
 EndsBy MayHave Denied partner kind now had order added result = (added ≡ []) × (result ≡ Ok NoPrefix)
+EndsBy MayHave Unbound partner kind now had order added result = (added ≡ []) × (result ≡ Ok NoBinding)
+EndsBy MayHave Omitted partner kind now had order added result = (added ≡ []) × (result ≡ Ok Released)

@@ -17,6 +17,8 @@ pub struct AllowAll {
 impl Admission for AllowAll {
     ghost lets = { λ _ book now message permits. permits ≡ [] };
 
+    ghost drops = { λ _ book now message why. ⊥ };
+
     fn permits(
         &mut self,
         _book: &Book,

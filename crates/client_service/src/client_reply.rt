@@ -112,8 +112,8 @@ fn written(
 /// gives the answer, to the peer that the message came from. The octets are the message that tells each IA_PD what its
 /// receipt says, or of a SOLICIT what would be granted, in the server's manner.
 ///
-/// By `permits` an IA_PD may be denied, each by its place: it is told NoPrefixAvail, and nothing is ordered for it.
-/// Those behind the end of the list may be ordered.
+/// By `permits` an IA_PD may be denied, each by its place: it is told NoPrefixAvail, NoBinding or nothing, and nothing
+/// is ordered for it. Those behind the end of the list may be ordered.
 ///
 /// There is no answer (`NoReplyReason`) where the message has no IA_PD, an order ends in what no client is told,
 /// nothing is known of a REBIND and the server's manner hides that, the answer is too long, or a growth is refused. The
@@ -154,7 +154,7 @@ pub fn answer_to<S: BookService, P: Drop>(
 /// Answers a client's message without a line, where each of its IA_PDs asks for what its client has by a line that may
 /// be told again by the terms, or is refused, or denied by `permits`: the octets tell the first for the seconds that
 /// remain. Otherwise it gives the peer back, and the message is one for [`answer_to`]: a SOLICIT, a message of which an
-/// IA_PD needs a line, and any where a growth is refused.
+/// IA_PD needs a line, or is to have one by `permits`, and any where a growth is refused.
 pub fn resend_lease<S: BookService, P: Drop>(
     alloc: Global,
     service: &S,

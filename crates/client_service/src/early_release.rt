@@ -2,8 +2,10 @@
 
 ghost use Rattle.std.specs.Prelude.{◌≡◌, ◌↔◌, IsTrue};
 ghost use Rattle.client_service.specs.EarlyReleases.{desired_lifetime, MayBeToldAgain, IsEarlyRelease, IsEarlyAt};
-ghost use Rattle.client_service.specs.EarlyReleases.{HasEarlyRelease};
+ghost use Rattle.client_service.specs.EarlyReleases.{IsOrderedEarly, HasEarlyRelease};
 
+use crate::permit::Permit;
+use crate::permits::permit_at;
 use crate::terms::ReuseTerms;
 use binding_rules::{Binding, Unit, UnitStatus};
 use dhcp6_pd::ClientMessage;
@@ -69,19 +71,34 @@ fn is_early_at(
     }
 }
 
-/// Returns whether a message is a RELEASE that comes too early: the client has the prefix of one of its IA_PDs, and the
-/// partner may tell that again. After that the partner tells nothing again that it granted before
-/// (`nothing_is_told_again`).
+/// The same of an IA_PD that may be ordered by `permits`.
+fn is_ordered_early(
+    book: &Book,
+    terms: &ReuseTerms,
+    now: Reading,
+    message: &ClientMessage,
+    permits: &[Permit],
+    place: usize,
+) -> bool
+    ensures { IsTrue result ↔ IsOrderedEarly book.now terms.now now message.now permits.now place }
+{
+    permit_at(permits, place).is_ordered() && is_early_at(book, terms, now, message, place)
+}
+
+/// Returns whether a message is a RELEASE that comes too early: the client has the prefix of one of its IA_PDs that may
+/// be ordered by `permits`, and the partner may tell that again. After that the partner tells nothing again that it
+/// granted before (`nothing_is_told_again`).
 pub fn has_early_release(
     book: &Book,
     terms: &ReuseTerms,
     now: Reading,
     message: &ClientMessage,
+    permits: &[Permit],
 ) -> bool
-    ensures { IsTrue result ↔ HasEarlyRelease book.now terms.now now message.now }
+    ensures { IsTrue result ↔ HasEarlyRelease book.now terms.now now message.now permits.now }
 {
     for place in 0..message.ias.as_slice().len() {
-        if is_early_at(book, terms, now, message, place) {
+        if is_ordered_early(book, terms, now, message, permits, place) {
             return true;
         }
     }

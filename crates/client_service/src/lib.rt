@@ -10,8 +10,9 @@
 //! What is told stands in the journal. By the clause `told` of that call a [`ClientReply`]'s octets are the message
 //! which tells each IA_PD, in its order, what the receipt of its own line says: the prefix and the lifetime that it
 //! granted, or that it was released; or its first refusal; or of a SOLICIT what would be granted (specs/Telling for one
-//! IA_PD, specs/Answering for the message). An IA_PD that may not be ordered (`crate::permit::Permit`) is told that
-//! there is no prefix. By `silent` there is no answer but for a reason ([`NoReplyReason`]) that is so.
+//! IA_PD, specs/Answering for the message). An IA_PD that may not be ordered is told what its `crate::permit::Permit`
+//! says: that there is no prefix, or no binding, or nothing. By `silent` there is no answer but for a reason
+//! ([`NoReplyReason`]) that is so.
 //!
 //! ```text
 //! let message = decode(alloc, datagram, &own)?;
@@ -24,8 +25,9 @@
 //! What a client's message may order of a server's book, as those decide who keep clients from taking too much.
 //!
 //! A server asks its [`Admission`] before it orders anything: of each IA_PD whether it may be ordered ([`Permit`]), or
-//! that the message isn't heard at all ([`DropReason`]). An IA_PD that is denied is told NoPrefixAvail, and no line is
-//! written for it. [`AllowAll`] lets all be ordered.
+//! that the message isn't heard at all ([`DropReason`]). An IA_PD that is denied is told NoPrefixAvail, one that is
+//! unbound NoBinding, and of one that is omitted the answer says nothing; no line is written for any of them.
+//! [`AllowAll`] lets all be ordered.
 //!
 //! ```text
 //! let permits = admission.permits(&book, now, &message)?;  // by place; behind the end all may be ordered
@@ -44,7 +46,8 @@
 //! line gives it, and none past the end that the book has for it, is a law (`reuse_is_within_its_line`).
 //!
 //! What one server tells again its partner doesn't hear of. So a RELEASE that comes while the partner may tell the lease
-//! again is early ([`has_early_release`]): a server orders nothing for it, and it has no answer. After that the partner
+//! again is early ([`has_early_release`]), where it may be ordered at all: a server orders nothing for it, and it has no
+//! answer. After that the partner
 //! tells nothing again that it granted before (`nothing_is_told_again`).
 //!
 //! ```text

@@ -60,7 +60,7 @@ fn reuse_lease<S: BookService>(
     }
 }
 
-/// Returns what an order's client is told without a line, where it may be given; else that there is no prefix.
+/// Returns what an order's client is told without a line, by its permit.
 fn reuse_permitted<S: BookService>(
     service: &S,
     pass: &S::Pass,
@@ -75,7 +75,10 @@ fn reuse_permitted<S: BookService>(
 {
     match permit {
         Permit::Allowed => reuse_lease(service, pass, partner, terms, now, order),
+        Permit::Anew => None,
         Permit::Denied => Some(IaOutcome::without_line(IaAnswer::NoPrefix)),
+        Permit::Unbound => Some(IaOutcome::without_line(IaAnswer::NoBinding)),
+        Permit::Omitted => Some(IaOutcome::without_line(IaAnswer::Released)),
     }
 }
 

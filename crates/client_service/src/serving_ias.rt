@@ -35,7 +35,7 @@ fn or_earlier(line: Option<u32>, earlier: Option<u32>) -> Option<u32>
     }
 }
 
-/// Returns what an order ends in, where it may be given; else that there is no prefix.
+/// Returns what an order ends in, where it may be given; else what its permit says.
 fn serve_permitted<S: BookService>(
     service: &S,
     pass: &mut S::Pass,
@@ -50,7 +50,10 @@ fn serve_permitted<S: BookService>(
 {
     match permit {
         Permit::Allowed => serve_or_seize(service, pass, partner, kind, now, order),
+        Permit::Anew => serve_or_seize(service, pass, partner, kind, now, order),
         Permit::Denied => Ok(IaOutcome::without_line(IaAnswer::NoPrefix)),
+        Permit::Unbound => Ok(IaOutcome::without_line(IaAnswer::NoBinding)),
+        Permit::Omitted => Ok(IaOutcome::without_line(IaAnswer::Released)),
     }
 }
 

@@ -1,3 +1,5 @@
+pub mod Contact
+pub mod Hearing
 pub mod Joining
 pub mod Receiving
 pub mod Saying

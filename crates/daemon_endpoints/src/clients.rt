@@ -7,7 +7,7 @@ ghost use Rattle.daemon_endpoints.specs.Receiving.{MayReceive, HasHeard};
 use crate::arrival::Arrival;
 use crate::receiving::ReceiveError;
 use access_records::{AccessRecord, Address};
-use client_limits::Limiter;
+use client_limits::{Limiter, PartnerReach};
 use client_service::Admission;
 use daemon_io::Datagrams;
 use dhcp6_pd::{ClientKind, PdError, PdFault, ServerKind};
@@ -131,6 +131,7 @@ impl<G: Datagrams> ClientEndpoint<G> {
     pub fn traffic(&self) -> Traffic {
         Traffic {
             held: self.held.len() as u64,
+            over_quota: self.limiter.refused(),
             ..self.traffic
         }
     }
@@ -149,7 +150,8 @@ impl<G: Datagrams> ClientEndpoint<G> {
             }
             DatagramOutcome::Unanswered(_)
             | DatagramOutcome::UnansweredInformation(_)
-            | DatagramOutcome::EarlyRelease => {
+            | DatagramOutcome::EarlyRelease
+            | DatagramOutcome::LeftToPartner => {
                 self.traffic.unanswered = self.traffic.unanswered.saturating_add(1);
             }
             DatagramOutcome::TooMany => {
@@ -166,12 +168,14 @@ impl<G: Datagrams> ClientEndpoint<G> {
         }
     }
 
-    /// Hears the datagrams that have come, 256 at most. The clocks are read after each: a line that was written for it
-    /// mustn't be older than what it answers. Their answers are held back. Returns how many came.
+    /// Hears the datagrams that have come, 256 at most, while the partner is so far. The clocks are read after each: a
+    /// line that was written for it mustn't be older than what it answers. Their answers are held back. Returns how many
+    /// came.
     pub fn receive<F: Folder + Drop, C: Clocks, L: Print>(
         &mut self,
         running: &mut ServerCore<F, Arrival<G::Peer>>,
         manner: &ReplyPolicy,
+        reach: PartnerReach,
         clocks: &C,
         log: &mut Log<'_, L>,
     ) -> Result<usize, ReceiveError>
@@ -181,6 +185,7 @@ impl<G: Datagrams> ClientEndpoint<G> {
         ensures transit { self.new.transit ≡ self.old.transit }
         ensures heard { HasHeard C.gives running.old running.new }
     {
+        self.limiter.set_partner_reach(reach);
         for count in 0..MOST_HEARD {
             let (length, peer) = match self.datagrams.receive(&mut self.buffer) {
                 Ok(Some(came)) => came,
@@ -188,13 +193,14 @@ impl<G: Datagrams> ClientEndpoint<G> {
                 Err(error) => return Err(ReceiveError::Datagrams(error)),
             };
             let now = read_clocks(clocks)?;
-            let strays = self.limiter.moved_clients();
+            let (strays, refused) = (self.limiter.moved_clients(), self.limiter.refused());
             self.limiter.comes_from(source_of::<G>(&peer));
             let reading = now.reading;
             let datagram = &self.buffer[..length];
             let outcome = hear(running, &mut self.limiter, manner, datagram, peer, now);
             self.count(&outcome, reading, log);
             self.log_moved_clients(strays, reading, log);
+            self.log_refused(refused, reading, log);
         }
         Ok(MOST_HEARD)
     }
@@ -229,6 +235,13 @@ impl<G: Datagrams> ClientEndpoint<G> {
     fn log_moved_clients<L: Print>(&self, before: u64, now: Reading, log: &mut Log<'_, L>) {
         if self.limiter.moved_clients() > before {
             log.log_limited(&LogEvent::Stray, now);
+        }
+    }
+
+    /// Tells by which relay port was asked for what a quota refused, if there is more of it than before.
+    fn log_refused<L: Print>(&self, before: u64, now: Reading, log: &mut Log<'_, L>) {
+        if self.limiter.refused() > before {
+            log.log_refused_port(self.limiter.port_words(), now);
         }
     }
 

@@ -22,13 +22,6 @@ pub(crate) enum Arrived {
     End,
 }
 
-impl Arrived {
-    /// Returns whether anything came, if only the end.
-    pub(crate) fn is_something(&self) -> bool {
-        matches!(self, Arrived::Octets | Arrived::End)
-    }
-}
-
 /// Hands on an event: the session begins by it, or takes its frames.
 #[tactic(auto, using(crate::proofs::Files::same_files))]
 fn hand_on_event<F: Folder + Drop, P: Drop>(

@@ -6,8 +6,8 @@
 //! They stand on devices that don't wait (`daemon_io`), and on a server that runs (`server_core`).
 //!
 //! ```text
-//! clients.receive(&mut running, &manner, &clocks, &mut log)?;
-//! partner.receive(&mut running, &settings, &now, &clocks, &mut log)?;
+//! clients.receive(&mut running, &manner, reach, &clocks, &mut log)?;
+//! contact.note(partner.receive(&mut running, &settings, &now, &clocks, &mut log)?);
 //! let Committed { mut running, leaving } = running.commit()?;
 //! send_committed(&mut clients, &mut partner, &mut running, &answers, &frames, &clocks, &now, &mut log);
 //! desk.send_replies(now.instant);
@@ -20,6 +20,8 @@ mod control_server;
 mod handing;
 mod parting;
 mod partner;
+mod partner_arrival;
+mod partner_contact;
 mod partner_view;
 mod peer_connection;
 mod peer_notices;
@@ -30,5 +32,7 @@ pub use arrival::Arrival;
 pub use clients::ClientEndpoint;
 pub use control_server::ControlServer;
 pub use partner::PartnerEndpoint;
+pub use partner_arrival::PartnerArrival;
+pub use partner_contact::PartnerContact;
 pub use receiving::ReceiveError;
 pub use sending::send_committed;

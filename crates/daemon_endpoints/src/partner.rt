@@ -6,6 +6,7 @@ ghost use Rattle.daemon_endpoints.specs.Receiving.{HasSameFiles};
 ghost use Rattle.daemon_endpoints.specs.Serials.{UsesNoSerial, UsesNoSerialApart};
 ghost use Rattle.daemon_endpoints.specs.Saying.{frames_of, SaysOver, StandsOn, MayStand};
 
+use crate::partner_arrival::PartnerArrival;
 use crate::peer_connection::{Heard, PeerConnection};
 use crate::receiving::ReceiveError;
 use binding_rules::ServerState;
@@ -20,6 +21,7 @@ use server_clocks::{Clocks, Moment};
 use server_core::ServerCore;
 use server_log::{DisconnectReason, Log, LogEvent};
 use server_settings::Settings;
+use server_status::LastRefusal;
 use std::alloc::{AllocError, Global};
 use std::marker::Model;
 use std::time::{Duration, Instant};
@@ -37,6 +39,10 @@ pub struct PartnerEndpoint<D: ConnectionSource> {
     pub(crate) standing: Option<PeerConnection<D>>,
     /// What the two told each other by notices over the connection before.
     pub(crate) last: Option<NoticeTalk>,
+    /// When the partner was heard last over a connection that is over.
+    last_heard: Option<Reading>,
+    /// Why the partner was refused last, until a connection with it has stood for a while.
+    refusal: Option<LastRefusal>,
 }
 
 impl<D: ConnectionSource> Model for PartnerEndpoint<D> {
@@ -99,6 +105,8 @@ impl<D: ConnectionSource> PartnerEndpoint<D> {
             waiting: PendingPeers::new(alloc, keeper),
             standing: None,
             last: None,
+            last_heard: None,
+            refusal: None,
         })
     }
 
@@ -107,9 +115,17 @@ impl<D: ConnectionSource> PartnerEndpoint<D> {
         Some(self.standing.as_ref()?.begun.reading)
     }
 
-    /// When the partner was heard last over the connection that stands.
+    /// When the partner was heard last, over the connection that stands or one before; none where it never was.
     pub fn heard(&self) -> Option<Reading> {
-        self.standing.as_ref()?.heard
+        match &self.standing {
+            Some(standing) => standing.heard.or(self.last_heard),
+            None => self.last_heard,
+        }
+    }
+
+    /// Why the partner was refused last, if it was and no connection with it has stood for a while since.
+    pub fn refusal(&self) -> Option<LastRefusal> {
+        self.refusal
     }
 
     /// Gives connections that have come a seat, as far as there is room. Where there is none the next is closed, and
@@ -167,8 +183,16 @@ impl<D: ConnectionSource> PartnerEndpoint<D> {
     {
         if let Some(standing) = self.standing.take() {
             standing.log_disconnect(DisconnectReason::Replaced, now, log);
-            self.keep_talk(standing.into_talk());
+            self.keep_traces(standing);
         }
+    }
+
+    /// Keeps of a connection that is over when the partner was heard last, and what the two told each other.
+    fn keep_traces(&mut self, standing: PeerConnection<D>)
+        ensures { self.new ≡ self.old }
+    {
+        self.last_heard = standing.heard.or(self.last_heard);
+        self.keep_talk(standing.into_talk());
     }
 
     /// Keeps what the two told each other over a connection that is over, where the partner said anything of itself.
@@ -192,9 +216,15 @@ impl<D: ConnectionSource> PartnerEndpoint<D> {
         ensures { self.new ≡ self.old }
     {
         standing.log_disconnect(parting, now, log);
+        if let Some(why) = parting.refusal() {
+            self.refusal = Some(LastRefusal {
+                why,
+                at: now.reading,
+            });
+        }
         self.door
             .back_off(standing.pause(&parting, now), now.instant);
-        self.keep_talk(standing.into_talk());
+        self.keep_traces(standing);
     }
 
     /// Begins the session over the connection of who was let in, or its talk of notices.
@@ -215,7 +245,7 @@ impl<D: ConnectionSource> PartnerEndpoint<D> {
         self.standing = Some(standing);
     }
 
-    /// Hears the partner over the connection that stands, where there is one. Returns whether anything came.
+    /// Hears the partner over the connection that stands, where there is one. Returns what came.
     fn receive_over_connection<F: Folder + Drop, P: Drop, C: Clocks, L: Print>(
         &mut self,
         running: &mut ServerCore<F, P>,
@@ -224,26 +254,28 @@ impl<D: ConnectionSource> PartnerEndpoint<D> {
         now: &Moment,
         clocks: &C,
         log: &mut Log<'_, L>,
-    ) -> Result<bool, ReceiveError>
+    ) -> Result<PartnerArrival, ReceiveError>
     where
         F::File: Drop,
         ensures files { HasSameFiles running.old running.new }
         ensures stands { MayStand self.old self.new }
     {
         let Some(mut standing) = self.standing.take() else {
-            return Ok(false);
+            return Ok(PartnerArrival::Nothing);
         };
-        let has_come = standing.receive(running, settings, &mut self.buffer, now.instant, clocks)?;
-        standing.log_joined(running.stage(), log);
+        let arrival = standing.receive(running, settings, &mut self.buffer, now.instant, clocks)?;
+        standing.log_joined(running.stage(), self.refusal.is_some(), now, log);
+        if standing.has_joined {
+            self.refusal = None;
+        }
         standing.log_settings(now, log);
         standing.log_silence(now, log);
         standing.close_if_stale(has_other, now);
         self.standing = Some(standing);
-        Ok(has_come)
+        Ok(arrival)
     }
 
-    /// Hears the partner: over the connection that stands, or by one that waited and is let in. Returns whether
-    /// anything came.
+    /// Hears the partner: over the connection that stands, or by one that waited and is let in. Returns what came.
     pub fn receive<F: Folder + Drop, P: Drop, C: Clocks, L: Print>(
         &mut self,
         running: &mut ServerCore<F, P>,
@@ -251,7 +283,7 @@ impl<D: ConnectionSource> PartnerEndpoint<D> {
         now: &Moment,
         clocks: &C,
         log: &mut Log<'_, L>,
-    ) -> Result<bool, ReceiveError>
+    ) -> Result<PartnerArrival, ReceiveError>
     where
         F::File: Drop,
         ensures files { HasSameFiles running.old running.new }
@@ -261,11 +293,11 @@ impl<D: ConnectionSource> PartnerEndpoint<D> {
             self.replace(now, log);
             running.disconnect_partner();
             self.begin_session(running, settings, connection, now);
-            return Ok(true);
+            return Ok(PartnerArrival::Entered);
         }
         let has_other = self.accept_connections(now, log);
         match self.receive_over_connection(running, settings, has_other, now, clocks, log) {
-            Ok(has_come) => Ok(self.waiting.has_come() || has_come),
+            Ok(arrival) => Ok(arrival.or_waiting(self.waiting.has_come())),
             Err(error) => Err(error),
         }
     }
@@ -321,39 +353,38 @@ impl<D: ConnectionSource> PartnerEndpoint<D> {
         now: &Moment,
         clocks: &C,
         log: &mut Log<'_, L>,
-    ) -> Result<bool, ReceiveError>
+    ) -> Result<PartnerArrival, ReceiveError>
         ensures stands { MayStand self.old self.new }
     {
         let Some(mut standing) = self.standing.take() else {
-            return Ok(false);
+            return Ok(PartnerArrival::Nothing);
         };
-        let has_come = standing.meet(&mut self.buffer, now.instant, clocks)?;
+        let arrival = standing.meet(&mut self.buffer, now.instant, clocks)?;
         standing.log_silence(now, log);
         standing.close_if_stale(has_other, now);
         self.standing = Some(standing);
-        Ok(has_come)
+        Ok(arrival)
     }
 
     /// Hears the partner's notices alone: over the connection that stands, or by one that waited and is let in. What is
-    /// the session's waits. Whoever calls it has ended the session of the connection that stood. Returns whether anything
-    /// came.
+    /// the session's waits. Whoever calls it has ended the session of the connection that stood. Returns what came.
     pub fn meet<C: Clocks, L: Print>(
         &mut self,
         settings: &Settings,
         now: &Moment,
         clocks: &C,
         log: &mut Log<'_, L>,
-    ) -> Result<bool, ReceiveError>
+    ) -> Result<PartnerArrival, ReceiveError>
         ensures stands { MayStand self.old self.new }
     {
         if let Some(connection) = self.authenticate_pending(now, log) {
             self.replace(now, log);
             self.standing = Some(PeerConnection::new(self.alloc, connection, settings, now));
-            return Ok(true);
+            return Ok(PartnerArrival::Entered);
         }
         let has_other = self.accept_connections(now, log);
         match self.meet_over_connection(has_other, now, clocks, log) {
-            Ok(has_come) => Ok(self.waiting.has_come() || has_come),
+            Ok(arrival) => Ok(arrival.or_waiting(self.waiting.has_come())),
             Err(error) => Err(error),
         }
     }

@@ -3,6 +3,7 @@
 ghost use Rattle.std.specs.Prelude.{◌≡◌, ◌≤◌, ℕ, List, [], None, Some, length};
 ghost use Rattle.daemon_io.specs.ConnectionWrites.{IsGiven, OnlyHears};
 ghost use Rattle.failover_message.specs.Frames.{frame_octets};
+ghost use Rattle.daemon_endpoints.specs.Hearing.{arrival_of, CameBy};
 ghost use Rattle.daemon_endpoints.specs.Joining.{OpensBy};
 ghost use Rattle.daemon_endpoints.specs.Receiving.{HasSameFiles};
 ghost use Rattle.daemon_endpoints.specs.Saying.{frames_of, AreGiven, AreFirstGiven, Says, IsLastWord};
@@ -13,6 +14,7 @@ use crate::handing::{Arrived, hand_on};
 use crate::parting::{
     can_resend, parting_at, parting_by, parting_of, parting_with, parting_without,
 };
+use crate::partner_arrival::PartnerArrival;
 use crate::peer_notices::{opening, take_octets};
 use crate::receiving::ReceiveError;
 use binding_rules::Counter;
@@ -55,8 +57,8 @@ pub(crate) struct PeerConnection<D: ConnectionSource> {
     pub(crate) heard: Option<Reading>,
     /// When octets came last, or it was told that none did; before, when it began.
     listened: Instant,
-    /// Whether the two have joined: each has named what it took last.
-    has_joined: bool,
+    /// Whether it was told that the two have joined: each has named what it took last.
+    pub(crate) has_joined: bool,
     /// Why it is over once all that is held back has gone out.
     pub(crate) parting: Option<DisconnectReason>,
 }
@@ -64,7 +66,7 @@ pub(crate) struct PeerConnection<D: ConnectionSource> {
 /// What was heard over a connection, and when.
 #[derive(Clone, Copy)]
 pub(crate) struct Heard {
-    now: Moment,
+    at: Moment,
     arrived: Arrived,
 }
 
@@ -72,14 +74,20 @@ impl Heard {
     /// Nothing yet, of a connection that begins.
     pub(crate) fn nothing(now: &Moment) -> Heard {
         Heard {
-            now: *now,
+            at: *now,
             arrived: Arrived::Nothing,
         }
     }
 
-    /// Returns whether anything came, if only the end.
-    pub(crate) fn has_come(&self) -> bool {
-        self.arrived.is_something()
+    /// What came of the partner by it: octets, when it was heard; or the end.
+    fn arrival(&self) -> PartnerArrival
+        ensures { result ≡ arrival_of self.now.at.instant self.now.arrived }
+    {
+        match self.arrived {
+            Arrived::Octets => PartnerArrival::Octets(self.at.instant),
+            Arrived::End => PartnerArrival::Event,
+            Arrived::Nothing | Arrived::IdleSecond => PartnerArrival::Nothing,
+        }
     }
 }
 
@@ -141,7 +149,8 @@ impl<D: ConnectionSource> PeerConnection<D> {
     /// Takes what a read gave.
     fn take(&mut self, got: ReadOutcome, buffer: &[u8], now: &Moment) -> Arrived
         requires { (count : ℕ) → got ≡ ReadOutcome.Octets count → count ≤ length buffer.now }
-        ensures { self.new.connection ≡ self.old.connection }
+        ensures connection { self.new.connection ≡ self.old.connection }
+        ensures came { CameBy got result }
     {
         match got {
             ReadOutcome::Octets(count) => {
@@ -179,7 +188,7 @@ impl<D: ConnectionSource> PeerConnection<D> {
             return Err(ReceiveError::Clock);
         };
         let arrived = self.take(got, buffer, &now);
-        Ok(Heard { now, arrived })
+        Ok(Heard { at: now, arrived })
     }
 
     /// Hands on to the session what was heard, and all that waited for it.
@@ -194,11 +203,12 @@ impl<D: ConnectionSource> PeerConnection<D> {
         ensures files { HasSameFiles running.old running.new }
         ensures connection { self.new.connection ≡ self.old.connection }
     {
+        running.see_clock(heard.at.instant);
         let events = mem::replace(&mut self.events, Vec::new(self.alloc));
         match hand_on(
             running,
             settings,
-            heard.now.reading,
+            heard.at.reading,
             events.as_slice(),
             heard.arrived,
         ) {
@@ -207,7 +217,7 @@ impl<D: ConnectionSource> PeerConnection<D> {
         }
     }
 
-    /// Reads what has come, and does what follows from it. Returns whether anything came.
+    /// Reads what has come, and does what follows from it. Returns what came.
     pub(crate) fn receive<F: Folder + Drop, P: Drop, C: Clocks>(
         &mut self,
         running: &mut ServerCore<F, P>,
@@ -215,7 +225,7 @@ impl<D: ConnectionSource> PeerConnection<D> {
         buffer: &mut [u8],
         begun: Instant,
         clocks: &C,
-    ) -> Result<bool, ReceiveError>
+    ) -> Result<PartnerArrival, ReceiveError>
     where
         F::File: Drop,
         ensures files { HasSameFiles running.old running.new }
@@ -223,24 +233,24 @@ impl<D: ConnectionSource> PeerConnection<D> {
     {
         let heard = self.hear(buffer, begun, clocks)?;
         self.go_on(running, settings, &heard);
-        Ok(heard.has_come())
+        Ok(heard.arrival())
     }
 
     /// Reads what has come, and takes its notices alone: what is the session's waits, and no more is read while much of
-    /// it does. Returns whether anything came.
+    /// it does. Returns what came.
     pub(crate) fn meet<C: Clocks>(
         &mut self,
         buffer: &mut [u8],
         begun: Instant,
         clocks: &C,
-    ) -> Result<bool, ReceiveError>
+    ) -> Result<PartnerArrival, ReceiveError>
         ensures { OnlyHears self.old.connection.sent self.new.connection.sent }
     {
         if self.events.len() >= MOST_EVENTS {
-            return Ok(false);
+            return Ok(PartnerArrival::Nothing);
         }
         let heard = self.hear(buffer, begun, clocks)?;
-        Ok(heard.has_come())
+        Ok(heard.arrival())
     }
 
     /// Sends a contact, where the two have joined (`failover_session::LinkInput::HeartbeatDue`).
@@ -306,11 +316,19 @@ impl<D: ConnectionSource> PeerConnection<D> {
         }
     }
 
-    /// Tells that the two have joined, once they have.
-    pub(crate) fn log_joined<L: Print>(&mut self, stage: Option<SessionStage>, log: &Log<'_, L>)
+    /// Tells that the two have joined, once they have. Of a partner that was refused it is told once the connection has
+    /// stood for a while: else the line would cover the refusal, which may follow again.
+    pub(crate) fn log_joined<L: Print>(
+        &mut self,
+        stage: Option<SessionStage>,
+        was_refused: bool,
+        now: &Moment,
+        log: &Log<'_, L>,
+    )
         ensures { self.new.connection ≡ self.old.connection }
     {
-        if !self.has_joined && matches!(stage, Some(SessionStage::Joined { .. })) {
+        let may_last = !was_refused || self.has_stood(now);
+        if !self.has_joined && may_last && matches!(stage, Some(SessionStage::Joined { .. })) {
             self.has_joined = true;
             log.log(&LogEvent::Connected);
         }

@@ -1,7 +1,7 @@
 //! What is written of a status.
 
 use crate::statuses::{serving, waiting};
-use server_status::StatusFormat;
+use server_status::{StatusFormat, failed_status};
 use std::test::Fail;
 
 const SERVING_LINES: &str = "\
@@ -19,6 +19,7 @@ room: enough
 partner: normal
 link: connected since 2026-11-23T19:01:40.000Z
 heard: 2026-11-23T19:01:44.419Z
+refusal: none
 notices: understood
 partner_program: fengtuyas 1.0.0
 partner_clock: between 12 ms behind and 5 ms ahead
@@ -30,6 +31,7 @@ messages: 31 solicit, 30 request, 400 renew, 2 rebind, 5 release
 refused: 1 short, 0 option_length, 0 duplicate_id, 0 no_client_id, 0 server_id_present, 0 server_id_missing, \
 9 not_ours, 0 too_deep, 0 too_many_ias, 0 ignored, 0 bad_prefix_length
 answers: 31 advertise, 435 reply
+over_quota: 8
 unanswered: 2
 late: 3
 held: 6
@@ -51,6 +53,7 @@ room: full
 partner: waiting since 2026-11-23T19:00:00.000Z
 link: apart
 heard: never
+refusal: 2026-11-23T19:00:00.000Z, it lacks messages of older volumes, which can't be told again
 notices: none, there is no connection
 partner_program: unknown
 partner_clock: unknown
@@ -62,6 +65,7 @@ messages: 0 solicit, 0 request, 0 renew, 0 rebind, 0 release
 refused: 0 short, 0 option_length, 0 duplicate_id, 0 no_client_id, 0 server_id_present, 0 server_id_missing, \
 0 not_ours, 0 too_deep, 0 too_many_ias, 0 ignored, 0 bad_prefix_length
 answers: 0 advertise, 0 reply
+over_quota: 0
 unanswered: 0
 late: 0
 held: 0
@@ -72,8 +76,9 @@ const SERVING_JSON: &str = "\
 {\"ahead_ms\":1203,\"answers\":{\"advertise\":31,\"reply\":435},\"clock\":\"right\",\"due\":7,\"held\":6,\
 \"journal\":\"whole\",\"late\":3,\"marked\":1,\
 \"messages\":{\"rebind\":2,\"release\":5,\"renew\":400,\"request\":30,\"solicit\":31},\
-\"partner\":{\"clock\":{\"least_ms\":-12,\"most_ms\":5},\"connected_since_ms\":1795460500000,\
+\"over_quota\":8,\"partner\":{\"clock\":{\"least_ms\":-12,\"most_ms\":5},\"connected_since_ms\":1795460500000,\
 \"heard_ms\":1795460504419,\"link\":\"connected\",\"notices\":\"understood\",\"program\":\"fengtuyas 1.0.0\",\
+\"refusal\":null,\
 \"settings\":[],\"standing\":\"normal\",\"standing_since_ms\":null},\"reading_ms\":1795460505623,\
 \"refused\":{\"bad_prefix_length\":0,\"duplicate_id\":0,\"ignored\":0,\"no_client_id\":0,\"not_ours\":9,\
 \"option_length\":0,\"server_id_missing\":0,\"server_id_present\":0,\"short\":1,\"too_deep\":0,\"too_many_ias\":0},\
@@ -85,7 +90,7 @@ const SERVING_JSON: &str = "\
 ";
 
 /// Lines of a status that waits, as OpenMetrics has them, which differ from one that serves.
-const WAITING_METRICS: [&str; 12] = [
+const WAITING_METRICS: [&str; 13] = [
     "fengtuyas_server_info{role=\"secondary\"} 1\n",
     "fengtuyas_clock{fengtuyas_clock=\"right\"} 0\n",
     "fengtuyas_clock{fengtuyas_clock=\"behind\"} 1\n",
@@ -95,16 +100,17 @@ const WAITING_METRICS: [&str; 12] = [
     "fengtuyas_partner{fengtuyas_partner=\"waiting\"} 1\n",
     "fengtuyas_partner_since_timestamp_seconds 1795460400.000\n",
     "fengtuyas_link{fengtuyas_link=\"apart\"} 1\n",
+    "fengtuyas_partner_refused 1\n",
     "# TYPE fengtuyas_link_connected_timestamp_seconds gauge\n",
     "# TYPE fengtuyas_sync_seconds summary\n",
     "# EOF\n",
 ];
 
 const SERVING_METRICS: &str = "\
-# TYPE fengtuyas_server info
-# HELP fengtuyas_server What the server is.
+# TYPE fengtuyas_server_info gauge
+# HELP fengtuyas_server_info What the server is.
 fengtuyas_server_info{role=\"primary\"} 1
-# TYPE fengtuyas_clock stateset
+# TYPE fengtuyas_clock gauge
 # HELP fengtuyas_clock Whether the clock may go on with the journal.
 fengtuyas_clock{fengtuyas_clock=\"right\"} 1
 fengtuyas_clock{fengtuyas_clock=\"behind\"} 0
@@ -130,7 +136,8 @@ fengtuyas_not_serving{why=\"goes_on_after_restart\"} 0
 fengtuyas_not_serving{why=\"clock_set\"} 0
 fengtuyas_not_serving{why=\"asks_partner_clock\"} 0
 fengtuyas_not_serving{why=\"partner_clock_differs\"} 0
-# TYPE fengtuyas_journal stateset
+fengtuyas_not_serving{why=\"disk_failed\"} 0
+# TYPE fengtuyas_journal gauge
 # HELP fengtuyas_journal Whether the journal has all that the partner took of it.
 fengtuyas_journal{fengtuyas_journal=\"whole\"} 1
 fengtuyas_journal{fengtuyas_journal=\"older\"} 0
@@ -151,18 +158,18 @@ fengtuyas_volume_opened_timestamp_seconds 1795460400.000
 # UNIT fengtuyas_volume_written_timestamp_seconds seconds
 # HELP fengtuyas_volume_written_timestamp_seconds The reading of the volume's last line.
 fengtuyas_volume_written_timestamp_seconds 1795460504.420
-# TYPE fengtuyas_roll stateset
+# TYPE fengtuyas_roll gauge
 # HELP fengtuyas_roll Whether the next volume is due, or what forbids it though it is due.
 fengtuyas_roll{fengtuyas_roll=\"not_due\"} 0
 fengtuyas_roll{fengtuyas_roll=\"due\"} 0
 fengtuyas_roll{fengtuyas_roll=\"partner_down\"} 0
 fengtuyas_roll{fengtuyas_roll=\"unit_marked\"} 1
-# TYPE fengtuyas_room stateset
+# TYPE fengtuyas_room gauge
 # HELP fengtuyas_room How much room the volume has.
 fengtuyas_room{fengtuyas_room=\"enough\"} 1
 fengtuyas_room{fengtuyas_room=\"full_within_hour\"} 0
 fengtuyas_room{fengtuyas_room=\"full\"} 0
-# TYPE fengtuyas_partner stateset
+# TYPE fengtuyas_partner gauge
 # HELP fengtuyas_partner What the server takes its partner for.
 fengtuyas_partner{fengtuyas_partner=\"normal\"} 1
 fengtuyas_partner{fengtuyas_partner=\"waiting\"} 0
@@ -170,7 +177,7 @@ fengtuyas_partner{fengtuyas_partner=\"down\"} 0
 # TYPE fengtuyas_partner_since_timestamp_seconds gauge
 # UNIT fengtuyas_partner_since_timestamp_seconds seconds
 # HELP fengtuyas_partner_since_timestamp_seconds Since when it waits for its partner or takes it for down.
-# TYPE fengtuyas_link stateset
+# TYPE fengtuyas_link gauge
 # HELP fengtuyas_link How the server is linked to its partner.
 fengtuyas_link{fengtuyas_link=\"alone\"} 0
 fengtuyas_link{fengtuyas_link=\"apart\"} 0
@@ -183,7 +190,10 @@ fengtuyas_link_connected_timestamp_seconds 1795460500.000
 # UNIT fengtuyas_partner_heard_timestamp_seconds seconds
 # HELP fengtuyas_partner_heard_timestamp_seconds When the partner's last message was taken.
 fengtuyas_partner_heard_timestamp_seconds 1795460504.419
-# TYPE fengtuyas_partner_clock stateset
+# TYPE fengtuyas_partner_refused gauge
+# HELP fengtuyas_partner_refused Whether the partner was refused, and no connection has stood for a while since.
+fengtuyas_partner_refused 0
+# TYPE fengtuyas_partner_clock gauge
 # HELP fengtuyas_partner_clock Whether the partner's clock and this one may both be right.
 fengtuyas_partner_clock{fengtuyas_partner_clock=\"unknown\"} 0
 fengtuyas_partner_clock{fengtuyas_partner_clock=\"agrees\"} 1
@@ -226,6 +236,9 @@ fengtuyas_refused_datagrams_total{fault=\"bad_prefix_length\"} 0
 # HELP fengtuyas_answers Answers that were sent.
 fengtuyas_answers_total{kind=\"advertise\"} 31
 fengtuyas_answers_total{kind=\"reply\"} 435
+# TYPE fengtuyas_quota_refusals counter
+# HELP fengtuyas_quota_refusals IA_PDs that asked for a prefix which a quota refused.
+fengtuyas_quota_refusals_total 8
 # TYPE fengtuyas_unanswered_messages counter
 # HELP fengtuyas_unanswered_messages Messages without an answer.
 fengtuyas_unanswered_messages_total 2
@@ -289,6 +302,40 @@ fn writes_the_text_of_openmetrics(rt: HostRuntime) -> Result<(), Fail> {
     let text = status.text(rt.alloc(), StatusFormat::Metrics)?;
     for line in WAITING_METRICS {
         assert!(rt; text.as_str().contains(line));
+    }
+    Ok(())
+}
+
+const FAILED_METRICS: &str = "\
+# TYPE fengtuyas_serving gauge
+# HELP fengtuyas_serving Whether clients are served.
+fengtuyas_serving 0
+# TYPE fengtuyas_not_serving gauge
+# HELP fengtuyas_not_serving Why nobody is served.
+fengtuyas_not_serving{why=\"waits_for_partner\"} 0
+fengtuyas_not_serving{why=\"clock_behind\"} 0
+fengtuyas_not_serving{why=\"journal_older\"} 0
+fengtuyas_not_serving{why=\"volume_full\"} 0
+fengtuyas_not_serving{why=\"goes_on_after_restart\"} 0
+fengtuyas_not_serving{why=\"clock_set\"} 0
+fengtuyas_not_serving{why=\"asks_partner_clock\"} 0
+fengtuyas_not_serving{why=\"partner_clock_differs\"} 0
+fengtuyas_not_serving{why=\"disk_failed\"} 1
+# EOF
+";
+
+#[test]
+fn says_alone_that_the_disk_failed(rt: HostRuntime) -> Result<(), Fail> {
+    let forms = [
+        (StatusFormat::Lines, "serving: no, disk failed\n"),
+        (
+            StatusFormat::Json,
+            "{\"serving\":{\"is\":false,\"why\":\"disk_failed\"}}\n",
+        ),
+        (StatusFormat::Metrics, FAILED_METRICS),
+    ];
+    for (form, wanted) in forms {
+        assert_eq!(rt; failed_status(rt.alloc(), form)?.as_str(), wanted);
     }
     Ok(())
 }

@@ -15,6 +15,7 @@ another's. Don't begin it again: see \"A lost disk\"
 <6>node: waits 30 s for its partner before it goes on alone
 <4>node: ended the connection with its partner: this server's journal lacks messages that the partner took
 <4>node: ended the connection with its partner: it doesn't wait, so this journal is an older copy
+<3>node: serves nobody: its disk failed
 <6>node: stops, as it was told
 ";
 
@@ -31,6 +32,7 @@ fn tells_how_a_server_began_again(rt: HostRuntime) -> Result<(), Fail> {
         LogEvent::HoldsOff { seconds: 30 },
         LogEvent::Disconnected(DisconnectReason::JournalOlder),
         LogEvent::Disconnected(DisconnectReason::OldCopy),
+        LogEvent::DiskFailed,
         LogEvent::Stops,
     ];
     for event in &events {

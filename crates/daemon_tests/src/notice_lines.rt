@@ -29,12 +29,14 @@ fn says(alloc: Global, status: &ServerStatus<'_>, said: &Said) -> Result<bool, F
 const APART: Said = Said {
     lines: "\
 heard: never
+refusal: 2026-11-23T19:00:00.000Z, it lacks messages of older volumes, which can't be told again
 notices: none, there is no connection
 partner_program: unknown
 partner_clock: unknown
 settings: unknown
 units: 0 own",
-    json: "\"notices\":\"no_connection\",\"program\":null,\"settings\":null,",
+    json: "\"notices\":\"no_connection\",\"program\":null,\
+\"refusal\":{\"at_ms\":1795460400000,\"why\":\"older_volumes\"},\"settings\":null,",
     metrics: "\
 fengtuyas_partner_clock{fengtuyas_partner_clock=\"unknown\"} 1
 fengtuyas_partner_clock{fengtuyas_partner_clock=\"agrees\"} 0
@@ -46,6 +48,7 @@ fengtuyas_partner_clock{fengtuyas_partner_clock=\"unclear\"} 0
 const DIFFERS: Said = Said {
     lines: "\
 heard: 2026-11-23T19:01:44.419Z
+refusal: none
 notices: understood
 partner_program: other 2.5.13
 partner_clock: between 4001 ms ahead and 4020 ms ahead
@@ -54,7 +57,7 @@ units: 100 own",
     json: "\
 \"partner\":{\"clock\":{\"least_ms\":4001,\"most_ms\":4020},\"connected_since_ms\":1795460500000,\
 \"heard_ms\":1795460504419,\"link\":\"connected\",\"notices\":\"understood\",\"program\":\"other 2.5.13\",\
-\"settings\":[\"skew_ms\",\"life\"],\"standing\":\"normal\",\"standing_since_ms\":null}",
+\"refusal\":null,\"settings\":[\"skew_ms\",\"life\"],\"standing\":\"normal\",\"standing_since_ms\":null}",
     metrics: "\
 fengtuyas_partner_clock{fengtuyas_partner_clock=\"unknown\"} 0
 fengtuyas_partner_clock{fengtuyas_partner_clock=\"agrees\"} 0

@@ -21,7 +21,7 @@ struct Reason {
     metric: &'static str,
 }
 
-const REASONS: [Reason; 8] = [
+const REASONS: [Reason; 9] = [
     Reason {
         why: NotServing::WaitsForPartner,
         line: "serving: no, waits for its partner's answer\nrole: primary\n",
@@ -69,6 +69,12 @@ const REASONS: [Reason; 8] = [
         line: "serving: no, its partner's clock differs\nrole: primary\n",
         json: "\"serving\":{\"is\":false,\"why\":\"partner_clock_differs\"}",
         metric: "fengtuyas_not_serving{why=\"partner_clock_differs\"} 1\n",
+    },
+    Reason {
+        why: NotServing::DiskFailed,
+        line: "serving: no, disk failed\nrole: primary\n",
+        json: "\"serving\":{\"is\":false,\"why\":\"disk_failed\"}",
+        metric: "fengtuyas_not_serving{why=\"disk_failed\"} 1\n",
     },
 ];
 

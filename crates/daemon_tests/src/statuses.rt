@@ -4,9 +4,9 @@ use binding_rules::Role;
 use lead_time::{LeadTimeError, Reading};
 use link_notices::{ClockRange, ClockVerdict};
 use server_status::{
-    AnswerCounts, ClockState, FaultCounts, JournalState, LinkState, MessageCounts, NotServing,
-    NoticeState, PartnerNotices, PartnerState, ServerStatus, ServingState, SyncSummary, Traffic,
-    UnitCounts, VolumeStatus,
+    AnswerCounts, ClockState, FaultCounts, JournalState, LastRefusal, LinkState, MessageCounts,
+    NotServing, NoticeState, PartnerNotices, PartnerRefusal, PartnerState, ServerStatus,
+    ServingState, SyncSummary, Traffic, UnitCounts, VolumeStatus,
 };
 use server_timers::{RollBlocked, RollState, Room};
 
@@ -77,6 +77,7 @@ pub(crate) fn serving_with<'a>(
                 advertise: 31,
                 reply: 435,
             },
+            over_quota: 8,
             unanswered: 2,
             late: 3,
             held: 6,
@@ -88,6 +89,7 @@ pub(crate) fn serving_with<'a>(
         }),
         serving: ServingState::Yes,
         journal: JournalState::Whole,
+        refusal: None,
         notices,
     })
 }
@@ -124,6 +126,10 @@ pub(crate) fn waiting_with<'a>(
         syncs: None,
         serving: ServingState::No(NotServing::ClockBehind),
         journal: JournalState::Whole,
+        refusal: Some(LastRefusal {
+            why: PartnerRefusal::OlderVolumes,
+            at: Reading::new(1_795_460_400_000)?,
+        }),
         notices,
     })
 }

@@ -1,5 +1,6 @@
 //! Why a directory wasn't opened.
 
+use crate::space::advice_of;
 use std::fs::TryLockError;
 use std::io;
 use thiserror::Error;
@@ -16,7 +17,7 @@ pub enum FolderError {
     #[error("what is named as volume {number} is no file")]
     NotAFile { number: usize },
     /// The system refused a call.
-    #[error("the directory can't be opened: {0}")]
+    #[error("the directory can't be opened: {}{}", .0, advice_of(.0))]
     System(io::Error),
 }
 

@@ -79,7 +79,7 @@ fn owes_by_lines_and_times(rt: HostRuntime) -> Result<(), Fail> {
             lines,
             head_lines: 3,
             opened: Reading::new(0)?,
-            written: Reading::new(written)?,
+            spoken: Reading::new(written)?,
         };
         let owed = Timers::DEFAULT.due_actions(
             &growth,
@@ -99,7 +99,7 @@ fn rolls_where_the_rules_let(rt: HostRuntime) -> Result<(), Fail> {
         lines: 3,
         head_lines: 3,
         opened: begun,
-        written: begun,
+        spoken: begun,
     };
     for (is_down, is_marked, words) in BARS {
         let down = if is_down { Some(begun) } else { None };

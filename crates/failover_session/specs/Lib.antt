@@ -4,3 +4,6 @@ pub mod OutboundFrames
 pub mod Sessions
 pub mod Shortage
 pub mod Polling
+pub mod Waiting
+pub mod Crossing
+pub mod TellingAll

@@ -1,5 +1,5 @@
 -- What one turn of a talk does.
-use Rattle.std.specs.Prelude.{◌≡◌, ◌⊎◌, ℕ, List, [], ◌++◌}
+use Rattle.std.specs.Prelude.{◌≡◌, ◌⊎◌, ℕ, Bool, List, [], ◌++◌}
 use Rattle.binding_rules.specs.declared.message.PartnerMessage.{PartnerMessage}
 use Rattle.binding_rules.specs.declared.role.Role.{Role}
 use Rattle.failover_message.specs.declared.frame.Frame.{Frame}
@@ -12,12 +12,13 @@ use Rattle.failover_session.specs.declared.link_input.LinkInput.{LinkInput}
 use Rattle.failover_session.specs.declared.link_input.LinkInput.TheVariants.{Octets, Idle, HeartbeatDue, Closed}
 use Rattle.failover_session.specs.Sessions.{messages_in, Met, Handles, HandlesFront}
 
--- a talk as its callers see it: by which policy it judges, the octets of a frame that hasn't come whole, how far the two ends have come, and the
--- frames that are to be written
+-- a talk as its callers see it: by which policy it judges, the octets of a frame that hasn't come whole, how far the two ends have come,
+-- whether the partner has said that it told all (UPDDONE), and the frames that are to be written
 pub record SessionModel : Type 0 where
   pub policy : SessionPolicy
   pub held : List ℕ
   pub stage : SessionStage
+  pub told_all : Bool
   pub handed : List OutboundFrame
 
 -- what came is what was held and these octets: frames with these messages, and then less than a whole one

@@ -8,7 +8,7 @@ use Rattle.journal_lines.specs.declared.line.Line.{Line}
 use Rattle.book_state.specs.Book.{BookState}
 use Rattle.locked_book.specs.declared.receipt.Receipt.{Receipt}
 use Rattle.order_book.specs.declared.order.Order.{Order}
-use Rattle.order_book.specs.declared.order.Order.TheVariants.{Take as TakeOrder}
+use Rattle.order_book.specs.declared.order.Order.TheVariants.{Take as TakeOrder, Expire as ExpireOrder}
 use Rattle.order_book.specs.Named.{IsNamed}
 
 -- the serial of the last message that was taken, where before the event it was `last`
@@ -58,6 +58,11 @@ pub record Goes (old new : List Receipt) : Type 0 where
 abbrev pub IsOther : Order → Type 0
 IsOther (TakeOrder message) = ⊥
 IsOther _ = ⊤
+
+-- any order but that a lease is ended
+abbrev pub IsLasting : Order → Type 0
+IsLasting (ExpireOrder prefix) = ⊥
+IsLasting _ = ⊤
 
 -- the line is one that the order names at some state of a book
 abbrev pub IsNamedBy : Order → Line → Type 0

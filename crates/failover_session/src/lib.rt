@@ -24,12 +24,15 @@
 #![tactic(auto)]
 
 mod book;
+mod crossing;
 mod error;
+mod in_flight;
 mod link_endpoint;
 mod link_input;
 mod messages;
 mod outbox;
 mod policy;
+mod raising;
 mod recent;
 mod returning;
 mod sending;
@@ -41,6 +44,7 @@ mod sharing;
 mod shortage;
 mod stage;
 mod taking;
+mod updates_done;
 
 pub use book::{PairBook, Receipts};
 pub use error::SessionError;

@@ -3,8 +3,9 @@
 ghost use Rattle.std.specs.Prelude.{◌≡◌, ◌+◌, ◌++◌, ◌∷◌, [], IfOk, OnOk, OnErr};
 ghost use Rattle.journal_lines.specs.declared.event.Event.TheVariants.{Take};
 ghost use Rattle.locked_book.specs.declared.receipt.Receipt.{Receipt as ReceiptValue};
-ghost use Rattle.failover_session.specs.Receipts.{IsOther, last_taken};
+ghost use Rattle.failover_session.specs.Receipts.{IsOther, IsLasting, last_taken};
 ghost use Rattle.failover_session.specs.Sessions.{SendsLines, Takes};
+ghost use Rattle.failover_session.specs.declared.policy.SessionPolicy.TheVariants.{Serve};
 
 use crate::book::PairBook;
 use crate::error::SessionError;
@@ -17,6 +18,7 @@ use order_book::{BookError, Order, Reply};
 use prefix_range::Prefix;
 use server_settings::Settings;
 use std::alloc::Global;
+use std::time::Instant;
 
 /// One end of the link in one turn: its server's book and settings, and what the clock shows.
 #[derive(Drop)]
@@ -27,6 +29,8 @@ pub(crate) struct LinkEndpoint<'a, B: PairBook> {
     pub policy: SessionPolicy,
     pub settings: &'a Settings,
     pub reading: Reading,
+    /// What the monotonic clock shows, where that is known.
+    pub at: Option<Instant>,
 }
 
 /// The fate of an order that a later turn may give again.
@@ -59,7 +63,9 @@ impl<'a, B: PairBook> LinkEndpoint<'a, B> {
         duties: &mut SessionState,
         order: &Order,
     ) -> Result<OrderOutcome, SessionError>
-        requires { IsOther order.now }
+        requires other { IsOther order.now }
+        // A daemon's session ends no lease.
+        requires lasting { self.now.policy ≡ Serve → IsLasting order.now }
         ensures { SendsLines (B.Pass.receipts pass.old) (B.Pass.receipts pass.new) duties.old.out.items duties.new.out.items }
     {
         duties.out.reserve(1)?;

@@ -7,7 +7,7 @@ use crate::book::{PairBook, Receipts};
 use crate::error::SessionError;
 use crate::link_endpoint::{LinkEndpoint, OrderOutcome};
 use crate::sending::Progress;
-use crate::session_state::{MOST_IN_FLIGHT, SentUpTo, SessionState, UpdateKind};
+use crate::session_state::{SentUpTo, SessionState, UpdateKind};
 use binding_rules::Body;
 use journal_lines::Event;
 use prefix_range::Prefix;
@@ -72,7 +72,7 @@ impl<'a, B: PairBook> LinkEndpoint<'a, B> {
         ensures { SendsLines (B.Pass.receipts pass.old) (B.Pass.receipts pass.new) duties.old.out.items duties.new.out.items }
     {
         for index in settled.lines.own..end {
-            if duties.in_flight >= MOST_IN_FLIGHT {
+            if duties.in_flight.is_full() {
                 return Ok(Some(Progress::Part));
             }
             let news = match pass.receipts().get(index) {

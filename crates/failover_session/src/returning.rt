@@ -1,12 +1,14 @@
 //! How the two ends come together again: after a restart, and after a time in which one took the other for down.
 
 ghost use Rattle.std.specs.Prelude.{◌≡◌};
+ghost use Rattle.failover_session.specs.OutboundFrames.{meanings_of};
 ghost use Rattle.failover_session.specs.Sessions.{SendsLines};
 
 use crate::book::{PairBook, Receipts};
 use crate::error::SessionError;
 use crate::link_endpoint::LinkEndpoint;
 use crate::session_state::{ResendRequest, SessionState};
+use crate::updates_done::is_request_due;
 use binding_rules::{Role, ServerState};
 use failover_message::FrameKind;
 use order_book::Order;
@@ -41,6 +43,24 @@ impl<'a, B: PairBook> LinkEndpoint<'a, B> {
     {
         if self.work(pass, 0)?.waiting {
             self.order(pass, duties, &Order::SendContact)?;
+        }
+        Ok(())
+    }
+
+    /// Asks the partner for what is due, where it didn't say in time that it told all.
+    pub(crate) fn ask_for_updates(
+        &self,
+        duties: &mut SessionState,
+        told_all: bool,
+    ) -> Result<(), SessionError>
+        ensures { meanings_of duties.new.out.items ≡ meanings_of duties.old.out.items }
+    {
+        if duties.joined.is_none() {
+            duties.joined = self.at;
+        }
+        if is_request_due(told_all, duties.has_asked, duties.joined, self.at) {
+            duties.push_control_frame(FrameKind::UpdateRequest)?;
+            duties.has_asked = true;
         }
         Ok(())
     }

@@ -5,14 +5,16 @@ ghost use Rattle.failover_session.specs.OutboundFrames.{meanings_of, sends_above
 ghost use Rattle.failover_session.specs.Sessions.{SendsLines};
 
 use crate::book::{PairBook, Receipts};
+use crate::crossing::is_held_back;
 use crate::error::SessionError;
 use crate::link_endpoint::{LinkEndpoint, OrderOutcome};
 use crate::outbox::OutboundFrame;
+use crate::policy::SessionPolicy;
 use crate::sent_state::last_taken;
 use crate::session_state::{
-    Backlog, MOST_IN_FLIGHT, ResendRequest, SentUpTo, SessionState, UpdateKind, UpdateRound,
-    lines_at,
+    Backlog, ResendRequest, SentUpTo, SessionState, UpdateKind, UpdateRound, lines_at,
 };
+use crate::updates_done::{RoundEnd, round_end};
 use binding_rules::{Counter, Role, Status, Unit};
 use book_state::MOST_UNITS;
 use failover_message::FrameKind;
@@ -78,7 +80,8 @@ pub(crate) fn sent_above(
 }
 
 impl<'a, B: PairBook> LinkEndpoint<'a, B> {
-    /// Returns whether a unit's update is to be sent: there is one, and it wasn't sent yet, or is asked for again.
+    /// Returns whether a unit's update is to be sent: there is one, and it wasn't sent yet and isn't held back, or it is
+    /// asked for again.
     fn needs_update(
         &self,
         pass: &mut B::Pass,
@@ -100,7 +103,11 @@ impl<'a, B: PairBook> LinkEndpoint<'a, B> {
             return Ok(true);
         }
         duties.told.catch_up(pass.receipts())?;
-        Ok(!duties.told.was_sent(prefix, status, unit.mine))
+        let raise = duties.told.last_raise(prefix);
+        Ok(
+            !duties.told.was_sent(prefix, status, unit.mine)
+                && !is_held_back(self.policy, self.role, status, raise),
+        )
     }
 
     /// Sends a unit's update, if it is to be sent. None where there is none.
@@ -119,7 +126,7 @@ impl<'a, B: PairBook> LinkEndpoint<'a, B> {
         }
         let fate = self.order(pass, duties, &Order::SendUpdate(*prefix))?;
         if let OrderOutcome::Done = fate {
-            duties.in_flight = duties.in_flight.saturating_add(1);
+            duties.in_flight.add(self.at)?;
         }
         Ok(Some(fate))
     }
@@ -177,7 +184,7 @@ impl<'a, B: PairBook> LinkEndpoint<'a, B> {
         ensures { SendsLines (B.Pass.receipts pass.old) (B.Pass.receipts pass.new) duties.old.out.items duties.new.out.items }
     {
         for _unit in 0..MOST_UNITS {
-            if duties.in_flight >= MOST_IN_FLIGHT {
+            if duties.in_flight.is_full() {
                 return Ok(Progress::Part);
             }
             let Some(prefix) = self.next_of(pass, round.matter, round.from)? else {
@@ -220,7 +227,8 @@ impl<'a, B: PairBook> LinkEndpoint<'a, B> {
         self.send_each_update(pass, duties, round)
     }
 
-    /// Returns what there is to do, once the lowest lease that has ended is ended.
+    /// Returns what there is to do: in a run of a node once the lowest lease that has ended is ended. A daemon's session
+    /// ends none: whether the partner may have renewed it, it doesn't know alone.
     #[tactic(auto, using(crate::proofs::Saying::saying))]
     fn work_left(
         &self,
@@ -230,6 +238,9 @@ impl<'a, B: PairBook> LinkEndpoint<'a, B> {
         ensures { SendsLines (B.Pass.receipts pass.old) (B.Pass.receipts pass.new) duties.old.out.items duties.new.out.items }
     {
         let work = self.work(pass, 0)?;
+        if self.policy == SessionPolicy::Serve {
+            return Ok(work);
+        }
         let Some(prefix) = &work.expired else {
             return Ok(work);
         };
@@ -252,11 +263,12 @@ impl<'a, B: PairBook> LinkEndpoint<'a, B> {
         };
         if let Progress::All = progress {
             duties.settled = Some(round.settles);
-            match duties.again {
-                ResendRequest::Nothing => {}
-                ResendRequest::Due => duties.push_control_frame(FrameKind::UpdateDone)?,
-                ResendRequest::All => duties.owes_done = true,
+            match round_end(self.policy, duties.again, !duties.has_told_all) {
+                RoundEnd::Silent => {}
+                RoundEnd::Done => duties.push_control_frame(FrameKind::UpdateDone)?,
+                RoundEnd::DoneOnceUnmarked => duties.owes_done = true,
             }
+            duties.has_told_all = true;
             duties.again = ResendRequest::Nothing;
         }
         Ok(())
@@ -340,18 +352,29 @@ impl<'a, B: PairBook> LinkEndpoint<'a, B> {
         self.tell_by(pass, duties, &now, standing)
     }
 
-    /// Ends the lowest lease that has ended, and sends what is to be sent. A turn in which there is nothing new costs
-    /// one look at the book.
+    /// Ends the lowest lease that has ended, in a run of a node, and sends lines, replies and updates.
     #[tactic(auto, using(crate::proofs::Saying::saying))]
-    pub(crate) fn send_all(
-        &self,
-        pass: &mut B::Pass,
-        duties: &mut SessionState,
-    ) -> Result<(), SessionError>
+    fn send_lines(&self, pass: &mut B::Pass, duties: &mut SessionState) -> Result<(), SessionError>
         ensures { SendsLines (B.Pass.receipts pass.old) (B.Pass.receipts pass.new) duties.old.out.items duties.new.out.items }
     {
         let work = self.work_left(pass, duties)?;
         self.send_replies_and_updates(pass, duties, &work)?;
         self.finish_round(pass, duties)
+    }
+
+    /// Sends what is to be sent: a request for updates, where one is due, and then all else. A turn in which there is
+    /// nothing new costs one look at the book.
+    #[tactic(auto, using(crate::proofs::Saying::saying))]
+    pub(crate) fn send_all(
+        &self,
+        pass: &mut B::Pass,
+        duties: &mut SessionState,
+        told_all: bool,
+    ) -> Result<(), SessionError>
+        ensures { SendsLines (B.Pass.receipts pass.old) (B.Pass.receipts pass.new) duties.old.out.items duties.new.out.items }
+    {
+        duties.in_flight.let_go(self.at);
+        self.ask_for_updates(duties, told_all)?;
+        self.send_lines(pass, duties)
     }
 }

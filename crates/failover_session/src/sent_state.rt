@@ -3,6 +3,7 @@
 ghost use Rattle.std.specs.Prelude.{◌≡◌};
 ghost use Rattle.failover_session.specs.Receipts.{last_taken, last_sent};
 
+use crate::raising::{LastRaise, Raises};
 use binding_rules::{BindReply, Body, Counter, Outcome, PartnerMessage, Status, Update};
 use journal_lines::{Event, KeptUnit};
 use locked_book::Receipt;
@@ -55,6 +56,8 @@ struct SentUpdate {
 pub(crate) struct SentState {
     /// How many of the receipts were looked at.
     seen: usize,
+    /// How many there were when the connection began.
+    begun: usize,
     /// The term of the book's messages, as far as the receipts tell.
     pub term: u32,
     /// The serial of the message that was sent last: 0 where none was.
@@ -67,6 +70,7 @@ pub(crate) struct SentState {
     changes_before: BTreeMap<u128, Counter>,
     /// By the address at which a unit begins.
     updates: BTreeMap<u128, SentUpdate>,
+    raises: Raises,
 }
 
 impl SentState {
@@ -74,11 +78,13 @@ impl SentState {
     pub(crate) fn nothing(alloc: Global) -> SentState {
         SentState {
             seen: 0,
+            begun: 0,
             term: 0,
             sent: Counter::ZERO,
             answered: Counter::ZERO,
             changes_before: BTreeMap::new(alloc),
             updates: BTreeMap::new(alloc),
+            raises: Raises::none(alloc),
         }
     }
 
@@ -165,6 +171,7 @@ impl SentState {
     /// refused.
     pub(crate) fn catch_up(&mut self, receipts: &[Receipt]) -> Result<(), AllocError> {
         for index in self.seen..receipts.len() {
+            self.raises.note(index, &receipts[index])?;
             match &receipts[index].line.event {
                 Event::Send(message) => self.note_sent(message)?,
                 Event::Take(message) => self.note_taken(message, &receipts[index].reply),
@@ -175,6 +182,18 @@ impl SentState {
         }
         self.seen = receipts.len();
         Ok(())
+    }
+
+    /// Looks at the receipts with which a connection begins.
+    pub(crate) fn begin(&mut self, receipts: &[Receipt]) -> Result<(), AllocError> {
+        self.catch_up(receipts)?;
+        self.begun = receipts.len();
+        Ok(())
+    }
+
+    /// What raised a unit's number of changes last.
+    pub(crate) fn last_raise(&self, prefix: &Prefix) -> LastRaise {
+        self.raises.last_raise(prefix, self.begun)
     }
 
     /// Returns whether the last update of a unit told this status and change in the book's term: what was told in a

@@ -1,6 +1,6 @@
 //! The talk of one connection.
 
-ghost use Rattle.std.specs.Prelude.{◌≡◌, ◌++◌, [], OnOk, OnErr, IsErrOf};
+ghost use Rattle.std.specs.Prelude.{◌≡◌, ◌++◌, [], false, OnOk, OnErr, IsErrOf};
 ghost use Rattle.failover_session.specs.declared.error.SessionError.{SessionError as Error};
 ghost use Rattle.failover_session.specs.declared.error.SessionError.TheVariants.{Memory};
 ghost use Rattle.failover_session.specs.declared.stage.SessionStage.TheVariants.{Greeting};
@@ -9,6 +9,7 @@ ghost use Rattle.failover_session.specs.OutboundFrames.{meanings_of, opening};
 ghost use Rattle.failover_session.specs.Sessions.{SendsLines, met_at, IsGoing};
 ghost use Rattle.failover_session.specs.Polling.{IsPoll, IsWholePoll};
 ghost use Rattle.failover_session.specs.Shortage.{SaysWhyShort};
+ghost use Rattle.failover_session.specs.TellingAll.{HasToldAll};
 
 use crate::book::{PairBook, Receipts};
 use crate::error::SessionError;
@@ -19,6 +20,7 @@ use crate::policy::SessionPolicy;
 use crate::sent_state::last_taken;
 use crate::session_state::SessionState;
 use crate::stage::SessionStage;
+use crate::updates_done::says_all;
 use binding_rules::Role;
 use failover_message::{Feed, LinkError};
 use lead_time::Reading;
@@ -26,15 +28,20 @@ use server_settings::Settings;
 use std::alloc::Global;
 use std::marker::Model;
 use std::mem;
+use std::time::Instant;
 
 /// The talk of one connection with the partner. Contracts see by which policy it judges, the octets that it holds of a frame that hasn't come
-/// whole, how far the two ends have come, and the frames that are to be written.
+/// whole, how far the two ends have come, whether the partner has said that it told all, and the frames that are to be written.
 #[derive(Drop)]
 pub struct FailoverSession {
     alloc: Global,
     policy: SessionPolicy,
     feed: Feed,
     stage: SessionStage,
+    /// Whether the partner has said over this connection that it told all (UPDDONE).
+    told_all: bool,
+    /// What the monotonic clock showed last, of a daemon's session.
+    at: Option<Instant>,
     duties: SessionState,
 }
 
@@ -47,6 +54,7 @@ impl Model for FailoverSession {
       policy = t.policy;
       held = t.feed;
       stage = t.stage;
+      told_all = t.told_all;
       handed = t.duties.out.items;
     } };
 }
@@ -58,6 +66,7 @@ fn handle_input<B: PairBook>(
     pass: &mut B::Pass,
     feed: &mut Feed,
     stage: &mut SessionStage,
+    told_all: &mut bool,
     duties: &mut SessionState,
     came: &LinkInput<'_>,
 ) -> Result<(), SessionError>
@@ -66,6 +75,8 @@ fn handle_input<B: PairBook>(
     ensures whole { OnOk result (IsGoing stage.new → IsWholePoll end.now.role came.now feed.old feed.new
         (met_at stage.old) (met_at stage.new) (B.Pass.receipts pass.old) (B.Pass.receipts pass.new)
         duties.old.out.items duties.new.out.items) }
+    ensures told { OnOk result (HasToldAll came.now feed.old told_all.old told_all.new) }
+    ensures untold { OnErr result (told_all.new ≡ told_all.old) }
     ensures why { IsGoing stage.old → SaysWhyShort end.now.policy (B.Pass.receipts pass.new) stage.new }
 {
     match came {
@@ -75,7 +86,9 @@ fn handle_input<B: PairBook>(
                 Err(LinkError::Memory) => return Err(SessionError::Memory),
                 Err(_) => return Err(SessionError::Frame),
             };
-            end.handle_frames(pass, duties, stage, &frames)
+            end.handle_frames(pass, duties, stage, &frames)?;
+            *told_all = *told_all || says_all(&frames);
+            Ok(())
         }
         LinkInput::Idle => end.handle_idle(pass, duties, stage),
         LinkInput::HeartbeatDue => end.handle_heartbeat(pass, duties, stage),
@@ -93,6 +106,7 @@ fn poll_session<B: PairBook>(
     pass: &mut B::Pass,
     feed: &mut Feed,
     stage: &mut SessionStage,
+    told_all: &mut bool,
     duties: &mut SessionState,
     came: &LinkInput<'_>,
 ) -> Result<(), SessionError>
@@ -101,11 +115,12 @@ fn poll_session<B: PairBook>(
     ensures whole { OnOk result (IsGoing stage.new → IsWholePoll end.now.role came.now feed.old feed.new
         (met_at stage.old) (met_at stage.new) (B.Pass.receipts pass.old) (B.Pass.receipts pass.new)
         duties.old.out.items duties.new.out.items) }
+    ensures told { OnOk result (HasToldAll came.now feed.old told_all.old told_all.new) }
     ensures why { IsGoing stage.old → SaysWhyShort end.now.policy (B.Pass.receipts pass.new) stage.new }
 {
-    handle_input(end, pass, feed, stage, duties, came)?;
+    handle_input(end, pass, feed, stage, told_all, duties, came)?;
     match stage {
-        SessionStage::Joined { .. } => end.send_all(pass, duties),
+        SessionStage::Joined { .. } => end.send_all(pass, duties, *told_all),
         SessionStage::Greeting
         | SessionStage::Refused
         | SessionStage::Ended { .. }
@@ -116,14 +131,32 @@ fn poll_session<B: PairBook>(
 impl FailoverSession {
     /// The talk of a connection that begins, by a policy.
     pub fn new(alloc: Global, policy: SessionPolicy) -> FailoverSession
-        ensures { result ≡ record { policy = policy; held = []; stage = Greeting; handed = [] } }
+        ensures { result ≡ record {
+          policy = policy;
+          held = [];
+          stage = Greeting;
+          told_all = false;
+          handed = [];
+        } }
     {
         FailoverSession {
             alloc,
             policy,
             feed: Feed::new(alloc),
             stage: SessionStage::Greeting,
+            told_all: false,
+            at: None,
             duties: SessionState::new(alloc),
+        }
+    }
+
+    /// What the monotonic clock shows at the turns that follow. By it a daemon's session counts for how long it waits for
+    /// a reply; any other passes it over.
+    pub fn see_clock(&mut self, now: Instant)
+        ensures { self.new ≡ self.old }
+    {
+        if self.policy == SessionPolicy::Serve {
+            self.at = Some(now);
         }
     }
 
@@ -132,6 +165,14 @@ impl FailoverSession {
         ensures { result ≡ self.now.stage }
     {
         self.stage
+    }
+
+    /// Returns whether the partner has said over this connection that it told all that there was to tell (UPDDONE): by
+    /// then this server has taken all of it.
+    pub fn partner_told_all(&self) -> bool
+        ensures { result ≡ self.now.told_all }
+    {
+        self.told_all
     }
 
     /// Returns whether the partner said over this connection that it waits for an answer: it asked for all updates
@@ -149,13 +190,14 @@ impl FailoverSession {
     ) -> Result<(), SessionError>
         ensures policy { self.new.policy ≡ self.old.policy }
         ensures stage { self.new.stage ≡ self.old.stage }
+        ensures told { self.new.told_all ≡ self.old.told_all }
         ensures held { self.new.held ≡ self.old.held }
         ensures said { OnOk result (meanings_of self.new.handed
             ≡ meanings_of self.old.handed ++ opening settings.now.role (P.receipts pass.now)) }
         ensures nothing { OnErr result (self.new.handed ≡ self.old.handed) }
         ensures memory { (e : Error) → IsErrOf result e → e ≡ Memory }
     {
-        self.duties.told.catch_up(pass.receipts())?;
+        self.duties.told.begin(pass.receipts())?;
         match settings.role() {
             Role::Primary => {
                 let last = last_taken(pass.receipts());
@@ -191,6 +233,7 @@ impl FailoverSession {
             (B.Pass.receipts pass.old) (B.Pass.receipts pass.new) self.old.handed self.new.handed }
         ensures next { Goes (B.Pass.receipts pass.old) (B.Pass.receipts pass.new) }
         ensures policy { self.new.policy ≡ self.old.policy }
+        ensures told { OnOk result (HasToldAll came.now self.old.held self.old.told_all self.new.told_all) }
         ensures why { IsGoing self.old.stage → SaysWhyShort self.old.policy (B.Pass.receipts pass.new) self.new.stage }
         ensures whole { OnOk result (IsGoing self.new.stage → IsWholePoll settings.now.role came.now self.old.held
             self.new.held (met_at self.old.stage) (met_at self.new.stage) (B.Pass.receipts pass.old)
@@ -203,12 +246,14 @@ impl FailoverSession {
             policy: self.policy,
             settings,
             reading: now,
+            at: self.at,
         };
         poll_session(
             &end,
             pass,
             &mut self.feed,
             &mut self.stage,
+            &mut self.told_all,
             &mut self.duties,
             came,
         )

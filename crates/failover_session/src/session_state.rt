@@ -3,16 +3,14 @@
 ghost use Rattle.std.specs.Prelude.{◌≡◌, ◌<◌, ◌++◌, ◌∷◌, [], vec_len, vec_capacity, OnOk, OnErr};
 ghost use Rattle.failover_session.specs.OutboundFrames.{IsWord, meanings_of, sends_of};
 
+use crate::in_flight::InFlight;
 use crate::messages::word;
 use crate::outbox::OutboundFrame;
 use crate::sent_state::SentState;
 use failover_message::FrameKind;
 use locked_book::{PendingWork, Receipt};
 use std::alloc::{AllocError, Global};
-
-/// How many updates may be under way, at most: with so many unanswered an end reads on, so that neither end writes
-/// while the other doesn't read.
-pub(crate) const MOST_IN_FLIGHT: usize = 256;
+use std::time::Instant;
 
 /// The updates that the partner asked to be told again (RFC 8156, section 5: UPDREQ, UPDREQALL).
 #[derive(Clone, Copy, PartialEq, Eq)]
@@ -87,8 +85,13 @@ pub(crate) struct SessionState {
     pub round: Option<UpdateRound>,
     /// How far all is told. None where it isn't known: then a round looks for it.
     pub settled: Option<SentUpTo>,
-    /// How many updates were sent of which no reply came yet.
-    pub in_flight: usize,
+    /// Whether all that there was to tell was told over this connection.
+    pub has_told_all: bool,
+    /// When the two had joined, by the first turn in which that is known.
+    pub joined: Option<Instant>,
+    /// Whether the partner was asked for the updates that are due (UPDREQ).
+    pub has_asked: bool,
+    pub in_flight: InFlight,
 }
 
 /// Returns how many lines other passes and this one have added, where this one has so many receipts.
@@ -122,7 +125,10 @@ impl SessionState {
             awaits_units: false,
             round: None,
             settled: None,
-            in_flight: 0,
+            has_told_all: false,
+            joined: None,
+            has_asked: false,
+            in_flight: InFlight::none(alloc),
         }
     }
 

@@ -7,10 +7,12 @@ ghost use Rattle.failover_session.specs.Sessions.{met_at, Unmet, Named};
 ghost use Rattle.failover_session.specs.Shortage.{IsShortage, SaysWhyShort};
 
 use crate::book::{PairBook, Receipts};
+use crate::crossing::is_told_first;
 use crate::error::SessionError;
-use crate::link_endpoint::LinkEndpoint;
+use crate::link_endpoint::{LinkEndpoint, OrderOutcome};
 use crate::messages::message_in;
 use crate::policy::SessionPolicy;
+use crate::raising::LastRaise;
 use crate::sending::{answer, sent_above};
 use crate::sent_state::{last_sent, last_taken};
 use crate::session_state::{ResendRequest, SessionState};
@@ -19,6 +21,7 @@ use crate::stage::SessionStage;
 use binding_rules::{Acknowledgement, BindReply, Body, Counter, PartnerMessage, Role, Status};
 use failover_message::{Frame, FrameKind};
 use order_book::Order;
+use prefix_range::Prefix;
 
 /// Whether the talk goes on behind a frame.
 #[derive(Clone, Copy)]
@@ -130,6 +133,60 @@ impl<'a, B: PairBook> LinkEndpoint<'a, B> {
         Ok(())
     }
 
+    /// What raised a unit's number of changes last.
+    fn last_raise(
+        &self,
+        pass: &B::Pass,
+        duties: &mut SessionState,
+        prefix: &Prefix,
+    ) -> Result<LastRaise, SessionError>
+        ensures { duties.new.out.items ≡ duties.old.out.items }
+    {
+        duties.told.catch_up(pass.receipts())?;
+        Ok(duties.told.last_raise(prefix))
+    }
+
+    /// Asks before a message is taken whether this server tells its own change of the unit before it replies.
+    fn tells_first(
+        &self,
+        pass: &mut B::Pass,
+        duties: &mut SessionState,
+        message: &PartnerMessage,
+    ) -> Result<bool, SessionError>
+        ensures pass { B.Pass.receipts pass.new ≡ B.Pass.receipts pass.old }
+        ensures out { duties.new.out.items ≡ duties.old.out.items }
+    {
+        let Body::Update(update) = &message.body else {
+            return Ok(false);
+        };
+        let raise = self.last_raise(pass, duties, &update.prefix)?;
+        if raise == LastRaise::Own || self.policy == SessionPolicy::Run {
+            return Ok(false);
+        }
+        let look = self.look(pass, &update.prefix)?;
+        Ok(match &look.unit {
+            Some(was) => is_told_first(self.policy, was, raise, update),
+            None => false,
+        })
+    }
+
+    /// Tells this server's own change of a unit of which an update was taken. The reply to that follows at the end of
+    /// the turn.
+    #[tactic(auto, using(crate::proofs::Saying::saying))]
+    fn tell_first(
+        &self,
+        pass: &mut B::Pass,
+        duties: &mut SessionState,
+        prefix: &Prefix,
+    ) -> Result<(), SessionError>
+        ensures { SendsLines (B.Pass.receipts pass.old) (B.Pass.receipts pass.new) duties.old.out.items duties.new.out.items }
+    {
+        if let OrderOutcome::Done = self.order(pass, duties, &Order::SendUpdate(*prefix))? {
+            duties.in_flight.add(self.at)?;
+        }
+        Ok(())
+    }
+
     /// Does what a message asks of the end that was just taken.
     #[tactic(auto, using(crate::proofs::Saying::saying))]
     fn follow(
@@ -138,13 +195,16 @@ impl<'a, B: PairBook> LinkEndpoint<'a, B> {
         duties: &mut SessionState,
         body: &Body,
         is_accepted: bool,
+        tells_first: bool,
     ) -> Result<(), SessionError>
         ensures { SendsLines (B.Pass.receipts pass.old) (B.Pass.receipts pass.new) duties.old.out.items duties.new.out.items }
     {
         match body {
             Body::Reply(reply) => {
                 duties.told.catch_up(pass.receipts())?;
-                duties.in_flight = duties.told.under_way_behind(reply, duties.in_flight);
+                let before = duties.in_flight.count();
+                let left = duties.told.under_way_behind(reply, before);
+                duties.in_flight.keep_last(left);
                 self.reclaim_rejected(pass, duties, reply)
             }
             Body::Contact { ask, .. } => {
@@ -152,6 +212,9 @@ impl<'a, B: PairBook> LinkEndpoint<'a, B> {
                     duties.owes_contact = true;
                 }
                 self.ask_again(pass, duties)
+            }
+            Body::Update(update) if is_accepted && tells_first => {
+                self.tell_first(pass, duties, &update.prefix)
             }
             Body::Update(_) => Ok(()),
         }
@@ -178,8 +241,9 @@ impl<'a, B: PairBook> LinkEndpoint<'a, B> {
         if message.serial.number() > last.number() + 1 {
             return Err(SessionError::Frame);
         }
+        let tells_first = self.tells_first(pass, duties, message)?;
         let is_accepted = self.take_in(pass, message)?;
-        self.follow(pass, duties, &message.body, is_accepted)
+        self.follow(pass, duties, &message.body, is_accepted, tells_first)
     }
 
     /// A frame between the first and the last that carries no message.
@@ -222,7 +286,7 @@ impl<'a, B: PairBook> LinkEndpoint<'a, B> {
         ensures { Handles self.now.role [] (met_at stage.now) (met_at stage.now)
             (B.Pass.receipts pass.old) (B.Pass.receipts pass.new) duties.old.out.items duties.new.out.items }
     {
-        duties.in_flight = 0;
+        duties.in_flight.let_all_go();
         match stage {
             SessionStage::Joined { .. } => self.ask_if_needed(pass, duties),
             SessionStage::Greeting

@@ -1,6 +1,7 @@
 //! Why a server doesn't start.
 
-use disk_model::DeviceError;
+use disk_files::advice_of;
+use disk_model::{BeginError, DeviceError};
 use locked_book::ServeError;
 use server_core::{BeginFault, RollFault};
 use server_start::StartError;
@@ -23,6 +24,9 @@ pub enum RollFailure {
     /// The next volume wasn't begun.
     #[error("the next volume isn't begun")]
     NotBegun,
+    /// The same, since the disk is full.
+    #[error("the next volume isn't begun: {}", DeviceError::NoSpace)]
+    NoSpace,
     /// A growth was refused.
     #[error("out of memory")]
     Memory,
@@ -37,16 +41,30 @@ impl RollFailure {
             RollFault::NotRolled(RollError::NotEnded(error)) => RollFailure::NotEnded(error),
             RollFault::NotRolled(RollError::NotBegun(BeginVolumeError::Memory))
             | RollFault::Memory => RollFailure::Memory,
+            RollFault::NotRolled(RollError::NotBegun(error)) if is_no_space(&error) => {
+                RollFailure::NoSpace
+            }
             RollFault::NotRolled(RollError::NotBegun(_)) => RollFailure::NotBegun,
         }
     }
+}
+
+/// Returns whether a volume wasn't begun since the disk is full.
+fn is_no_space<D: Drop>(error: &BeginVolumeError<D>) -> bool {
+    matches!(
+        error,
+        BeginVolumeError::Disk(BeginError {
+            error: DeviceError::NoSpace,
+            ..
+        })
+    )
 }
 
 /// Why a server doesn't start with its folder.
 #[derive(Debug, Drop, Error)]
 pub enum StartFailure {
     /// The files can't be read.
-    #[error("the volumes can't be read: {0}")]
+    #[error("the volumes can't be read: {}{}", .0, advice_of(.0))]
     Unread(io::Error),
     /// A clock tells no time.
     #[error("the clock tells no time")]
@@ -79,6 +97,9 @@ pub enum StartFailure {
     /// The volume isn't begun: the disk failed, or it has no text.
     #[error("the volume isn't begun")]
     NotBegun,
+    /// The same, since the disk is full.
+    #[error("the volume isn't begun: {}", DeviceError::NoSpace)]
+    NoSpace,
     /// The last volume isn't followed.
     #[error("the last volume isn't followed: {0}")]
     NotRolled(RollFailure),
@@ -99,6 +120,7 @@ impl StartFailure {
             BeginFault::NotBegun(BeginVolumeError::Memory) | BeginFault::Memory => {
                 StartFailure::Memory
             }
+            BeginFault::NotBegun(error) if is_no_space(&error) => StartFailure::NoSpace,
             BeginFault::NotBegun(_) => StartFailure::NotBegun,
             BeginFault::NotRolled(fault) => StartFailure::NotRolled(RollFailure::of(fault)),
             BeginFault::NotRestarted(refusal) => StartFailure::NotRestarted(refusal),

@@ -1,5 +1,8 @@
 //! What the words of the command line ask.
 
+ghost use Rattle.std.specs.Prelude.{◌≡◌, IfOk, codes, option_map, string_bytes};
+ghost use Rattle.clap.specs.Matches.{first_value, found_of};
+
 use crate::error::ArgsError;
 use clap::error::ErrorKind;
 use clap::{Arg, ArgAction, ArgMatches, Command as ClapCommand, Error as ClapError};
@@ -14,8 +17,10 @@ const MOST_DATAGRAMS: u32 = 1_000_000;
 /// A command of the node.
 #[derive(Debug, Drop)]
 pub enum NodeCommand {
-    /// By the settings on standard input.
-    Once(TrialCommand),
+    /// Say what settings are worth.
+    Check(CheckCommand),
+    /// Serve some datagrams, and write the journal.
+    Run(RunCommand),
     /// Serve a directory until a person says to stop.
     Serve(ServeCommand),
     /// Ask the server of a directory.
@@ -25,16 +30,19 @@ pub enum NodeCommand {
     },
 }
 
-/// A command that takes its settings on standard input.
+/// What is checked: the settings of a file, or those on standard input where none is named. Where a file is named that
+/// has the partner's, also whether the two go together.
+#[derive(Debug, Drop)]
+pub struct CheckCommand {
+    pub settings: Option<String>,
+    pub partner: Option<String>,
+}
+
+/// How many datagrams are served, by the settings on standard input.
 #[derive(Clone, Copy, Debug, PartialEq, Eq)]
-pub enum TrialCommand {
-    /// Say what the settings are worth.
-    Check,
-    /// Serve so many datagrams, and write the journal.
-    Run {
-        count: u32,
-        partner: PartnerAvailability,
-    },
+pub struct RunCommand {
+    pub count: u32,
+    pub partner: PartnerAvailability,
 }
 
 /// What is served: a directory, by the settings of a file, or of the directory's own where none is named.
@@ -58,6 +66,18 @@ fn with_option<'a>(
             .required(required)
             .action(action),
     )
+}
+
+/// `check [--settings FILE] [--partner FILE]`.
+fn check_command<'a>(alloc: Global) -> Result<ClapCommand<'a>, AllocError> {
+    let check = with_option(
+        alloc,
+        ClapCommand::new(alloc, "check"),
+        "settings",
+        false,
+        ArgAction::Set,
+    )?;
+    with_option(alloc, check, "partner", false, ArgAction::Set)
 }
 
 /// `run --count N [--partner-down]`.
@@ -112,8 +132,9 @@ fn vouching_command<'a>(alloc: Global, name: &'a str) -> Result<ClapCommand<'a>,
     )
 }
 
-/// The commands that take their settings on standard input, and those about a directory.
+/// The commands that say what settings are worth or try them, and those about a directory.
 pub(crate) fn node_command<'a>(alloc: Global) -> Result<ClapCommand<'a>, AllocError> {
+    let check = check_command(alloc)?;
     let run = run_command(alloc)?;
     let serve = serve_command(alloc)?;
     let status = status_command(alloc)?;
@@ -125,7 +146,7 @@ pub(crate) fn node_command<'a>(alloc: Global) -> Result<ClapCommand<'a>, AllocEr
     ClapCommand::new(alloc, "node_cli")
         .subcommand_required(true)
         .disable_help_subcommand(true)
-        .subcommand(ClapCommand::new(alloc, "check"))?
+        .subcommand(check)?
         .subcommand(run)?
         .subcommand(serve)?
         .subcommand(status)?
@@ -180,15 +201,34 @@ fn text_given(alloc: Global, options: &ArgMatches, name: &str) -> Result<String,
     }
 }
 
+/// The file that an option names, where it is given.
+fn file_given(alloc: Global, options: &ArgMatches, name: &str) -> Result<Option<String>, AllocError>
+    ensures { IfOk result (λ file. option_map string_bytes file ≡ first_value (found_of options.now) name.now) }
+{
+    match options.get_str(name) {
+        Some(file) => Ok(Some(String::from_str(alloc, file)?)),
+        None => Ok(None),
+    }
+}
+
+/// What is checked.
+fn checked_given(alloc: Global, options: &ArgMatches) -> Result<CheckCommand, AllocError>
+    ensures settings { IfOk result (λ check. option_map string_bytes check.settings
+        ≡ first_value (found_of options.now) (codes "settings")) }
+    ensures partner { IfOk result (λ check. option_map string_bytes check.partner
+        ≡ first_value (found_of options.now) (codes "partner")) }
+{
+    Ok(CheckCommand {
+        settings: file_given(alloc, options, "settings")?,
+        partner: file_given(alloc, options, "partner")?,
+    })
+}
+
 /// What is served.
 fn served_given(alloc: Global, options: &ArgMatches) -> Result<ServeCommand, ArgsError> {
-    let settings = match options.get_str("settings") {
-        Some(file) => Some(String::from_str(alloc, file)?),
-        None => None,
-    };
     Ok(ServeCommand {
         directory: text_given(alloc, options, "dir")?,
-        settings,
+        settings: file_given(alloc, options, "settings")?,
     })
 }
 
@@ -219,9 +259,9 @@ fn command_in(alloc: Global, matches: &ArgMatches) -> Result<NodeCommand, ArgsEr
         return Err(ArgsError::Usage);
     };
     match name {
-        "check" => Ok(NodeCommand::Once(TrialCommand::Check)),
+        "check" => Ok(NodeCommand::Check(checked_given(alloc, options)?)),
         "run" => match count_given(options) {
-            Some(count) => Ok(NodeCommand::Once(TrialCommand::Run {
+            Some(count) => Ok(NodeCommand::Run(RunCommand {
                 count,
                 partner: partner_given(options),
             })),

@@ -13,5 +13,5 @@ mod command;
 mod error;
 
 pub use advice::advice_of;
-pub use command::{NodeCommand, ServeCommand, TrialCommand, command_of};
+pub use command::{CheckCommand, NodeCommand, RunCommand, ServeCommand, command_of};
 pub use error::ArgsError;

@@ -4,7 +4,7 @@ use crate::fault::NodeFault;
 use node_daemon::CONTROL;
 use server_status::{ControlReply, ControlRequest, ControlVerdict};
 use std::alloc::Global;
-use std::io::{Read, Write};
+use std::io::{self, ErrorKind, Read, Write};
 use std::net::Net;
 use std::os::unix::net::UnixStream;
 use std::path::Path;
@@ -16,15 +16,31 @@ const LONGEST_WAIT: u64 = 30;
 /// The most octets of an answer.
 const MOST_OCTETS: u64 = 1 << 20;
 
-/// What the server answers to a request; `None` where no server runs in the directory, or it doesn't answer.
+/// Why a server isn't reached at its socket: who asks may not, or it doesn't run.
+fn fault_of(error: &io::Error) -> NodeFault {
+    match error.kind() {
+        ErrorKind::PermissionDenied => NodeFault::NotPermitted,
+        _ => NodeFault::Silent,
+    }
+}
+
+/// What the server answers to a request. `NotPermitted` where who asks may not reach its socket; `Silent` where no
+/// server runs in the directory, or it doesn't answer.
 fn answer_of(
     net: &impl Net,
     alloc: Global,
     directory: &str,
     request: &ControlRequest,
-) -> Option<Vec<u8>> {
-    let path = Path::new(directory).join(alloc, CONTROL).ok()?;
-    let mut stream = UnixStream::connect(net, path.as_path().as_str()).ok()?;
+) -> Result<Vec<u8>, NodeFault> {
+    let path = Path::new(directory).join(alloc, CONTROL)?;
+    match UnixStream::connect(net, path.as_path().as_str()) {
+        Ok(stream) => asked(alloc, stream, request).ok_or(NodeFault::Silent),
+        Err(error) => Err(fault_of(&error)),
+    }
+}
+
+/// What is answered to a request over a stream; `None` where nothing is.
+fn asked(alloc: Global, mut stream: UnixStream, request: &ControlRequest) -> Option<Vec<u8>> {
     let longest = Some(Duration::from_secs(LONGEST_WAIT));
     stream.set_read_timeout(longest).ok()?;
     stream.write_all(request.words().as_bytes()).ok()?;
@@ -35,17 +51,15 @@ fn answer_of(
 }
 
 /// Asks the server of a directory, and says what it answers: its text on standard output, or on standard error why it
-/// refuses. Gives the status: 0 where it was done, 1 where it was refused. `Silent` where no server runs there, or what
-/// it says is no answer.
+/// refuses. Gives the status: 0 where it was done, 1 where it was refused. `NotPermitted` where who asks may not reach
+/// its socket; `Silent` where no server runs there, or what it says is no answer.
 pub fn ask(
     rt: &HostRuntime,
     net: &impl Net,
     directory: &str,
     request: &ControlRequest,
 ) -> Result<u8, NodeFault> {
-    let Some(octets) = answer_of(net, rt.alloc(), directory, request) else {
-        return Err(NodeFault::Silent);
-    };
+    let octets = answer_of(net, rt.alloc(), directory, request)?;
     let Ok(words) = str::from_utf8(&octets) else {
         return Err(NodeFault::Silent);
     };

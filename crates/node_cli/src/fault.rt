@@ -27,6 +27,9 @@ pub enum NodeFault {
     /// No server answers.
     #[error("no server answers in this directory")]
     Silent,
+    /// The server's user alone may ask it, and root.
+    #[error("no permission to ask the server in this directory: its user may, and root")]
+    NotPermitted,
     /// The run has no journal.
     #[error("{0}")]
     Run(RunError),

@@ -1,21 +1,25 @@
-//! A node as a program: its words are the command. Of `check` and `run` standard input has the settings, standard
-//! output gets what they are worth or the journal, and the status says whether the node ran (0), its settings were
-//! refused (1) or a fault kept it from that (2). `serve` serves a directory as a daemon, and ends by 3 where the disk
-//! failed; the others ask the daemon of a directory, and print what it answers.
+//! A node as a program: its words are the command. Of `check` and `run` standard input has the settings (or of `check`
+//! a file), standard output gets what they are worth or the journal, and the status says whether the node ran (0), its
+//! settings were refused (1) or a fault kept it from that (2). `serve` serves a directory as a daemon, and ends by 3
+//! where the disk failed, and by 4 where its volume was removed; the others ask the daemon of a directory, and print
+//! what it answers.
 #![tactic(auto)]
 
 ghost use Rattle.std.specs.Prelude.{◌<◌, ◌^◌, length, IsErrOf};
 
 mod advising;
 mod asking;
+mod checking;
 mod fault;
 mod link_key;
 mod serving;
+mod verdict;
 
-use advising::{advise, advise_to_serve};
+use advising::{DocumentName, advise};
 use asking::ask;
+use checking::check_settings;
 use fault::NodeFault;
-use node_args::{ArgsError, NodeCommand, TrialCommand, advice_of, command_of};
+use node_args::{ArgsError, NodeCommand, RunCommand, advice_of, command_of};
 use node_run::{RunResult, run_node};
 use node_threads::NodeSettings;
 use server_book::OpenError;
@@ -44,33 +48,16 @@ fn settings_in(alloc: Global, text: &[u8]) -> Result<NodeSettings, OpenError>
     NodeSettings::read(alloc, text)
 }
 
-/// Returns how many units a server of these settings has.
-fn units_of(settings: &NodeSettings) -> usize {
-    let mut units = 0usize;
-    for pool in settings.server.pools() {
-        let bits = pool.unit_length.saturating_sub(pool.prefix.len());
-        units = units.saturating_add(1usize.checked_shl(u32::from(bits)).unwrap_or(0));
-    }
-    units
-}
-
-/// The text that a command writes, and the status, or the fault that its run ended by.
+/// The text that a run writes, and the status, or the fault that it ended by.
 #[derive(Drop)]
-struct CommandResult {
+struct RunAnswer {
     octets: Vec<u8>,
     status: Result<u8, NodeFault>,
 }
 
-impl CommandResult {
-    fn of(octets: Vec<u8>, status: u8) -> CommandResult {
-        CommandResult {
-            octets,
-            status: Ok(status),
-        }
-    }
-
-    fn of_run(run: RunResult) -> CommandResult {
-        CommandResult {
+impl RunAnswer {
+    fn of(run: RunResult) -> RunAnswer {
+        RunAnswer {
             octets: run.journal,
             status: match run.received {
                 Ok(_) => Ok(0),
@@ -80,14 +67,14 @@ impl CommandResult {
     }
 }
 
-/// Returns what a command comes to; what its settings lack, or what is odd in them, is said in notes.
+/// Returns what a run comes to; what its settings lack, or what is odd in them, is said in notes.
 fn answer<R: Threads + Wait + Sync + Net + Clock, P: Print + Sync>(
     rt: &R,
     alloc: Global,
-    command: TrialCommand,
+    command: RunCommand,
     text: &[u8],
     notes: &P,
-) -> Result<CommandResult, NodeFault>
+) -> Result<RunAnswer, NodeFault>
 where
     R::Stream: Send + Drop,
     R::Listener: Send + Drop,
@@ -96,24 +83,19 @@ where
     advise(
         notes,
         alloc,
+        DocumentName::Own,
         text,
         settings.as_ref().map_err(|error| *error),
     );
-    match (command, settings) {
-        (_, Err(OpenError::Memory)) => Err(NodeFault::Memory),
-        (_, Err(refusal)) => {
-            let line = format!(in alloc; "{refusal}\n")?;
-            Ok(CommandResult::of(line.into_bytes(), 1))
-        }
-        (TrialCommand::Check, Ok(settings)) => {
-            advise_to_serve(notes, alloc, text, &settings);
-            let units = units_of(&settings);
-            let line = format!(in alloc; "ok {units}\n")?;
-            Ok(CommandResult::of(line.into_bytes(), 0))
-        }
-        (TrialCommand::Run { count, partner }, Ok(settings)) => {
-            match run_node(rt, alloc, &settings, count, partner, notes) {
-                Ok(run) => Ok(CommandResult::of_run(run)),
+    match settings {
+        Err(OpenError::Memory) => Err(NodeFault::Memory),
+        Err(refusal) => Ok(RunAnswer {
+            octets: format!(in alloc; "{refusal}\n")?.into_bytes(),
+            status: Ok(1),
+        }),
+        Ok(settings) => {
+            match run_node(rt, alloc, &settings, command.count, command.partner, notes) {
+                Ok(run) => Ok(RunAnswer::of(run)),
                 Err(error) => Err(NodeFault::Run(error)),
             }
         }
@@ -138,21 +120,27 @@ fn memory_or(error: io::Error, fault: NodeFault) -> NodeFault {
     }
 }
 
-/// Does a command that takes its settings on standard input.
-fn done_once<R: Threads + Wait + Sync + Net + Clock>(
+/// What standard input has, as far as settings go.
+fn input_of(rt: &HostRuntime) -> Result<Vec<u8>, NodeFault> {
+    let mut text = Vec::new(rt.alloc());
+    let mut input = rt.stdin().take(MOST_OCTETS as u64 + 1);
+    match input.read_to_end(&mut text) {
+        Ok(_) => Ok(text),
+        Err(error) => Err(memory_or(error, NodeFault::Read)),
+    }
+}
+
+/// Runs by the settings on standard input.
+fn run_by_input<R: Threads + Wait + Sync + Net + Clock>(
     rt: &HostRuntime,
     handles: &R,
-    command: TrialCommand,
+    command: RunCommand,
 ) -> Result<u8, NodeFault>
 where
     R::Stream: Send + Drop,
     R::Listener: Send + Drop,
 {
-    let mut text = Vec::new(rt.alloc());
-    let mut input = rt.stdin().take(MOST_OCTETS as u64 + 1);
-    if let Err(error) = input.read_to_end(&mut text) {
-        return Err(memory_or(error, NodeFault::Read));
-    }
+    let text = input_of(rt)?;
     let outcome = match answer(handles, rt.alloc(), command, &text, &rt.stderr()) {
         Ok(outcome) => outcome,
         Err(fault) => return Err(fault),
@@ -174,7 +162,8 @@ where
     R::Listener: Send + Drop,
 {
     match command_of(rt.alloc(), words)? {
-        NodeCommand::Once(command) => done_once(rt, handles, command),
+        NodeCommand::Check(command) => check_settings(rt, &command),
+        NodeCommand::Run(command) => run_by_input(rt, handles, command),
         NodeCommand::Serve(served) => serve_directory(rt, handles, &served),
         NodeCommand::Ask { directory, request } => {
             ask(rt, handles, directory.as_str(), &request)

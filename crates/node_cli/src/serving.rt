@@ -1,12 +1,12 @@
 //! Serving a directory until a person says to stop.
 
 use crate::MOST_OCTETS;
-use crate::advising::advise;
+use crate::advising::{DocumentName, advise};
 use crate::fault::NodeFault;
 use crate::link_key::{KeyRefusal, key_in};
 use link_auth::LinkKey;
 use node_args::ServeCommand;
-use node_daemon::{ServeFailure, serve};
+use node_daemon::{DaemonError, ServeFailure, serve};
 use serve_settings::{LinkProtection, ServeSettings, ServeSettingsError};
 use std::alloc::{AllocError, Global};
 use std::fs::{File, Files};
@@ -26,7 +26,7 @@ const SETTINGS: &str = "settings.toml";
 struct Refused;
 
 /// What the file of this name holds, as far as settings go.
-fn content_of(rt: &HostRuntime, alloc: Global, path: Path<'_>) -> io::Result<Vec<u8>> {
+pub fn content_of(rt: &HostRuntime, alloc: Global, path: Path<'_>) -> io::Result<Vec<u8>> {
     let file = File::open(rt, path)?;
     let mut text = Vec::new(alloc);
     file.take(MOST_OCTETS as u64 + 1).read_to_end(&mut text)?;
@@ -46,12 +46,12 @@ fn settings_in(rt: &HostRuntime, alloc: Global, text: &[u8]) -> Option<ServeSett
     let notes = rt.stderr();
     match ServeSettings::read(alloc, text) {
         Ok(settings) => {
-            advise(&notes, alloc, text, Ok(&settings.node));
+            advise(&notes, alloc, DocumentName::Own, text, Ok(&settings.node));
             Some(settings)
         }
         Err(error) => {
             if let ServeSettingsError::Node(error) = error {
-                advise(&notes, alloc, text, Err(error));
+                advise(&notes, alloc, DocumentName::Own, text, Err(error));
             }
             let _ = eprintln!(rt; "<3>node: settings: {error}");
             None
@@ -84,17 +84,18 @@ fn key_of(
 }
 
 /// The status by which a daemon ends that failed: 1 where it was refused to start, 3 where the disk failed while it
-/// served, and 2 for any other fault.
+/// served, 4 where its volume was removed, so that it isn't to be started again, and 2 for any other fault.
 fn status_of(failure: &ServeFailure) -> u8 {
     match failure {
-        ServeFailure::Folder(_) | ServeFailure::Start(_) => 1,
+        ServeFailure::Folder(_) | ServeFailure::Start(_) | ServeFailure::ClockBehind { .. } => 1,
+        ServeFailure::Ended(DaemonError::VolumeUnlinked { .. }) => 4,
         ServeFailure::Ended(error) if error.is_disk() => 3,
         ServeFailure::Ended(_) | ServeFailure::Listen { .. } | ServeFailure::Control(_) => 2,
     }
 }
 
 /// Serves a directory until a person says to stop. Gives the status: 0 then, 1 where the settings or the journal are
-/// refused, 3 where the disk failed; what was wrong is said on standard error.
+/// refused, 3 where the disk failed, 4 where the volume was removed; what was wrong is said on standard error.
 pub fn serve_directory<R: Wait + Files + Net + RandomSource + Clock>(
     rt: &HostRuntime,
     handles: &R,

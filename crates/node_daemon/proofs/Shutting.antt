@@ -2,10 +2,10 @@
 use Rattle.std.specs.Prelude.{◌≡◌, Option}
 use Rattle.std.proofs.Common.{sym, subst}
 use Rattle.std.specs.declared.time.Instant.{Instant}
-use Rattle.node_daemon.specs.declared.service.PartnerView.{PartnerView}
-use Rattle.node_daemon.specs.declared.service.ServiceState.{ServiceState}
-use Rattle.node_daemon.specs.declared.service.ServiceState.TheVariants.{Open, HoldsOff, Shut}
-use Rattle.node_daemon.specs.Service.{IsShut, IsShort, IsNextService}
+use Rattle.service_state.specs.declared.service.PartnerView.{PartnerView}
+use Rattle.service_state.specs.declared.service.ServiceState.{ServiceState}
+use Rattle.service_state.specs.declared.service.ServiceState.TheVariants.{Open, HoldsOff, Shut}
+use Rattle.service_state.specs.Service.{IsShut, IsShort, IsNextService}
 
 -- once it is shut it stays so
 pub shut_stays : (old new : ServiceState) (p : PartnerView) (now : Instant) → IsNextService old new p now → IsShut old

@@ -1,4 +1,4 @@
 pub mod Turning
 pub mod Lasting
 pub mod Beginning
-pub mod Service
+pub mod Ending

@@ -10,7 +10,7 @@ ghost use Rattle.folder_start.specs.Pairing.{StepCanBeAnswered};
 ghost use Rattle.folder_start.specs.Reading.{IsOpened};
 ghost use Rattle.folder_start.specs.Started.{HasBegun};
 ghost use Rattle.node_daemon.specs.Turning.{ways};
-ghost use Rattle.node_daemon.specs.Service.{IsAfterStart};
+ghost use Rattle.service_state.specs.Service.{IsAfterStart};
 ghost use Rattle.node_daemon.specs.Beginning.{pairing_by, link_by, Meets, HasRun};
 ghost use Rattle.node_daemon.specs.Beginning.{HasBegunAndRun, HasServed};
 ghost use Rattle.daemon_endpoints.specs.Receiving.{MayReceive};
@@ -18,16 +18,15 @@ ghost use Rattle.daemon_endpoints.specs.Receiving.{MayReceive};
 use crate::clock_wait::WaitEnd;
 use crate::daemon::Daemon;
 use crate::error::{DaemonError, ServeFailure};
-use crate::reporting::head_lines_of;
-use crate::service::{ServiceState, service_of};
+use crate::lingering::linger;
 use binding_rules::Role;
 use client_limits::{Limiter, Limits};
 use clock_watch::{ClockStore, ClockWatch, PartnerLink};
-use daemon_endpoints::{Arrival, ClientEndpoint, ControlServer, PartnerEndpoint};
+use daemon_endpoints::{Arrival, ClientEndpoint, ControlServer, PartnerContact, PartnerEndpoint};
 use daemon_io::{ConnectionSource, Control, Datagrams, Poller};
-use disk_files::AccessRecordStore;
+use disk_files::{AccessRecordStore, VolumeWatch};
 use disk_model::Folder;
-use folder_start::{FolderRead, Pairing, StartFailure, StartMode, Started, start};
+use folder_start::{FolderRead, Pairing, StartMode, Started, start};
 use lead_time::Transit;
 use link_auth::{HandshakeRole, LinkKey, PeerAuthenticator};
 use order_book::Book;
@@ -37,6 +36,7 @@ use server_core::ServerCore;
 use server_log::{Log, LogEvent, StateWatch};
 use server_status::SyncTimes;
 use server_timers::OperatorRequest;
+use service_state::{ServiceState, head_lines_of, service_of};
 use std::alloc::{AllocError, Global};
 use std::net::SocketAddr;
 use std::sync::Wait;
@@ -61,15 +61,19 @@ pub(crate) fn pairing_of(link: Option<SocketAddr>) -> Pairing
     }
 }
 
-/// What a server lets its clients order, by its limits, its book, and what was kept beside the open volume.
+/// What a server lets its clients order, by its limits, the book of the last volume, if there is one, and what was kept
+/// beside that volume. Where the start begins the next one, the records of its units are kept beside it.
 fn limiter_of<A: AccessRecordStore, L: Print>(
     alloc: Global,
     limits: Limits,
     keeper: &A,
-    book: &Book,
+    book: Option<&Book>,
     log: &Log<'_, L>,
 ) -> Limiter {
     let mut limiter = Limiter::new(alloc, limits);
+    let Some(book) = book else {
+        return limiter;
+    };
     let records = match keeper.read_records(book.head().volume()) {
         Ok(records) => records,
         Err(_) => {
@@ -146,7 +150,7 @@ fn now_of<C: Clocks>(clocks: &C) -> Result<Moment, ServeFailure>
 {
     match clocks.now() {
         Some(now) => Ok(now),
-        None => Err(ServeFailure::of_start(StartFailure::Clock)),
+        None => Err(ServeFailure::no_time()),
     }
 }
 
@@ -158,7 +162,7 @@ fn daemon_of<
     K: Control,
     C: Clocks,
     T: Poller,
-    A: AccessRecordStore + ClockStore,
+    A: AccessRecordStore + ClockStore + VolumeWatch,
     L: Print,
 >(
     alloc: Global,
@@ -189,10 +193,12 @@ fn daemon_of<
         upkeep: settings.upkeep,
         clients: ClientEndpoint::new(alloc, datagrams, server.transit(), limiter)?,
         partner: PartnerEndpoint::new(alloc, door, keeper_of(server.role(), key))?,
+        contact: PartnerContact::new(now.instant),
         desk: ControlServer::new(alloc, control),
         clocks,
         clock: ClockWatch::new(now),
         beaten: None,
+        seen_linked: None,
         rest,
         keeper,
         log,
@@ -213,19 +219,19 @@ impl<
     K: Control,
     C: Clocks,
     T: Poller,
-    A: AccessRecordStore + ClockStore,
+    A: AccessRecordStore + ClockStore + VolumeWatch,
     L: Print,
 > Daemon<'_, G, D, K, C, T, A, L> {
-    /// Begins with this book at a moment.
-    fn begin(&mut self, settings: &ServeSettings, book: &Book, now: &Moment)
+    /// Begins with this book at a moment, and lets clients order what this lets them.
+    fn begin(&mut self, settings: &ServeSettings, limiter: Limiter, book: &Book, now: &Moment)
         ensures datagrams { self.new.clients.datagrams ≡ self.old.clients.datagrams }
         ensures transit { self.new.clients.transit ≡ self.old.clients.transit }
         ensures link { self.new.partner ≡ self.old.partner }
         ensures service { IsAfterStart book.now (is_none settings.now.node.ways.link) now.now.instant
             self.new.service }
     {
-        let limiter = limiter_of(self.alloc, settings.quotas, &self.keeper, book, &self.log);
         self.clients.limit_by(limiter);
+        self.keep_records(book, now.reading);
         self.service = service_of(book, settings.node.ways.link.is_none(), now.instant);
         tell_hold_off(&self.log, &self.service, now.instant);
         self.head_lines = head_lines_of(book);
@@ -279,8 +285,34 @@ where
         clocks,
     ) {
         Ok(started) => Ok(started),
-        Err(error) => Err(ServeFailure::of_start(error)),
+        Err(error) => Err(ServeFailure::of_start(alloc, error)),
     }
+}
+
+/// Hears clients and the partner no more, and tells for a while that the disk failed.
+fn tell_failed<
+    G: Datagrams,
+    D: ConnectionSource,
+    K: Control,
+    C: Clocks,
+    T: Poller,
+    A: AccessRecordStore + ClockStore + VolumeWatch,
+    L: Print,
+>(daemon: Daemon<'_, G, D, K, C, T, A, L>) {
+    let Daemon {
+        alloc,
+        clients,
+        partner,
+        mut desk,
+        clocks,
+        mut rest,
+        log,
+        ..
+    } = daemon;
+    drop(clients);
+    drop(partner);
+    log.log(&LogEvent::DiskFailed);
+    linger(alloc, &mut desk, &clocks, &mut rest);
 }
 
 /// Runs a daemon until it is told to stop.
@@ -292,7 +324,7 @@ fn run_daemon<
     K: Control,
     C: Clocks,
     T: Poller,
-    A: AccessRecordStore + ClockStore,
+    A: AccessRecordStore + ClockStore + VolumeWatch,
     R: Wait,
     L: Print,
 >(
@@ -307,7 +339,12 @@ where
 {
     match daemon.run(rt, running) {
         Ok(()) => Ok(()),
-        Err(error) => Err(ServeFailure::Ended(error)),
+        Err(error) => {
+            if error.is_disk() {
+                tell_failed(daemon);
+            }
+            Err(ServeFailure::Ended(error))
+        }
     }
 }
 
@@ -320,7 +357,7 @@ fn start_and_run<
     K: Control,
     C: Clocks,
     T: Poller,
-    A: AccessRecordStore + ClockStore,
+    A: AccessRecordStore + ClockStore + VolumeWatch,
     R: Wait,
     L: Print,
 >(
@@ -340,6 +377,13 @@ where
         settings.now.renew_floor (pairing_by settings.now.node.ways.link) read.found.step
         daemon.entry.clients.transit (ways daemon.entry.clients.datagrams daemon.entry.partner)) }
 {
+    let limiter = limiter_of(
+        alloc,
+        settings.quotas,
+        &daemon.keeper,
+        read.book(),
+        &daemon.log,
+    );
     let started: Started<F, Arrival<G::Peer>> = start_server(
         alloc,
         read,
@@ -349,7 +393,7 @@ where
     tell_start(&daemon.log, settings, link, &started);
     let Started { running, .. } = started;
     let now = now_of(&daemon.clocks)?;
-    daemon.begin(settings, running.book(), &now);
+    daemon.begin(settings, limiter, running.book(), &now);
     match run_daemon(rt, daemon, running) {
         Ok(()) => Ok(()),
         Err(failure) => Err(failure),
@@ -366,7 +410,7 @@ pub(crate) fn serve_folder<
     K: Control,
     C: Clocks,
     T: Poller,
-    A: AccessRecordStore + ClockStore,
+    A: AccessRecordStore + ClockStore + VolumeWatch,
     R: Wait,
     L: Print,
 >(

@@ -8,7 +8,7 @@ ghost use Rattle.server_status.specs.declared.status.ClockState.TheVariants.{Rig
 use crate::daemon::Daemon;
 use clock_watch::ClockStore;
 use daemon_io::{ConnectionSource, Control, Datagrams, Poller};
-use disk_files::AccessRecordStore;
+use disk_files::{AccessRecordStore, VolumeWatch};
 use order_book::Book;
 use server_clocks::{Clocks, Moment};
 use server_log::{DisconnectReason, SeenClock};
@@ -22,7 +22,7 @@ impl<
     K: Control,
     C: Clocks,
     T: Poller,
-    A: AccessRecordStore + ClockStore,
+    A: AccessRecordStore + ClockStore + VolumeWatch,
     L: Print,
 > Daemon<'_, G, D, K, C, T, A, L> {
     /// Looks whether the clock may go on with the journal, and whether it was set: then the connection ends. A clock that
@@ -85,7 +85,7 @@ impl<
             lines: 0,
             head_lines: 0,
             opened: now.reading,
-            written: beaten,
+            spoken: beaten,
         };
         self.upkeep
             .due_actions(&growth, now.reading, None, OperatorRequest::Nothing)

@@ -9,15 +9,15 @@ ghost use Rattle.node_daemon.specs.Beginning.{Meets};
 
 use crate::daemon::Daemon;
 use crate::error::DaemonError;
-use crate::refusal::RequestRefusal;
 use clock_watch::{ClockStore, PartnerLink, PartnerSight, RecordVerdict, StartClock};
 use daemon_io::{ConnectionSource, Control, Datagrams, Poller};
-use disk_files::AccessRecordStore;
+use disk_files::{AccessRecordStore, VolumeWatch};
 use link_notices::ClockVerdict;
 use order_book::Book;
 use server_clocks::{Clocks, Moment};
 use server_log::{LogEvent, SeenClock};
 use server_status::{ControlRequest, ShutdownMode, StatusFormat};
+use service_state::RequestRefusal;
 use std::sync::Wait;
 
 /// How a start's wait for its clock ends.
@@ -45,7 +45,7 @@ impl<
     K: Control,
     C: Clocks,
     T: Poller,
-    A: AccessRecordStore + ClockStore,
+    A: AccessRecordStore + ClockStore + VolumeWatch,
     L: Print,
 > Daemon<'_, G, D, K, C, T, A, L> {
     /// What the kept record says of the clock now: nothing where there is none, or the system doesn't say enough.
@@ -145,15 +145,16 @@ impl<
         ensures transit { self.new.clients.transit ≡ self.old.clients.transit }
     {
         let now = self.wait_for_input()?;
+        self.log.log_due(now.reading);
         let count = self.clients.discard()?;
-        let has_come = self
+        let arrival = self
             .partner
             .meet(self.settings, &now, &self.clocks, &mut self.log)?;
+        self.contact.note(arrival);
         let is_accepted = self.hear_request(book, clock, &now);
         self.partner.say_notices(&now, &mut self.log);
         self.desk.send_replies(now.instant);
-        self.log.log_due(now.reading);
-        self.is_idle = count == 0 && !has_come;
+        self.is_idle = count == 0 && !arrival.is_something();
         let next = if is_accepted {
             StartClock::Begins
         } else {

@@ -1,22 +1,23 @@
 //! What a running server does as a person tells it.
 
-ghost use Rattle.std.specs.Prelude.{◌≡◌};
+ghost use Rattle.std.specs.Prelude.{◌≡◌, ◌↔◌, false, None, IsOk};
+ghost use Rattle.order_book.specs.Replayed.{state_of};
 ghost use Rattle.daemon_endpoints.specs.Receiving.{HasSameFiles};
 
 use crate::daemon::Daemon;
-use crate::refusal::RequestRefusal;
 use binding_rules::ServerState;
 use clock_watch::ClockStore;
 use daemon_endpoints::Arrival;
 use daemon_io::{ConnectionSource, Control, Datagrams, Poller};
-use disk_files::AccessRecordStore;
+use disk_files::{AccessRecordStore, VolumeWatch};
 use disk_model::Folder;
-use order_book::Order;
+use order_book::{Book, Order};
 use server_clocks::{Clocks, Moment};
 use server_core::ServerCore;
 use server_log::LogEvent;
 use server_status::{ClockState, ControlRequest, ShutdownMode};
 use server_timers::{OperatorRequest, RollBlocked};
+use service_state::RequestRefusal;
 
 impl<
     G: Datagrams,
@@ -24,7 +25,7 @@ impl<
     K: Control,
     C: Clocks,
     T: Poller,
-    A: AccessRecordStore + ClockStore,
+    A: AccessRecordStore + ClockStore + VolumeWatch,
     L: Print,
 > Daemon<'_, G, D, K, C, T, A, L> {
     /// Hears one request, if one has come, and does it; its answer is held back. Returns whether one had come.
@@ -86,10 +87,7 @@ impl<
             ControlRequest::Stop(ShutdownMode::Closed) => return self.close(running, now),
             ControlRequest::Roll => self.ask_roll(running)?,
             ControlRequest::PartnerDown => self.take_for_down(running, now)?,
-            ControlRequest::PartnerNormal => {
-                order(running, now, &Order::State(ServerState::Normal))?;
-                self.log.log(&LogEvent::PartnerNormal);
-            }
+            ControlRequest::PartnerNormal => self.take_for_up(running, now)?,
         }
         Ok(String::new(self.alloc))
     }
@@ -187,13 +185,47 @@ impl<
         if self.partner.connected().is_some() {
             return Err(RequestRefusal::PartnerConnected);
         }
-        if running.book().down().is_some() {
-            return Err(RequestRefusal::IsDown);
-        }
+        may_take_for_down(running.book())?;
         order(running, now, &Order::State(ServerState::Down))?;
         self.log.log(&LogEvent::PartnerDown);
         Ok(())
     }
+
+    /// Takes the partner for up again, where it is taken for down.
+    fn take_for_up<F: Folder + Drop>(
+        &mut self,
+        running: &mut ServerCore<F, Arrival<G::Peer>>,
+        now: &Moment,
+    ) -> Result<(), RequestRefusal>
+    where
+        F::File: Drop,
+        ensures clients { self.new.clients ≡ self.old.clients }
+        ensures link { self.new.partner ≡ self.old.partner }
+        ensures files { HasSameFiles running.old running.new }
+        // Where there is nothing to end, no line is written.
+        ensures none { (state_of running.old.volume.served.journal).down ≡ None → running.new ≡ running.old }
+    {
+        if running.book().down().is_none() {
+            return Err(RequestRefusal::IsNotDown);
+        }
+        order(running, now, &Order::State(ServerState::Normal))?;
+        self.log.log(&LogEvent::PartnerNormal);
+        Ok(())
+    }
+}
+
+/// Refuses to take the partner for down where it is already, and where a server doesn't know what its partner did since
+/// it went itself.
+fn may_take_for_down(book: &Book) -> Result<(), RequestRefusal>
+    ensures { IsOk result ↔ (((state_of book.now).waiting ≡ false) × ((state_of book.now).down ≡ None)) }
+{
+    if book.down().is_some() {
+        return Err(RequestRefusal::IsDown);
+    }
+    if book.waiting() {
+        return Err(RequestRefusal::WaitsForPartner);
+    }
+    Ok(())
 }
 
 /// Returns whether a line may be written as a request asks.

@@ -3,7 +3,11 @@
 use daemon_endpoints::ReceiveError;
 use disk_files::FolderError;
 use folder_start::{RollFailure, StartFailure};
+use lead_time::Reading;
 use server_core::{EndFault, VolumeCommitError};
+use server_log::moment_words;
+use server_start::StartError;
+use std::alloc::Global;
 use std::io;
 use std::net::SocketAddr;
 use thiserror::Error;
@@ -20,6 +24,10 @@ pub enum DaemonError {
     /// The volume that was closed wasn't ended.
     #[error("the volume isn't ended: {0}")]
     NotEnded(EndFault),
+    /// The file of the open volume has no link any more.
+    #[error("the file of volume {volume} was removed while it was served, and with it what was granted in it: don't \
+             start this server again, and see \"A lost disk\"")]
+    VolumeUnlinked { volume: u32 },
     /// Nobody can be heard any more.
     #[error("{0}")]
     Hearing(ReceiveError),
@@ -44,7 +52,9 @@ impl DaemonError {
             self,
             DaemonError::NotCommitted(_)
                 | DaemonError::NotEnded(_)
-                | DaemonError::NotRolled(RollFailure::NotEnded(_) | RollFailure::NotBegun)
+                | DaemonError::NotRolled(
+                    RollFailure::NotEnded(_) | RollFailure::NotBegun | RollFailure::NoSpace,
+                )
         )
     }
 }
@@ -58,6 +68,12 @@ pub enum ServeFailure {
     /// The server doesn't start with what the directory has.
     #[error("{0}")]
     Start(StartFailure),
+    /// The clock reads more than twice the skew below the journal's last line: both, as RFC 3339 writes them.
+    #[error("set the clock right: it reads {now}, and the journal {last}")]
+    ClockBehind {
+        now: String,
+        last: String,
+    },
     /// A socket can't be opened at this address.
     #[error("can't listen at {address}: {error}")]
     Listen {
@@ -72,14 +88,36 @@ pub enum ServeFailure {
     Ended(DaemonError),
 }
 
+/// What the clock and the journal's last line read, where a server doesn't start since its clock is behind.
+fn behind_in(failure: &StartFailure) -> Option<(Reading, Reading)> {
+    match failure {
+        StartFailure::Start(StartError::ClockBehind { now, last }) => Some((*now, *last)),
+        _ => None,
+    }
+}
+
 impl ServeFailure {
+    /// The clock is behind the journal's last line.
+    fn behind(alloc: Global, now: Reading, last: Reading) -> ServeFailure {
+        match (moment_words(alloc, now), moment_words(alloc, last)) {
+            (Ok(now), Ok(last)) => ServeFailure::ClockBehind { now, last },
+            (Err(_), _) | (_, Err(_)) => ServeFailure::Start(StartFailure::Memory),
+        }
+    }
+
     /// Why a server doesn't start.
-    pub(crate) fn of_start(failure: StartFailure) -> ServeFailure {
+    pub(crate) fn of_start(alloc: Global, failure: StartFailure) -> ServeFailure {
+        if let Some((now, last)) = behind_in(&failure) {
+            return ServeFailure::behind(alloc, now, last);
+        }
         match failure {
-            StartFailure::Clock => {
-                ServeFailure::Ended(DaemonError::Hearing(ReceiveError::Clock))
-            }
+            StartFailure::Clock => ServeFailure::no_time(),
             failure => ServeFailure::Start(failure),
         }
+    }
+
+    /// A clock tells no time.
+    pub(crate) fn no_time() -> ServeFailure {
+        ServeFailure::Ended(DaemonError::Hearing(ReceiveError::Clock))
     }
 }

@@ -10,7 +10,8 @@
 //! While its clock is too far behind its journal (`server_start::is_behind`), or was set (`clock_watch`), it answers
 //! nobody, and says so. Nor does a server that goes on without `restart`, for 30 s or until its partner waits; nor, any
 //! more, one whose journal is short. A disk that fails ends it: what was held back is never told, and it goes on with what
-//! its folder leads to when it is started again.
+//! its folder leads to when it is started again. So does a volume's file that was removed, which is seen each
+//! heartbeat.
 //!
 //! A start that has a partner asks its clock before it writes a line, and one whose clock was set since it was kept last
 //! waits: until the two agree, the difference is gone, or a person says that the clock is right.
@@ -29,13 +30,13 @@ mod clock_wait;
 mod commands;
 mod daemon;
 mod error;
+mod expiring;
 mod keeping;
-mod refusal;
-mod reporting;
-mod service;
+mod lingering;
 mod serving;
 mod side_files;
 mod statuses;
+mod volume_check;
 mod withholding;
 
 pub use daemon::Daemon;

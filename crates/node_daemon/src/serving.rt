@@ -12,7 +12,7 @@ use binding_rules::Role;
 use clock_file::ClockFile;
 use daemon_endpoints::ReceiveError;
 use daemon_io::{ControlSocket, PollRegistry, Readiness, SystemConnectionSource, UdpDatagrams};
-use disk_files::{AccessRecordFolder, FolderError, RealFolder, RealVolumes};
+use disk_files::{AccessRecordFolder, FolderError, RealFolder, RealVolumes, VolumeLinks};
 use folder_start::{FolderRead, read_folder};
 use link_auth::LinkKey;
 use serve_settings::ServeSettings;
@@ -56,21 +56,24 @@ fn opened(rt: &HostRuntime, folder: RealFolder, role: Role) -> Result<RealVolume
     }
 }
 
-/// What keeps a server's access records in its directory, and what both clocks showed.
+/// What keeps a server's access records in its directory, and what both clocks showed, and sees its volumes.
 fn side_files_in(
     rt: &HostRuntime,
     folder: &RealFolder,
     directory: &str,
     role: Role,
 ) -> Result<SideFiles, ServeFailure> {
-    let folder = match folder.shared(rt) {
-        Ok(folder) => folder,
-        Err(error) => return Err(ServeFailure::Folder(FolderError::System(error))),
+    let (folder, seen) = match (folder.shared(rt), folder.shared(rt)) {
+        (Ok(folder), Ok(seen)) => (folder, seen),
+        (Err(error), _) | (_, Err(error)) => {
+            return Err(ServeFailure::Folder(FolderError::System(error)));
+        }
     };
     match ClockFile::new(rt, directory) {
         Some(clock) => Ok(SideFiles {
             access: AccessRecordFolder::new(*rt, folder, role),
             clock,
+            volumes: VolumeLinks::new(*rt, seen, role),
         }),
         None => Err(ServeFailure::Ended(DaemonError::Memory)),
     }
@@ -199,7 +202,7 @@ fn read_volumes<C: Clocks>(
         clocks,
     ) {
         Ok(read) => Ok(read),
-        Err(error) => Err(ServeFailure::of_start(error)),
+        Err(error) => Err(ServeFailure::of_start(alloc, error)),
     }
 }
 

@@ -1,18 +1,19 @@
-//! What a server keeps beside its volumes.
+//! What a server keeps beside its volumes, and how it sees that these are there.
 
 ghost use Rattle.disk_files.specs.Open.{lines_of};
 
 use access_records::AccessRecord;
 use clock_file::ClockFile;
 use clock_watch::{ClockRecord, ClockStore};
-use disk_files::{AccessRecordFolder, AccessRecordStore, KeepError};
+use disk_files::{AccessRecordFolder, AccessRecordStore, KeepError, VolumeLinks, VolumeWatch};
 use lead_time::Reading;
 
-/// What a server keeps in its directory beside its volumes.
+/// What a server keeps in its directory beside its volumes, and sees of these.
 #[derive(Drop)]
 pub(crate) struct SideFiles {
     pub(crate) access: AccessRecordFolder,
     pub(crate) clock: ClockFile,
+    pub(crate) volumes: VolumeLinks,
 }
 
 impl AccessRecordStore for SideFiles {
@@ -24,6 +25,12 @@ impl AccessRecordStore for SideFiles {
 
     fn append_records(&mut self, volume: u32, records: &[AccessRecord]) -> Result<(), KeepError> {
         self.access.append_records(volume, records)
+    }
+}
+
+impl VolumeWatch for SideFiles {
+    fn is_unlinked(&mut self, volume: u32) -> bool {
+        self.volumes.is_unlinked(volume)
     }
 }
 

@@ -1,14 +1,15 @@
 //! How a server is, as a status says it.
 
+ghost use Rattle.std.specs.Prelude.{◌≡◌, ◌↔◌, false, None};
+ghost use Rattle.order_book.specs.Replayed.{state_of};
+ghost use Rattle.service_state.specs.Service.{IsShut};
+ghost use Rattle.service_state.specs.Statuses.{IsHoldingOff, IsStanding};
+
 use crate::daemon::Daemon;
-use crate::reporting::{
-    first_volume, growth_of, head_lines_of, journal_of, notices_of, standing_of, units_of,
-    volume_of,
-};
 use clock_watch::ClockStore;
 use daemon_endpoints::Arrival;
 use daemon_io::{ConnectionSource, Control, Datagrams, Poller};
-use disk_files::AccessRecordStore;
+use disk_files::{AccessRecordStore, VolumeWatch};
 use disk_model::Folder;
 use order_book::Book;
 use server_clocks::{Clocks, Moment};
@@ -17,7 +18,11 @@ use server_status::{
     JournalState, LinkState, PartnerState, ServerStatus, ServingInput, StatusFormat, UnitCounts,
     VolumeStatus, serving_of,
 };
-use server_timers::OperatorRequest;
+use server_timers::{OperatorRequest, Room};
+use service_state::{
+    first_volume, growth_of, head_lines_of, journal_of, notices_of, standing_of, units_of,
+    volume_of,
+};
 use std::alloc::AllocError;
 
 impl<
@@ -26,7 +31,7 @@ impl<
     K: Control,
     C: Clocks,
     T: Poller,
-    A: AccessRecordStore + ClockStore,
+    A: AccessRecordStore + ClockStore + VolumeWatch,
     L: Print,
 > Daemon<'_, G, D, K, C, T, A, L> {
     /// How the server is linked to its partner.
@@ -59,11 +64,40 @@ impl<
             standing: input.standing,
             link: self.link(),
             heard: self.partner.heard(),
+            refusal: self.partner.refusal(),
             traffic: self.clients.traffic(),
             syncs,
             notices: notices_of(&self.partner),
         };
         status.text(self.alloc, form)
+    }
+
+    /// What decides whether a server that runs serves clients ([`serving_of`]).
+    fn serving_input<F: Folder + Drop>(
+        &self,
+        running: &ServerCore<F, Arrival<G::Peer>>,
+        room: Room,
+        now: &Moment,
+    ) -> ServingInput
+    where
+        F::File: Drop,
+        ensures journal { result.journal ≡ JournalState.Whole ↔ (IsShut self.now.service → ⊥) }
+        ensures clock { result.clock ≡ self.now.watch.clock }
+        ensures asks { result.asks_clock ≡ false }
+        ensures holds_off { result.goes_on_in ≡ None ↔ (IsHoldingOff self.now.service → ⊥) }
+        ensures standing { IsStanding (state_of running.now.volume.served.journal).down
+            (state_of running.now.volume.served.journal).waiting result.standing }
+        ensures room { result.room ≡ room }
+    {
+        ServingInput {
+            journal: journal_of(&self.service),
+            clock: self.watch.clock(),
+            asks_clock: false,
+            goes_on_in: self.service.seconds_left(now.instant),
+            standing: standing_of(running.book(), now.reading),
+            partner_clock: self.partner.verdict(),
+            room,
+        }
     }
 
     /// The text of how the server is while it runs.
@@ -79,15 +113,7 @@ impl<
         let book = running.book();
         let growth = self.growth(book, now);
         let owed = self.owed(running, now);
-        let input = ServingInput {
-            journal: journal_of(&self.service),
-            clock: self.watch.clock(),
-            asks_clock: false,
-            goes_on_in: self.service.seconds_left(now.instant),
-            standing: standing_of(book, now.reading),
-            partner_clock: self.partner.verdict(),
-            room: owed.room,
-        };
+        let input = self.serving_input(running, owed.room, now);
         let volume = volume_of(book, running.kept(), &growth, &owed);
         self.status_text(
             form,

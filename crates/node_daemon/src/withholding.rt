@@ -4,21 +4,22 @@ ghost use Rattle.std.specs.Prelude.{◌≡◌};
 ghost use Rattle.server_core.specs.Saying.{stage_of};
 ghost use Rattle.daemon_endpoints.specs.Receiving.{MayReceive, HasSameFiles};
 ghost use Rattle.daemon_endpoints.specs.Saying.{MayStand};
-ghost use Rattle.node_daemon.specs.Service.{IsShort, IsShut};
+ghost use Rattle.service_state.specs.Service.{IsShort, IsShut};
 
 use crate::daemon::Daemon;
 use crate::error::DaemonError;
-use crate::reporting::{going_on, journal_of};
-use crate::service::{PartnerView, ServiceState};
+use client_limits::PartnerReach;
 use clock_watch::ClockStore;
 use daemon_endpoints::Arrival;
 use daemon_io::{ConnectionSource, Control, Datagrams, Poller};
-use disk_files::AccessRecordStore;
+use disk_files::{AccessRecordStore, VolumeWatch};
 use disk_model::Folder;
+use failover_session::SessionStage;
 use order_book::Book;
 use server_clocks::{Clocks, Moment};
 use server_core::ServerCore;
 use server_log::DisconnectReason;
+use service_state::{PartnerView, ServiceState, going_on, journal_of};
 
 impl<
     G: Datagrams,
@@ -26,11 +27,20 @@ impl<
     K: Control,
     C: Clocks,
     T: Poller,
-    A: AccessRecordStore + ClockStore,
+    A: AccessRecordStore + ClockStore + VolumeWatch,
     L: Print,
 > Daemon<'_, G, D, K, C, T, A, L> {
-    /// Sees what the partner shows of this journal over the connection, and tells a person where that changes whether
-    /// the server may serve.
+    /// How far the partner is: a server that is alone has none.
+    pub(crate) fn partner_reach(&self, now: &Moment) -> PartnerReach {
+        if self.is_alone {
+            PartnerReach::Apart
+        } else {
+            self.contact.reach(now.instant)
+        }
+    }
+
+    /// Sees whether the two are joined, and what the partner shows of this journal over the connection, and tells a
+    /// person where that changes whether the server may serve.
     #[tactic(auto, using(crate::proofs::Shutting::shut_stays, crate::proofs::Shutting::short_shuts))]
     pub(crate) fn see_partner<F: Folder + Drop>(
         &mut self,
@@ -49,6 +59,8 @@ impl<
             waits: running.partner_waits(),
             connected_for: self.partner.connected_for(now.instant),
         };
+        let is_joined = matches!(running.stage(), Some(SessionStage::Joined { .. }));
+        self.contact.see(is_joined, now.instant);
         let before = self.service;
         self.service = before.next(&partner, now.instant);
         if before != self.service {
@@ -111,13 +123,15 @@ impl<
         ensures files { HasSameFiles running.old running.new }
     {
         let count = self.clients.discard()?;
-        let has_come = self
+        let arrival = self
             .partner
             .receive(running, self.settings, now, &self.clocks, &mut self.log)?;
+        self.contact.note(arrival);
         self.see_partner(running, now);
         let was_asked = self.handle_request(running, now);
-        Ok(count > 0 || has_come || was_asked)
+        Ok(count > 0 || arrival.is_something() || was_asked)
     }
+
     /// Passes clients over, and does what is asked, while its clock was set: it ends its session with the partner, hears
     /// notices alone, and takes its clock for right where the two agree. Returns whether anything came.
     #[tactic(auto, using(crate::proofs::Turned::nobody_came, crate::proofs::Turned::none_same, crate::proofs::Turned::none_then))]
@@ -135,13 +149,14 @@ impl<
     {
         running.disconnect_partner();
         let count = self.clients.discard()?;
-        let has_come = self
+        let arrival = self
             .partner
             .meet(self.settings, now, &self.clocks, &mut self.log)?;
+        self.contact.note(arrival);
         if self.partner.agrees() {
             self.accept_clock(now);
         }
         let was_asked = self.handle_request(running, now);
-        Ok(count > 0 || has_come || was_asked)
+        Ok(count > 0 || arrival.is_something() || was_asked)
     }
 }

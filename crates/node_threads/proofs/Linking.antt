@@ -1,5 +1,5 @@
 -- What is heard and written in one turn of the link, and in turns one after the other.
-use Rattle.std.specs.Prelude.{◌≡◌, ◌⊎◌, ℕ, None, List, [], ◌∷◌, ◌++◌, Result, Ok, Err, OnOk, refl}
+use Rattle.std.specs.Prelude.{◌≡◌, ◌⊎◌, ℕ, None, false, List, [], ◌∷◌, ◌++◌, Result, Ok, Err, OnOk, refl}
 use Rattle.std.proofs.Common.{ap, sym, ◌∙◌, subst, append_assoc, append-nil, inl, inr}
 use Rattle.std.proofs.lemmas.List.Elements.{filter_map-append}
 use Rattle.binding_rules.specs.declared.message.PartnerMessage.{PartnerMessage}
@@ -359,7 +359,7 @@ module _ {Line : Type 0} (Brings Writes : Line → List ℕ → Line → Type 0)
   opening_whole a words old new (Err e) said written = tt
 
   pub talk_begun : (s : SessionModel) (first : List FrameMeaning) (a : List Receipt) (old new : Line)
-      → s ≡ record { policy = Run; held = []; stage = Greeting; handed = [] }
+      → s ≡ record { policy = Run; held = []; stage = Greeting; told_all = false; handed = [] }
       → HasTold Brings Writes (HeardAll []) role first Unmet Unmet a a old new
       → HasTold Brings Writes (HeardAll s.held) role first Unmet (met_at s.stage) a a old new
   talk_begun s first a old new begins h =

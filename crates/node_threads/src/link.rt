@@ -1,6 +1,6 @@
 //! What one end of the link does: it reads, has its talk, and writes.
 
-ghost use Rattle.std.specs.Prelude.{◌≡◌, ◌≤◌, [], ℕ, length, OnOk};
+ghost use Rattle.std.specs.Prelude.{◌≡◌, ◌≤◌, false, [], ℕ, length, OnOk};
 ghost use Rattle.failover_message.specs.Frames.{frame_octets};
 ghost use Rattle.failover_session.specs.OutboundFrames.{opening};
 ghost use Rattle.failover_session.specs.Receipts.{Goes};
@@ -199,7 +199,7 @@ impl<'a, N: BookName, R: Wait, C: Clock, V: Notices> LinkEnd<'a, N, R, C, V> {
         talk: &mut FailoverSession,
         wire: &mut W,
     ) -> Result<(), NodeError>
-        requires { talk.old ≡ record { policy = Run; held = []; stage = Greeting; handed = [] } }
+        requires { talk.old ≡ record { policy = Run; held = []; stage = Greeting; told_all = false; handed = [] } }
         ensures told { WritesInOrder W.brings W.writes W.fails HeardTill self.now.settings.now.role
             (opening self.now.settings.now.role pass.now.receipts) Unmet Unmet pass.now.receipts pass.now.receipts
             wire.old wire.new result }

@@ -1,6 +1,8 @@
 -- What becomes of a datagram.
 use Rattle.std.specs.Prelude.{◌≡◌, ◌⊎◌, ℕ, true, List, [], ◌∷◌, ◌++◌, Option, Some, None, Err}
 use Rattle.client_service.specs.declared.permit.Permit.{Permit}
+use Rattle.client_service.specs.declared.permit.DropReason.{DropReason}
+use Rattle.client_service.specs.declared.permit.DropReason.TheVariants.{TooMany as SentTooMany, LeftToPartner as IsLeft}
 use Rattle.dhcp6_pd.specs.declared.message.ClientMessage.{ClientMessage}
 use Rattle.dhcp6_pd.specs.declared.message.InformationRequest.{InformationRequest}
 use Rattle.dhcp6_pd.specs.declared.error.PdError.{PdError}
@@ -21,7 +23,7 @@ use Rattle.client_service.specs.declared.partner_availability.PartnerAvailabilit
 use Rattle.client_service.specs.declared.partner_availability.PartnerAvailability.TheVariants.{Up, Down}
 use Rattle.server_core.specs.declared.datagram_outcome.DatagramOutcome.{DatagramOutcome}
 use Rattle.server_core.specs.declared.datagram_outcome.DatagramOutcome.TheVariants.{Answered, Unanswered, AnsweredInformation, UnansweredInformation, TooMany}
-use Rattle.server_core.specs.declared.datagram_outcome.DatagramOutcome.TheVariants.{EarlyRelease, Malformed}
+use Rattle.server_core.specs.declared.datagram_outcome.DatagramOutcome.TheVariants.{LeftToPartner, EarlyRelease, Malformed}
 use Rattle.server_core.specs.declared.committed_output.HeldAnswer.{HeldAnswer}
 use Rattle.server_core.specs.VolumeWriters.{WriterState}
 use Rattle.client_service.specs.declared.terms.ReuseTerms.{ReuseTerms}
@@ -42,7 +44,7 @@ abbrev pub IsUnanswered : (Journal → ℕ → ClientMessage → List Permit →
     → ReuseTerms → ClientMessage → (read : ℕ) → WriterState → WriterState → NoReplyReason → Type 0
 IsUnanswered Lets own manner t m read old new why =
     ((why ≡ Memory) × (new ≡ old))
-    ⊎ ((permits : List Permit) × (HasEarlyRelease old.served.journal t read m → ⊥)
+    ⊎ ((permits : List Permit) × (HasEarlyRelease old.served.journal t read m permits → ⊥)
     × Lets old.served.journal read m permits
     × HasNoReply HasReceipts (partner_of old.served.journal) own manner m permits read (receipts_in old.served)
     (receipts_in new.served) why)
@@ -79,22 +81,29 @@ pub record Brings (own datagram : List ℕ) (m : ClientMessage) : Type 0 where
 
 -- One answer more is held back: to the peer, at this reading, and it tells the message, by the permits that it was
 -- given, what the receipts say that its orders added, or again what stands. Or there is none, for a reason, and none
--- more is held back. Of a RELEASE that comes too early nothing is done.
-abbrev pub IsHandled : {P : Type 0} → (Journal → ℕ → ClientMessage → List Permit → Type 0) → (own : List ℕ) → ReplyPolicy
+-- more is held back. Of a message that isn't heard, and of a RELEASE that comes too early where it may be ordered,
+-- nothing is done.
+abbrev pub IsHandled : {P : Type 0} → (Journal → ℕ → ClientMessage → List Permit → Type 0)
+    → (Journal → ℕ → ClientMessage → DropReason → Type 0) → (own : List ℕ) → ReplyPolicy
     → ReuseTerms → (peer : P) → (datagram : List ℕ) → (read : ℕ) → WriterState → WriterState → List (HeldAnswer P)
     → List (HeldAnswer P) → DatagramOutcome → Type 0
-IsHandled {P} Lets own manner t peer datagram read old new was held (Answered kind) =
+IsHandled {P} Lets Drops own manner t peer datagram read old new was held (Answered kind) =
     (m : ClientMessage) × (permits : List Permit) × (a : AnswerTo P) × Brings own datagram m
-    × (HasEarlyRelease old.served.journal t read m → ⊥) × Lets old.served.journal read m permits × (kind ≡ m.kind) × (a.peer ≡ peer)
+    × (HasEarlyRelease old.served.journal t read m permits → ⊥) × Lets old.served.journal read m permits
+    × (kind ≡ m.kind) × (a.peer ≡ peer)
     × IsReplyOfReceipts (partner_of old.served.journal) t own manner m permits read (receipts_in old.served)
     (receipts_in new.served) a.octets a.line
     × (held ≡ was ++ record { answer = a; read = read } ∷ [])
-IsHandled Lets own manner t peer datagram read old new was held (Unanswered why) =
+IsHandled Lets Drops own manner t peer datagram read old new was held (Unanswered why) =
     (m : ClientMessage) × Brings own datagram m × IsUnanswered Lets own manner t m read old new why × (held ≡ was)
-IsHandled Lets own manner t peer datagram read old new was held TooMany =
-    (m : ClientMessage) × Brings own datagram m × (new ≡ old) × (held ≡ was)
-IsHandled Lets own manner t peer datagram read old new was held EarlyRelease =
-    (m : ClientMessage) × Brings own datagram m × HasEarlyRelease old.served.journal t read m × (new ≡ old)
+IsHandled Lets Drops own manner t peer datagram read old new was held TooMany =
+    (m : ClientMessage) × Brings own datagram m × Drops old.served.journal read m SentTooMany × (new ≡ old)
     × (held ≡ was)
-IsHandled Lets own manner t peer datagram read old new was held other =
+IsHandled Lets Drops own manner t peer datagram read old new was held LeftToPartner =
+    (m : ClientMessage) × Brings own datagram m × Drops old.served.journal read m IsLeft × (new ≡ old)
+    × (held ≡ was)
+IsHandled Lets Drops own manner t peer datagram read old new was held EarlyRelease =
+    (m : ClientMessage) × (permits : List Permit) × Brings own datagram m × Lets old.served.journal read m permits
+    × HasEarlyRelease old.served.journal t read m permits × (new ≡ old) × (held ≡ was)
+IsHandled Lets Drops own manner t peer datagram read old new was held other =
     (new ≡ old) × IsInformed own manner peer datagram read was held other

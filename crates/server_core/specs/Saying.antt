@@ -1,5 +1,5 @@
 -- What a server owes its partner: its frames are held back until the lines that they speak of are on the disk.
-use Rattle.std.specs.Prelude.{◌≡◌, ℕ, ◌-◌, List, [], ◌∷◌, ◌++◌, Option, Some, None, option_map, IfSome}
+use Rattle.std.specs.Prelude.{◌≡◌, ⊤, ℕ, ◌-◌, Bool, false, List, [], ◌∷◌, ◌++◌, Option, Some, None, option_map, IfSome, Result, Ok, Err}
 use Rattle.std.specs.List.{AllByRecursion}
 use Rattle.binding_rules.specs.declared.role.Role.{Role}
 use Rattle.journal_lines.specs.declared.event.Event.{Event}
@@ -10,6 +10,8 @@ use Rattle.failover_session.specs.OutboundFrames.{FrameMeaning, Greets, Sends, m
 use Rattle.failover_session.specs.Receipts.{last_taken}
 use Rattle.failover_session.specs.Polling.{SessionModel}
 use Rattle.failover_session.specs.Shortage.{SaysWhyShort}
+use Rattle.failover_session.specs.TellingAll.{HasToldAll}
+use Rattle.failover_session.specs.declared.link_input.LinkInput.{LinkInput}
 use Rattle.failover_session.specs.declared.policy.SessionPolicy.{SessionPolicy}
 use Rattle.failover_session.specs.declared.stage.SessionStage.{SessionStage}
 
@@ -39,6 +41,18 @@ handed_of (Some t) = t.handed
 -- how far the two ends have come, if there is a talk
 abbrev pub stage_of : Option SessionModel → Option SessionStage
 stage_of talk = option_map (λ t. t.stage) talk
+
+-- whether the partner has said over the connection that it told all (UPDDONE)
+abbrev pub told_all_of : Option SessionModel → Bool
+told_all_of None = false
+told_all_of (Some t) = t.told_all
+
+-- Where there is a talk, whether the partner has told all is known by what came, as `HasToldAll` says; behind an
+-- error the connection is over.
+abbrev pub KnowsToldAll : {T E : Type 0} → Result T E → LinkInput → Option SessionModel → Option SessionModel → Type 0
+KnowsToldAll result came None new = told_all_of new ≡ false
+KnowsToldAll (Ok it) came (Some t) new = HasToldAll came t.held t.told_all (told_all_of new)
+KnowsToldAll (Err e) came (Some t) new = ⊤
 
 -- a talk that says that the journal is short says why
 abbrev pub SaysWhyTalkIsShort : SessionPolicy → List Receipt → Option SessionModel → Type 0

@@ -22,6 +22,9 @@ pub enum DatagramOutcome {
     /// It is a message, and its client sends too many: nothing was done.
     #[error("its client sends too many messages")]
     TooMany,
+    /// It is a message about what the partner knows of, and this server doesn't: nothing was done.
+    #[error("it is left to the partner")]
+    LeftToPartner,
     /// It is a RELEASE of what the partner may tell its client again: nothing was done.
     #[error("its client gives back what the partner may tell it again")]
     EarlyRelease,

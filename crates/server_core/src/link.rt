@@ -1,9 +1,9 @@
 //! The talk with the partner, over one connection after the other.
 
-ghost use Rattle.std.specs.Prelude.{◌≡◌, ◌≤◌, ◌↔◌, IsTrue, IfSome, List};
+ghost use Rattle.std.specs.Prelude.{◌≡◌, ◌≤◌, ◌↔◌, IsTrue, IfSome, List, false};
 ghost use Rattle.failover_session.specs.Sessions.{IsGoing};
 ghost use Rattle.server_core.specs.Served.{receipts_in};
-ghost use Rattle.server_core.specs.Saying.{sent_before, stage_of, SaysWhyTalkIsShort};
+ghost use Rattle.server_core.specs.Saying.{sent_before, stage_of, told_all_of, SaysWhyTalkIsShort, KnowsToldAll};
 ghost use Rattle.locked_book.specs.declared.receipt.Receipt.{Receipt as ReceiptValue};
 ghost use Rattle.server_core.specs.VolumeWriters.{Grows};
 
@@ -16,6 +16,7 @@ use journal_lines::Event;
 use lead_time::Reading;
 use locked_book::Receipt;
 use server_settings::Settings;
+use std::time::Instant;
 
 /// The serial up to which these receipts don't say what was sent: 0 where they say all. The first message that one
 /// sends follows on it, or the base line of a volume tells it.
@@ -55,7 +56,9 @@ where
 {
     /// A connection with the partner begins: the primary's greeting is held back.
     pub fn connect_partner(&mut self, settings: &Settings) -> Result<(), SessionError>
-        ensures { self.new ≡ record self.old { talk = self.new.talk } }
+        ensures rest { self.new ≡ record self.old { talk = self.new.talk } }
+        // Its partner has told nothing yet.
+        ensures untold { told_all_of self.new.talk ≡ false }
     {
         let mut talk = FailoverSession::new(self.alloc, SessionPolicy::Serve);
         match self.volume.greet(&mut talk, settings) {
@@ -70,6 +73,16 @@ where
         }
     }
 
+    /// What the monotonic clock shows: by it the talk counts, in the turns that follow, for how long it waits
+    /// (`failover_session::FailoverSession::see_clock`).
+    pub fn see_clock(&mut self, now: Instant)
+        ensures { self.new ≡ self.old }
+    {
+        if let Some(talk) = &mut self.talk {
+            talk.see_clock(now);
+        }
+    }
+
     /// Takes what came over the connection, does what follows from it, and holds back what is to be said
     /// (`failover_session::FailoverSession::poll`). Where there is no connection, nothing is done. After an error the
     /// connection has to be ended, once what was held back has left.
@@ -81,6 +94,8 @@ where
     ) -> Result<(), SessionError>
         ensures grows { (added : List ReceiptValue) × Grows self.old.volume self.new.volume added }
         ensures rest { self.new ≡ record self.old { volume = self.new.volume; talk = self.new.talk } }
+        // Whether the partner has told all, the talk knows by what came.
+        ensures told { KnowsToldAll result came.now self.old.talk self.new.talk }
         // A talk that goes on says that this journal is short by what its receipts send, or by what it would take.
         ensures why { IfSome self.old.talk (λ s. IsGoing s.stage
             → SaysWhyTalkIsShort s.policy (receipts_in self.new.volume.served) self.new.talk) }
@@ -126,6 +141,16 @@ where
         match &self.talk {
             Some(talk) => Some(talk.stage()),
             None => None,
+        }
+    }
+
+    /// Returns whether the partner has said over the connection that it told all that there was to tell (UPDDONE).
+    pub fn partner_told_all(&self) -> bool
+        ensures { result ≡ told_all_of self.now.talk }
+    {
+        match &self.talk {
+            Some(talk) => talk.partner_told_all(),
+            None => false,
         }
     }
 

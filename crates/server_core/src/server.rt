@@ -140,8 +140,8 @@ where
     /// Hears a datagram that came from a peer at a reading. Where it is a client's message to this server, its orders,
     /// of a RELEASE one for each prefix, are done, those that the admission lets be, or it is told again what it has;
     /// the answer is held back until the next `commit`. Where it is a request for options alone, and the server's
-    /// manner has some, so is the answer to that. Of a RELEASE that comes too early nothing is done
-    /// (`client_service::has_early_release`).
+    /// manner has some, so is the answer to that. Of a message that the admission doesn't hear, and of a RELEASE that
+    /// comes too early where it may be ordered, nothing is done (`client_service::has_early_release`).
     pub fn handle_datagram<A: Admission>(
         &mut self,
         admission: &mut A,
@@ -150,8 +150,8 @@ where
         datagram: &[u8],
         peer: P,
     ) -> DatagramOutcome
-        ensures heard { IsHandled (A.lets admission.old) self.old.own manner.now self.old.terms peer datagram.now
-            read self.old.volume self.new.volume self.old.held self.new.held result }
+        ensures heard { IsHandled (A.lets admission.old) (A.drops admission.old) self.old.own manner.now
+            self.old.terms peer datagram.now read self.old.volume self.new.volume self.old.held self.new.held result }
         ensures grows { (added : List ReceiptValue) × Grows self.old.volume self.new.volume added }
         ensures rest { self.new ≡ record self.old { volume = self.new.volume; held = self.new.held } }
     {
@@ -163,14 +163,15 @@ where
             Ok(()) => {}
             Err(_) => return DatagramOutcome::Unanswered(NoReplyReason::Memory),
         }
-        if has_early_release(self.volume.book(), &self.terms, read, &message) {
-            return DatagramOutcome::EarlyRelease;
-        }
         let permits = match admission.permits(self.volume.book(), read, &message) {
             Ok(permits) => permits,
             Err(DropReason::TooMany) => return DatagramOutcome::TooMany,
+            Err(DropReason::LeftToPartner) => return DatagramOutcome::LeftToPartner,
             Err(DropReason::Memory) => return DatagramOutcome::Unanswered(NoReplyReason::Memory),
         };
+        if has_early_release(self.volume.book(), &self.terms, read, &message, &permits) {
+            return DatagramOutcome::EarlyRelease;
+        }
         let partner = partner_of(self.volume.book());
         let said = self.volume.answer(
             self.alloc,

@@ -1,2 +1,4 @@
 pub mod RateLimits
 pub mod Watches
+pub mod Refusals
+pub mod RefusedPorts

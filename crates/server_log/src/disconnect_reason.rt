@@ -1,9 +1,13 @@
 //! Why a connection with the partner is over.
 
+ghost use Rattle.std.specs.Prelude.{◌≡◌};
+ghost use Rattle.server_log.specs.Refusals.{refusal_of};
+
 use crate::lead_words::LeadWords;
 use crate::level::Level;
 use link_notices::{ClockRange, SettingsDifference};
 use locked_book::ServeError;
+use server_status::PartnerRefusal;
 use std::fmt;
 use std::fmt::Write;
 
@@ -62,6 +66,22 @@ impl DisconnectReason {
             DisconnectReason::PartnerLeft | DisconnectReason::Rolled | DisconnectReason::Replaced =>
                 Level::Notice,
             _ => Level::Warning,
+        }
+    }
+
+    /// Why the partner was refused by it, where it was: what it sent or knows, and not what befell the connection.
+    pub fn refusal(&self) -> Option<PartnerRefusal>
+        ensures { result ≡ refusal_of self.now }
+    {
+        match self {
+            DisconnectReason::Refused => Some(PartnerRefusal::Frame),
+            DisconnectReason::Book(_) => Some(PartnerRefusal::Message),
+            DisconnectReason::Lacks => Some(PartnerRefusal::OlderVolumes),
+            DisconnectReason::JournalOlder | DisconnectReason::OldCopy => {
+                Some(PartnerRefusal::JournalOlder)
+            }
+            DisconnectReason::MisspelledNotice => Some(PartnerRefusal::Notice),
+            _ => None,
         }
     }
 

@@ -19,10 +19,11 @@ mod level;
 mod log;
 mod log_event;
 mod rate_limit;
+mod refused_ports;
 mod watch;
 
 pub use disconnect_reason::DisconnectReason;
 pub use level::Level;
-pub use log::Log;
+pub use log::{Log, moment_words};
 pub use log_event::LogEvent;
 pub use watch::{SeenClock, StateWatch};

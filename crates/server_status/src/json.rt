@@ -1,6 +1,7 @@
 //! A status as JSON. Readings are in milliseconds since 1970, and what there isn't is `null`.
 
 use crate::notices::PartnerNotices;
+use crate::partner_refusal::LastRefusal;
 use crate::serving::{NotServing, ServingState};
 use crate::status::{ServerStatus, VolumeStatus};
 use crate::sync_times::SyncSummary;
@@ -30,7 +31,7 @@ fn counts_of(alloc: Global, counts: &[(&'static str, u64)]) -> Result<Value, All
 }
 
 /// Whether clients are served, and why not.
-fn serving_value(alloc: Global, serving: &ServingState) -> Result<Value, AllocError> {
+pub(crate) fn serving_value(alloc: Global, serving: &ServingState) -> Result<Value, AllocError> {
     match serving {
         ServingState::Yes => json!(in alloc; { "is": true }),
         ServingState::No(why) => match why {
@@ -114,6 +115,17 @@ fn names_of(alloc: Global, differences: &[SettingsDifference]) -> Result<Value, 
     Ok(Value::Array(names))
 }
 
+/// Why the partner was refused last, and when, or null.
+fn refusal_or_null(alloc: Global, refusal: &Option<LastRefusal>) -> Result<Value, AllocError> {
+    match refusal {
+        Some(refusal) => json!(in alloc; {
+            "at_ms": refusal.at.milliseconds(),
+            "why": refusal.why.name()
+        }),
+        None => Ok(Value::Null),
+    }
+}
+
 /// Puts what the server takes its partner for, and how it is linked to it.
 fn add_standing(
     alloc: Global,
@@ -126,7 +138,9 @@ fn add_standing(
     let since = reading_or_null(status.link.since());
     add(alloc, object, "link", status.link.name())?;
     add(alloc, object, "connected_since_ms", since)?;
-    add(alloc, object, "heard_ms", reading_or_null(status.heard))
+    add(alloc, object, "heard_ms", reading_or_null(status.heard))?;
+    let refusal = refusal_or_null(alloc, &status.refusal)?;
+    add(alloc, object, "refusal", refusal)
 }
 
 /// Puts what the partner told beside the frames.
@@ -187,6 +201,7 @@ fn add_unanswered(
     object: &mut Map<String, Value>,
     traffic: &Traffic,
 ) -> Result<(), AllocError> {
+    add(alloc, object, "over_quota", traffic.over_quota)?;
     add(alloc, object, "unanswered", traffic.unanswered)?;
     add(alloc, object, "late", traffic.late)?;
     add(alloc, object, "held", traffic.held)

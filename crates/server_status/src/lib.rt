@@ -3,7 +3,8 @@
 //!
 //! A [`ServerStatus`] is filled in by the server, and written in a form that a person asks for: lines to read, JSON, or
 //! the text of OpenMetrics that a monitor scrapes. [`UnitCounts`], [`Traffic`] and [`SyncTimes`] count what it says;
-//! [`serving_of`] decides whether clients are served, and why not (specs/Serving). [`PartnerNotices`] is what its
+//! [`serving_of`] decides whether clients are served, and why not (specs/Serving); of a server whose disk failed
+//! [`failed_status`] is all that is said. [`PartnerNotices`] is what its
 //! partner told beside the frames.
 //!
 //! ```text
@@ -26,10 +27,12 @@
 
 mod control_reply;
 mod control_request;
+mod failed;
 mod json;
 mod lines;
 mod metrics;
 mod notices;
+mod partner_refusal;
 mod serving;
 mod status;
 mod sync_times;
@@ -41,7 +44,9 @@ pub use control_reply::{ControlReply, ControlVerdict};
 pub use control_request::{
     CLOCK_RIGHT, ControlRequest, PARTNER_STOPPED, ShutdownMode, StatusFormat,
 };
+pub use failed::failed_status;
 pub use notices::{NoticeState, PartnerNotices};
+pub use partner_refusal::{LastRefusal, PartnerRefusal};
 pub use serving::{
     JournalShortage, JournalState, NotServing, ServingInput, ServingState, serving_of,
 };

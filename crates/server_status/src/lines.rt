@@ -1,6 +1,7 @@
 //! A status as lines for a person, each a name and what it is.
 
 use crate::notices::{Lead, PartnerNotices};
+use crate::partner_refusal::LastRefusal;
 use crate::status::{ServerStatus, VolumeStatus};
 use crate::sync_times::SyncSummary;
 use crate::traffic::Traffic;
@@ -87,9 +88,25 @@ fn push_partner(
     push_since(out, alloc, "partner", standing.name(), standing.since())?;
     push_since(out, alloc, "link", link.name(), link.since())?;
     match status.heard {
-        Some(heard) => push_at(out, alloc, "heard", heard),
-        None => writeln!(out, "heard: never"),
+        Some(heard) => push_at(out, alloc, "heard", heard)?,
+        None => writeln!(out, "heard: never")?,
     }
+    push_refusal(out, alloc, &status.refusal)
+}
+
+/// Appends why the partner was refused last, and when.
+fn push_refusal(
+    out: &mut String,
+    alloc: Global,
+    refusal: &Option<LastRefusal>,
+) -> Result<(), AllocError> {
+    let Some(refusal) = refusal else {
+        return writeln!(out, "refusal: none");
+    };
+    let why = refusal.why;
+    out.push_str("refusal: ")?;
+    push_moment(out, alloc, refusal.at)?;
+    writeln!(out, ", {why}")
 }
 
 /// Appends which program the partner is.
@@ -154,6 +171,8 @@ fn push_traffic(out: &mut String, traffic: &Traffic) -> Result<(), AllocError> {
     push_counts(out, "messages", &traffic.messages.named())?;
     push_counts(out, "refused", &traffic.faults.named())?;
     push_counts(out, "answers", &traffic.answers.named())?;
+    let over_quota = traffic.over_quota;
+    writeln!(out, "over_quota: {over_quota}")?;
     writeln!(out, "unanswered: {unanswered}")?;
     writeln!(out, "late: {late}")?;
     writeln!(out, "held: {held}")

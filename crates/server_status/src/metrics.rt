@@ -1,4 +1,4 @@
-//! A status as the text of OpenMetrics, for a monitor that scrapes it.
+//! A status as text that is OpenMetrics, and that readers of Prometheus's text format 0.0.4 take too.
 
 use crate::notices::{VERDICTS, verdict_name};
 use crate::serving::{NotServing, ServingState};
@@ -64,7 +64,7 @@ fn push_states(
     states: &[&'static str],
     state: &str,
 ) -> Result<(), AllocError> {
-    push_family(out, name, "stateset", help)?;
+    push_family(out, name, "gauge", help)?;
     for other in states {
         let holds = if *other == state { 1 } else { 0 };
         writeln!(
@@ -94,7 +94,7 @@ fn push_moment(
 /// Appends what the server and its clock are.
 fn push_server(out: &mut String, status: &ServerStatus<'_>) -> Result<(), AllocError> {
     let role = role_name(status.role);
-    push_family(out, "server", "info", "What the server is.")?;
+    push_family(out, "server_info", "gauge", "What the server is.")?;
     writeln!(out, "fengtuyas_server_info{{role=\"{role}\"}} 1")?;
     push_states(
         out,
@@ -129,7 +129,7 @@ fn push_ahead(out: &mut String, ahead: i64) -> Result<(), AllocError> {
 }
 
 /// Appends whether clients are served, and each reason why they aren't.
-fn push_serving(out: &mut String, serving: &ServingState) -> Result<(), AllocError> {
+pub(crate) fn push_serving(out: &mut String, serving: &ServingState) -> Result<(), AllocError> {
     let why = serving.why_not();
     let serves = if why.is_none() { 1 } else { 0 };
     push_gauge(out, "serving", "Whether clients are served.", serves)?;
@@ -233,6 +233,12 @@ fn push_partner(out: &mut String, status: &ServerStatus<'_>) -> Result<(), Alloc
         "partner_heard_timestamp_seconds",
         "When the partner's last message was taken.",
         status.heard,
+    )?;
+    push_gauge(
+        out,
+        "partner_refused",
+        "Whether the partner was refused, and no connection has stood for a while since.",
+        if status.refusal.is_some() { 1 } else { 0 },
     )
 }
 
@@ -289,6 +295,12 @@ fn push_traffic(out: &mut String, traffic: &Traffic) -> Result<(), AllocError> {
         "Answers that were sent.",
         "kind",
         &traffic.answers.named(),
+    )?;
+    push_counter(
+        out,
+        "quota_refusals",
+        "IA_PDs that asked for a prefix which a quota refused.",
+        traffic.over_quota,
     )?;
     push_counter(
         out,

@@ -37,6 +37,8 @@ pub enum NotServing {
     JournalOlder,
     /// Its volume has room for a close line alone.
     VolumeFull,
+    /// Its disk failed: it ends, and is to be started again.
+    DiskFailed,
     /// It began again while its partner was taken for down or units were marked, and goes on in so many seconds.
     GoesOnIn { seconds: u64 },
 }
@@ -128,7 +130,7 @@ pub fn serving_of(input: &ServingInput) -> ServingState
 
 impl NotServing {
     /// The name of each reason.
-    pub(crate) const NAMES: [&'static str; 8] = [
+    pub(crate) const NAMES: [&'static str; 9] = [
         "waits_for_partner",
         "clock_behind",
         "journal_older",
@@ -137,6 +139,7 @@ impl NotServing {
         "clock_set",
         "asks_partner_clock",
         "partner_clock_differs",
+        "disk_failed",
     ];
 
     /// The name of the reason, as programs read it.
@@ -150,6 +153,7 @@ impl NotServing {
             NotServing::ClockSet => "clock_set",
             NotServing::AsksPartnerClock => "asks_partner_clock",
             NotServing::PartnerClockDiffers => "partner_clock_differs",
+            NotServing::DiskFailed => "disk_failed",
         }
     }
 }
@@ -183,6 +187,7 @@ impl fmt::Display for NotServing {
             NotServing::AsksPartnerClock => f.write_str("asks its partner's clock"),
             NotServing::JournalOlder => f.write_str("journal older than what its partner took"),
             NotServing::VolumeFull => f.write_str("volume full"),
+            NotServing::DiskFailed => f.write_str("disk failed"),
             NotServing::GoesOnIn { seconds } => {
                 write!(f, "goes on after its restart in {seconds} s")
             }

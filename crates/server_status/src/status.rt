@@ -7,6 +7,7 @@ use crate::json::json_of;
 use crate::lines::lines_of;
 use crate::metrics::metrics_of;
 use crate::notices::PartnerNotices;
+use crate::partner_refusal::LastRefusal;
 use crate::serving::{JournalState, ServingState};
 use crate::sync_times::SyncSummary;
 use crate::traffic::Traffic;
@@ -35,6 +36,8 @@ pub struct ServerStatus<'a> {
     pub serving: ServingState,
     /// Whether it has all that its partner took of it.
     pub journal: JournalState,
+    /// Why it refused its partner last, if it did and no connection has stood for a while since.
+    pub refusal: Option<LastRefusal>,
     /// What its partner told beside the frames.
     pub notices: PartnerNotices<'a>,
 }

@@ -15,6 +15,8 @@ pub struct Traffic {
     pub faults: FaultCounts,
     /// Answers that were sent.
     pub answers: AnswerCounts,
+    /// IA_PDs that asked for a prefix which a quota refused.
+    pub over_quota: u64,
     /// Messages that were read and have no answer.
     pub unanswered: u64,
     /// Answers whose lines were on the disk too late for the transit: they weren't sent.
@@ -83,6 +85,7 @@ impl Traffic {
             advertise: 0,
             reply: 0,
         },
+        over_quota: 0,
         unanswered: 0,
         late: 0,
         held: 0,

@@ -12,7 +12,7 @@ use Rattle.server_timers.specs.declared.growth.Growth.{Growth}
 
 -- when a server does what, each at least 1
 pub record TimerSettings : Type 0 where
-  pub heartbeat : ℕ  -- seconds without a line, after which it says so to its partner
+  pub heartbeat : ℕ  -- seconds without a line but takes of contacts, after which it says so to its partner
   pub volume_lines : ℕ  -- lines behind the head lines
   pub volume_hours : ℕ
 
@@ -27,9 +27,9 @@ lines_written g = g.lines - g.head_lines
 
 -- ---- contacts
 
--- nothing was written for the heartbeat's seconds
+-- nothing but takes of contacts was written for the heartbeat's seconds
 abbrev pub IsContactDue : TimerSettings → Growth → (now : ℕ) → Type 0
-IsContactDue l g now = g.written + 1000 * l.heartbeat ≤ now
+IsContactDue l g now = g.spoken + 1000 * l.heartbeat ≤ now
 
 -- ---- room
 

@@ -73,6 +73,13 @@ impl Timers {
         })
     }
 
+    /// After how many seconds without a line that tells its partner anything a server says that it lives.
+    pub fn heartbeat(&self) -> u32
+        ensures { result ≡ self.now.heartbeat }
+    {
+        self.heartbeat
+    }
+
     /// Returns whether a volume holds fewer than seven renewals of leases of so many seconds, each of which comes at
     /// half of that (RFC 8415, section 21.21: T1). Most evidence of a lease is in the volume in which it was granted.
     pub fn is_short_for(&self, life: u32) -> bool
@@ -81,11 +88,11 @@ impl Timers {
         2 * HOUR_SECONDS * u64::from(self.volume_hours) < 7 * u64::from(life)
     }
 
-    /// Returns whether nothing was written for so long.
+    /// Returns whether nothing was written for so long that tells the partner anything.
     fn is_contact_due(&self, growth: &Growth, now: Reading) -> bool
         ensures { IsTrue result ↔ IsContactDue self.now growth.now now }
     {
-        growth.written.milliseconds() + 1000 * u64::from(self.heartbeat) <= now.milliseconds()
+        growth.spoken.milliseconds() + 1000 * u64::from(self.heartbeat) <= now.milliseconds()
     }
 
     /// Returns whether the volume is old enough.

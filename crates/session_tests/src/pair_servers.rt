@@ -6,7 +6,8 @@ use client_service::{
 use dhcp6_pd::decode;
 use exclusive_book::{ExclusiveBook, ExclusivePairBook};
 use failover_message::encode;
-use failover_session::{FailoverSession, LinkInput, SessionPolicy};
+use failover_session::{FailoverSession, LinkInput, PairBook, SessionPolicy, SessionStage};
+use journal_lines::Event;
 use lead_time::Reading;
 use prefix_range::Prefix;
 use server_book::{Book, LeaseRequest, Order, Reply, ReplyPolicy, Settings, read_settings};
@@ -51,7 +52,7 @@ impl Server {
 
     /// Gives its book an order, which may be refused. Says whether it wasn't.
     pub fn order(&mut self, now: Reading, order: &Order) -> bool {
-        self.own.book.apply(now, order).is_ok()
+        ExclusivePairBook.serve(&mut self.own, now, order).is_ok()
     }
 
     /// By what it tells again.
@@ -78,10 +79,14 @@ impl Server {
 
     /// What its book grants by an order, if it grants anything: a prefix for so many seconds.
     pub fn granted(&mut self, now: Reading, order: &Order) -> Option<(Prefix, u32)> {
-        match &self.own.book.apply(now, order) {
+        let granted = match &self.own.book.apply(now, order) {
             Ok(Reply::Granted { prefix, valid }) => Some((*prefix, *valid)),
             _ => None,
+        };
+        if granted.is_some() {
+            self.keep_grant()?;
         }
+        granted
     }
 
     /// Answers a client's datagram, and says whether it gets these octets.
@@ -94,11 +99,11 @@ impl Server {
     ) -> Result<bool, Fail> {
         let own = self.settings.duid();
         let message = decode(alloc, datagram, own)?;
-        let book = &mut self.own.book;
-        match answer_to(
+        let lines = self.own.book.journal().len();
+        let told = answer_to(
             alloc,
             &client_service::ExclusiveService,
-            book,
+            &mut self.own.book,
             own,
             &ReplyPolicy::plain(alloc),
             PartnerAvailability::Up,
@@ -106,10 +111,26 @@ impl Server {
             now,
             &message,
             (),
-        ) {
+        );
+        if self.own.book.journal().len() > lines {
+            self.keep_grant().ok_or("no grant")?;
+        }
+        match told {
             Ok(told) => Ok(told.octets() == answer),
             Err(_) => Ok(false),
         }
+    }
+
+    /// Keeps the receipt of the grant that is the book's last line: its talk goes by receipts. None where that is none.
+    fn keep_grant(&mut self) -> Option<()> {
+        let Event::Grant(lease) = self.own.book.journal().last()?.event else {
+            return None;
+        };
+        let reply = Reply::Granted {
+            prefix: lease.prefix,
+            valid: lease.valid,
+        };
+        self.own.keep_last(reply).ok()
     }
 
     /// Begins another connection; what was under way on the last one is lost.
@@ -122,6 +143,17 @@ impl Server {
         carry(alloc, &mut self.talk, wire)
     }
 
+    /// Ends the lowest lease that has ended, as a daemon does: none that the partner may have renewed.
+    fn end_lease(&mut self, now: Reading) {
+        let has_joined = matches!(self.talk.stage(), SessionStage::Joined { .. });
+        if !has_joined || !self.talk.partner_told_all() || self.own.book.waiting() {
+            return;
+        }
+        if let Some(prefix) = self.own.book.first_to_expire(now) {
+            let _is_done = self.order(now, &Order::Expire(prefix));
+        }
+    }
+
     /// One turn of its end, whose frames go on their way. Says whether the connection goes on.
     pub fn turn(
         &mut self,
@@ -130,6 +162,7 @@ impl Server {
         came: &LinkInput<'_>,
         wire: &mut Vec<u8>,
     ) -> Result<bool, Fail> {
+        self.end_lease(now);
         let done = self.talk.poll(&ExclusivePairBook, &mut self.own, &self.settings, now, came);
         carry(alloc, &mut self.talk, wire)?;
         Ok(done.is_ok() && !self.talk.stage().has_ended())

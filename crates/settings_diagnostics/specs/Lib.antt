@@ -4,3 +4,4 @@ pub mod Nearest
 pub mod Pools
 pub mod Refusing
 pub mod KeyRules
+pub mod Pairing

@@ -18,7 +18,7 @@ RANGE = re.compile(r"between (\d+) ms (ahead|behind) and (\d+) ms (ahead|behind)
 DIFFERENCE = re.compile(r"(mclt|skew_ms|transit_ms|life): \d+ here, \d+ there\Z|(pools|pool_order)\Z")
 VERDICTS = ("unknown", "agrees", "differs", "unclear")
 # The lines behind `heard:`.
-LINES = ("notices", "partner_program", "partner_clock", "settings")
+LINES = ("refusal", "notices", "partner_program", "partner_clock", "settings")
 
 
 def range_of(text):
@@ -44,8 +44,8 @@ def of_lines(rows):
     keys = [row.split(": ", 1)[0] for row in rows]
     given = dict(row.split(": ", 1) for row in rows if ": " in row)
     place = keys.index("heard") if "heard" in keys else None
-    if place is None or tuple(keys[place + 1:place + 5]) != LINES:
-        behind = keys[place + 1:place + 5] if place is not None else "no line of that name"
+    if place is None or tuple(keys[place + 1:place + 1 + len(LINES)]) != LINES:
+        behind = keys[place + 1:place + 1 + len(LINES)] if place is not None else "no line of that name"
         return [f"behind heard: comes {behind}, wants {', '.join(LINES)}"]
     wrong = []
     serving = given["serving"]

@@ -1,4 +1,4 @@
-"""A trial: its plays, each of a side, side by side; what of them isn't as wanted; and the line of counts."""
+"""A trial: its plays, each of a side, all or so many at once; what of them isn't as wanted; and the line of counts."""
 import argparse
 import concurrent.futures
 import pathlib
@@ -84,10 +84,10 @@ class Trial:
         return (f"tests/adversarial/{self.name}: {len(plays)} plays, {wrong} not as wanted; {starts} starts, "
                 f"{len(grants)} grants of {prefixes} prefixes seen, {twice} of two clients at once; {seconds:.0f} s")
 
-    def all_played(self, node, folder, chosen):
-        """What was played, and how long each took."""
+    def all_played(self, node, folder, chosen, at_once):
+        """What was played, and how long each took: at most `at_once` plays are played at the same time."""
         places = Places(len(chosen))
-        with concurrent.futures.ThreadPoolExecutor(len(chosen)) as pool:
+        with concurrent.futures.ThreadPoolExecutor(at_once) as pool:
             runs = {name: pool.submit(self.played, node, folder, place, name)
                     for place, name in zip(places.held, chosen)}
             done = {name: run.result() for name, run in runs.items()}
@@ -100,7 +100,8 @@ class Trial:
         with tempfile.TemporaryDirectory() as temporary:
             folder = pathlib.Path(words.keep or temporary).resolve()
             folder.mkdir(parents=True, exist_ok=True)
-            done = self.all_played(str(pathlib.Path(words.node).resolve()), folder, chosen)
+            node, at_once = str(pathlib.Path(words.node).resolve()), words.at_once or len(chosen)
+            done = self.all_played(node, folder, chosen, at_once)
         for name, (play, seconds) in done.items():
             if words.slow:
                 print(f"{name}: {seconds:.0f} s")
@@ -117,5 +118,6 @@ def words_of(description):
     parser.add_argument("node")
     parser.add_argument("--only", help="these plays, with commas between them; each may have a side, as down-waits/A")
     parser.add_argument("--keep", help="a new folder in which the servers' directories stay")
+    parser.add_argument("--at-once", type=int, help="how many plays are played at the same time, otherwise all")
     parser.add_argument("--slow", action="store_true", help="says how long each play took")
     return parser.parse_args()

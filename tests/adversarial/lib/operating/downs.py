@@ -8,6 +8,8 @@ from .stage import DOWN, LONG, NORMAL, is_contact, ran
 
 # Why it is refused while the two are connected; and without its words.
 RUNS = "there is a connection with the partner: it runs"
+WAITS_ITSELF = "refused: this server waits for its partner's answer, since it doesn't know what its partner did"
+NOT_DOWN = "refused: the partner isn't taken for down"
 WRONG_WORDS = 'partner-down wants the words "the partner is stopped"'
 
 
@@ -31,13 +33,18 @@ def states(server):
 
 
 def connected(play):
-    """`partner-down` while the two are connected: refused at either, and nothing changes."""
+    """`partner-down` and `partner-normal` while the two are connected: refused at either, and nothing changes."""
     mine, theirs = leased(play)
     servers, what = (play.one, play.other), "partner-down while connected"
+    for server in servers:
+        play.until(f"{server.side} has nothing due", lambda each=server: each.value("due") == "0")
+    play.told(play.one, play.other)
+    play.told(play.other, play.one)
     before = {server.side: (book_lines(server), server.value("link")) for server in servers}
     for server in servers:
         for _ in range(2):
             play.refused(server, DOWN, f"refused: {RUNS}", what)
+            play.refused(server, NORMAL, NOT_DOWN, "partner-normal while nothing is to be ended")
         status, _, said = ran(server, DOWN[0], "the partner is stopping")
         play.see(status == 2 and WRONG_WORDS in said, f"{what}, in other words: status {status}, {said!r}")
         status, _, said = ran(server, DOWN[0])
@@ -64,7 +71,8 @@ def waits(play):
     one.kill()
     play.begins(one)
     play.says(one, WAITS, "it waits")
-    play.refused(one, DOWN, "refused", "it waits")
+    play.refused(one, DOWN, WAITS_ITSELF, "it waits")
+    play.refused(one, NORMAL, NOT_DOWN, "it waits")
     play.says(one, WAITS, "it waits, and was told that its partner is down")
     play.silent(one, mine, "it waits", 2)
     play.see("state down" not in one.events(), f"{one.side} writes 'state down' while it waits")
@@ -87,6 +95,7 @@ def normal(play):
     standing = {key: one.data().get("partner", {}).get(key, "nothing") for key in ("standing", "standing_since_ms")}
     wanted = {"standing": "normal", "standing_since_ms": None}
     play.see(standing == wanted, f"{what}: {one.side}'s status as an object has {standing}")
+    play.refused(one, NORMAL, NOT_DOWN, f"{what}, and told so once more")
     play.see(states(one)[-2:] == ["state down", "state normal"], f"{what}: {one.side} writes {states(one)}")
     play.serves(one, mine, what)
     play.rebinds(one, theirs, what)

@@ -1,4 +1,5 @@
 """Messages by several relay ports in one turn of a server: each grant's record says by which port it was asked for."""
+import contextlib
 import random
 import signal
 import socket
@@ -71,13 +72,15 @@ class Port:
 
 @dataclass
 class Question:
-    """What a client asks by a port, of how many associations; whom it names, and what it has."""
+    """What a client asks by a port, of how many associations; whom it names, and what it has; and the number of the
+    first association."""
 
     kind: int
     duid: bytes
     port: Port
     count: int = 1
     prefixes: tuple = ()
+    first: int = 1
 
     def message(self, server):
         content = option(CLIENT_IDENTIFIER, self.duid)
@@ -85,7 +88,7 @@ class Question:
             content += option(SERVER_IDENTIFIER, bytes.fromhex(server.duid))
         for number in range(self.count):
             has = prefix_option(self.prefixes[number], 0, 0) if self.prefixes else b""
-            content += option(IA_PD, (number + 1).to_bytes(4, "big") + bytes(8) + has)
+            content += option(IA_PD, (self.first + number).to_bytes(4, "big") + bytes(8) + has)
         return bytes([self.kind]) + self.duid[-3:] + content
 
 
@@ -98,16 +101,25 @@ def ports_of(server):
     ]
 
 
-def in_one_turn(play, server, questions, what):
-    """All of these reach a server while it stands: the prefixes of each answer, by its client."""
+@contextlib.contextmanager
+def standing(server):
+    """The server stands meanwhile."""
     server.process.send_signal(signal.SIGSTOP)
     try:
         while "State:\tT" not in open(f"/proc/{server.process.pid}/status").read():
             time.sleep(0.005)
-        for question in questions:
-            question.port.send(question.message(server))
+        yield
     finally:
         server.process.send_signal(signal.SIGCONT)
+
+
+def in_one_turn(play, server, questions, what, meanwhile=lambda: None):
+    """All of these reach a server while it stands, and something is done meanwhile: the prefixes of each answer, by its
+    client."""
+    with standing(server):
+        meanwhile()
+        for question in questions:
+            question.port.send(question.message(server))
     found, until = {}, time.monotonic() + PATIENCE
     for question in questions:
         answer = question.port.heard(until - time.monotonic())

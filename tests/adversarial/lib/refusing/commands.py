@@ -14,7 +14,7 @@ from .servers import Server, Talker
 LONGEST = 40
 FAULT = 2
 # A fault that a command names, in a line of its own.
-NAMED = re.compile(r"^(fault [A-Z]\w+|no server answers in this directory)", re.MULTILINE)
+NAMED = re.compile(r"^(fault [A-Z]\w+|no (server answers|permission to ask the server) in this directory)", re.MULTILINE)
 TRANSIT = 1000
 MARGINS = ["--skew-ms", "500", "--transit-ms", str(TRANSIT)]
 # How long behind its answer a lease is asked about, and how long behind that the last line of its volume comes, in milliseconds.

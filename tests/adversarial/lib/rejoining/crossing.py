@@ -1,4 +1,7 @@
-"""Clients whose REBIND reaches both servers, which both grant: how many lines come of it, and that it comes to rest."""
+"""Clients whose REBIND reaches both servers, which both grant: how many lines come of it, and that it comes to rest.
+
+Of two grants that cross, one server's change stays due until the client renews again where it did last.
+"""
 import time
 
 from living.play import Broken
@@ -69,7 +72,7 @@ def crossed(play, delay, pause, what):
         full = sum(play.lifetime(client) == KIND["life"] for client in renewed)
         play.see(full == CLIENTS, f"{what}: {full} of {CLIENTS} get the whole lifetime of {server.side}")
         rests(play, prefixes, f"{what}, renewed at {server.side}")
-    play.see(play.has_no_due(SOON), f"{what}: changes of {play.due()} units are due for good")
+    play.at_rest(what, lambda: play.customers.renew(play.one, clients, RENEW))
 
 
 PLAYS = {

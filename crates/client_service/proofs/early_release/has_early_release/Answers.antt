@@ -7,13 +7,14 @@ pub loop-place-preserved : goal.loop-place-preserved
 loop-place-preserved c = (
   search rules,
   search rules,
-  none_more c.args.book.now c.args.terms.now c.args.now c.args.message.now c.loop-place.place c.loop-place.invariant.2
-      (iff_false c.is_early_at.ensures c.if-is_early_at.false),
+  none_more c.args.book.now c.args.terms.now c.args.now c.args.message.now c.args.permits.now c.loop-place.place
+      c.loop-place.invariant.2 (iff_false c.is_ordered_early.ensures c.if-is_ordered_early.false),
 )
 
 pub returns : goal.returns
 returns c = (
   λ yes. absurd (cc),
-  λ early. absurd (none_at_all c.args.book.now c.args.terms.now c.args.now c.args.message.now c.loop-place.place
+  λ early. absurd (none_at_all c.args.book.now c.args.terms.now c.args.now c.args.message.now c.args.permits.now
+      c.loop-place.place
       (omega (arith, c.loop-place-test.false, c.loop-place.invariant.1)) c.loop-place.invariant.2 early),
 )

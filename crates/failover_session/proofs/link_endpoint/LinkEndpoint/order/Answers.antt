@@ -4,4 +4,4 @@ use Rattle.failover_session.proofs.link_endpoint.LinkEndpoint.order.Goals as goa
 
 pub returns-in-Ok : goal.returns-in-Ok
 returns-in-Ok g c =
-    one_said _ _ _ _ c.in-Ok.receipt c.args.order.now c.in-Ok.ensures.added c.in-Ok.ensures.named c.requires (search rules)
+    one_said _ _ _ _ c.in-Ok.receipt c.args.order.now c.in-Ok.ensures.added c.in-Ok.ensures.named c.requires.other (search rules)

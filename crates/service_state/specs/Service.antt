@@ -6,9 +6,9 @@ use Rattle.journal_lines.specs.declared.line.Journal.{Journal}
 use Rattle.folder_start.specs.Pairing.{IsSurvivor}
 use Rattle.failover_session.specs.declared.stage.SessionStage.{SessionStage}
 use Rattle.failover_session.specs.declared.stage.SessionStage.TheVariants.{Short}
-use Rattle.node_daemon.specs.declared.service.PartnerView.{PartnerView}
-use Rattle.node_daemon.specs.declared.service.ServiceState.{ServiceState}
-use Rattle.node_daemon.specs.declared.service.ServiceState.TheVariants.{Open, HoldsOff, Shut}
+use Rattle.service_state.specs.declared.service.PartnerView.{PartnerView}
+use Rattle.service_state.specs.declared.service.ServiceState.{ServiceState}
+use Rattle.service_state.specs.declared.service.ServiceState.TheVariants.{Open, HoldsOff, Shut}
 
 -- it serves, as its book lets it
 abbrev pub IsOpen : ServiceState → Type 0

@@ -1,7 +1,7 @@
 //! Why a request isn't done.
 
 ghost use Rattle.std.specs.Prelude.{◌≡◌};
-ghost use Rattle.node_daemon.specs.declared.refusal.RequestRefusal.TheVariants.{Memory};
+ghost use Rattle.service_state.specs.declared.refusal.RequestRefusal.TheVariants.{Memory};
 
 use locked_book::ServeError;
 use server_timers::RollBlocked;
@@ -10,7 +10,7 @@ use thiserror::Error;
 
 /// Why a request is refused.
 #[derive(Clone, Copy, Debug, PartialEq, Eq, Error)]
-pub(crate) enum RequestRefusal {
+pub enum RequestRefusal {
     /// The clock is too far behind the journal.
     #[error("the clock is behind the journal by more than twice the skew: set it right first")]
     ClockBehind,
@@ -32,6 +32,13 @@ pub(crate) enum RequestRefusal {
     /// The partner is taken for down already.
     #[error("the partner is taken for down already")]
     IsDown,
+    /// The server waits for its partner's answer.
+    #[error("this server waits for its partner's answer, since it doesn't know what its partner did meanwhile: start \
+             the partner, on another machine if need be")]
+    WaitsForPartner,
+    /// The partner isn't taken for down.
+    #[error("the partner isn't taken for down")]
+    IsNotDown,
     /// The partner is taken for down.
     #[error("no volume may follow while the partner is taken for down")]
     PartnerDown,
@@ -46,6 +53,9 @@ pub(crate) enum RequestRefusal {
     #[error("no volume may follow before the partner has acknowledged the units that were seized from it: the next \
              start would be refused (stop without --close goes on)")]
     CloseWhileMarked,
+    /// The disk failed.
+    #[error("the disk failed: this server ends, and has to be started again")]
+    DiskFailed,
     /// The book takes no such line.
     #[error("{0}")]
     Book(ServeError),

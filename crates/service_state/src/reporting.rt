@@ -1,6 +1,13 @@
 //! How a server is: what its status says.
 
+ghost use Rattle.std.specs.Prelude.{◌≡◌, ◌↔◌, length};
+ghost use Rattle.order_book.specs.Replayed.{state_of};
+ghost use Rattle.service_state.specs.Service.{IsShut};
+ghost use Rattle.service_state.specs.Speaking.{last_spoken};
+ghost use Rattle.service_state.specs.Statuses.{IsStanding};
+
 use crate::service::{ServiceState, ShutReason};
+use crate::speaking::last_spoken;
 use binding_rules::{Body, Role};
 use book_state::Pool;
 use daemon_endpoints::PartnerEndpoint;
@@ -29,7 +36,7 @@ fn count_units(book: &Book, pool: &Pool, counts: &mut UnitCounts) {
 }
 
 /// Counts the units of a server's pools, by what its book says of them.
-pub(crate) fn units_of(book: &Book, pools: &[Pool]) -> UnitCounts {
+pub fn units_of(book: &Book, pools: &[Pool]) -> UnitCounts {
     let mut counts = UnitCounts::NONE;
     for pool in pools {
         count_units(book, pool, &mut counts);
@@ -48,7 +55,9 @@ fn restarted(book: &Book) -> Option<Reading> {
 }
 
 /// What a server takes its partner for.
-pub(crate) fn standing_of(book: &Book, now: Reading) -> PartnerState {
+pub fn standing_of(book: &Book, now: Reading) -> PartnerState
+    ensures { IsStanding (state_of book.now).down (state_of book.now).waiting result }
+{
     match book.down() {
         Some(since) => PartnerState::Down { since },
         None if book.waiting() => PartnerState::Waiting {
@@ -72,7 +81,7 @@ fn is_head(event: &Event) -> bool {
 }
 
 /// How many head lines a book's volume begins with.
-pub(crate) fn head_lines_of(book: &Book) -> usize {
+pub fn head_lines_of(book: &Book) -> usize {
     book.journal()
         .iter()
         .take_while(|line| is_head(&line.event))
@@ -81,7 +90,7 @@ pub(crate) fn head_lines_of(book: &Book) -> usize {
 
 /// What a person is told where a server goes on without `restart`, as before its stop; nothing where its partner came
 /// meanwhile and all is well.
-pub(crate) fn going_on(book: &Book) -> Option<LogEvent> {
+pub fn going_on(book: &Book) -> Option<LogEvent> {
     match (book.down(), book.next_mark(0)) {
         (Some(since), _) => Some(LogEvent::GoesOnAlone { since }),
         (None, Some(_)) => Some(LogEvent::MarkedGoesOn),
@@ -90,7 +99,9 @@ pub(crate) fn going_on(book: &Book) -> Option<LogEvent> {
 }
 
 /// How the journal is, by whether the server may serve.
-pub(crate) fn journal_of(service: &ServiceState) -> JournalState {
+pub fn journal_of(service: &ServiceState) -> JournalState
+    ensures { result ≡ JournalState.Whole ↔ (IsShut service.now → ⊥) }
+{
     match service {
         ServiceState::Open | ServiceState::HoldsOff { .. } => JournalState::Whole,
         ServiceState::Shut(ShutReason::PartnerServes) => {
@@ -122,36 +133,38 @@ fn shortage_of(shortage: &SessionShortage) -> JournalShortage {
 }
 
 /// How far a book's volume has grown, which begins with so many head lines.
-pub(crate) fn growth_of(book: &Book, head_lines: usize, now: Reading) -> Growth {
+pub fn growth_of(book: &Book, head_lines: usize, now: Reading) -> Growth
+    ensures lines { result.lines ≡ length book.now.lines }
+    ensures head { result.head_lines ≡ head_lines }
+    ensures spoken { result.spoken ≡ last_spoken now book.now.lines }
+{
     let lines = book.journal();
     Growth {
         lines: lines.len(),
         head_lines,
         opened: lines.first().map_or(now, |line| line.reading),
-        written: lines.last().map_or(now, |line| line.reading),
+        spoken: last_spoken(lines, now),
     }
 }
 
 /// How the open volume is.
-pub(crate) fn volume_of(
-    book: &Book,
-    kept: usize,
-    growth: &Growth,
-    owed: &DueActions,
-) -> VolumeStatus {
+pub fn volume_of(book: &Book, kept: usize, growth: &Growth, owed: &DueActions) -> VolumeStatus {
     VolumeStatus {
         number: book.head().volume(),
         lines: growth.lines,
         synced: kept,
         opened: growth.opened,
-        written: growth.written,
+        written: book
+            .journal()
+            .last()
+            .map_or(growth.opened, |line| line.reading),
         roll: owed.roll,
         room: owed.room,
     }
 }
 
 /// The first volume of a server, which has yet to begin it.
-pub(crate) fn first_volume(now: Reading) -> VolumeStatus {
+pub fn first_volume(now: Reading) -> VolumeStatus {
     VolumeStatus {
         number: 1,
         lines: 0,
@@ -171,7 +184,7 @@ fn program_words(program: &PartnerProgram) -> Option<(&str, &str)> {
 }
 
 /// What the partner told beside the frames.
-pub(crate) fn notices_of<D: ConnectionSource>(partner: &PartnerEndpoint<D>) -> PartnerNotices<'_> {
+pub fn notices_of<D: ConnectionSource>(partner: &PartnerEndpoint<D>) -> PartnerNotices<'_> {
     PartnerNotices {
         state: partner.notices(),
         program: partner.partner_program().and_then(program_words),
@@ -183,7 +196,7 @@ pub(crate) fn notices_of<D: ConnectionSource>(partner: &PartnerEndpoint<D>) -> P
 
 /// Returns whether a line of a book shows that its partner has other settings: a unit is asked back whose move the
 /// partner refused, or the partner told of one that isn't there.
-pub(crate) fn shows_other_settings(book: &Book, line: &Line) -> bool {
+pub fn shows_other_settings(book: &Book, line: &Line) -> bool {
     match &line.event {
         Event::Reclaim(_) => true,
         Event::Take(message) => match &message.body {

@@ -1,8 +1,9 @@
 //! Whether a server may serve, beside what its book and its clock say.
 
 ghost use Rattle.std.specs.Prelude.{◌≡◌, ◌↔◌, IsTrue, IfSome, None};
-ghost use Rattle.node_daemon.specs.Service.{IsOpen, IsShort, IsShut, IsHeldOff, IsNextService};
-ghost use Rattle.node_daemon.specs.Service.{IsAfterStart};
+ghost use Rattle.service_state.specs.Service.{IsOpen, IsShort, IsShut, IsHeldOff, IsNextService};
+ghost use Rattle.service_state.specs.Service.{IsAfterStart};
+ghost use Rattle.service_state.specs.Statuses.{IsHoldingOff};
 
 use failover_session::{JournalShortage, SessionStage};
 use folder_start::is_survivor;
@@ -17,7 +18,7 @@ const LONGEST_SILENCE: u64 = 10_000;
 
 /// Whether a server may serve.
 #[derive(Clone, Copy, Debug, PartialEq, Eq)]
-pub(crate) enum ServiceState {
+pub enum ServiceState {
     /// It serves, as its book lets it.
     Open,
     /// It began again with a book that isn't calm, and waits for its partner since then.
@@ -28,7 +29,7 @@ pub(crate) enum ServiceState {
 
 /// What shows that a journal is short.
 #[derive(Clone, Copy, Debug, PartialEq, Eq)]
-pub(crate) enum ShutReason {
+pub enum ShutReason {
     /// The partner knows more of it.
     Journal(JournalShortage),
     /// The book isn't calm, and yet the partner doesn't wait: so the two had come together again behind it.
@@ -37,7 +38,7 @@ pub(crate) enum ShutReason {
 
 /// What a server sees of its partner in a turn.
 #[derive(Clone, Copy, Debug)]
-pub(crate) struct PartnerView {
+pub struct PartnerView {
     /// How far the two have come over the connection; none where there is none.
     pub stage: Option<SessionStage>,
     /// Whether it said over the connection that it waits for an answer.
@@ -59,7 +60,7 @@ fn shortage_in(stage: &Option<SessionStage>) -> Option<JournalShortage>
 
 impl ServiceState {
     /// Whether a server may serve behind a turn, by what it saw of its partner in it.
-    pub(crate) fn next(&self, partner: &PartnerView, now: Instant) -> ServiceState
+    pub fn next(&self, partner: &PartnerView, now: Instant) -> ServiceState
         ensures { IsNextService self.now result partner.now now }
     {
         match self {
@@ -76,7 +77,9 @@ impl ServiceState {
     }
 
     /// How many seconds a server holds off still, rounded up; none where it doesn't.
-    pub(crate) fn seconds_left(&self, now: Instant) -> Option<u64> {
+    pub fn seconds_left(&self, now: Instant) -> Option<u64>
+        ensures { result ≡ None ↔ (IsHoldingOff self.now → ⊥) }
+    {
         match self {
             ServiceState::HoldsOff { since } => {
                 let waited = now.duration_since(*since).as_secs();
@@ -87,14 +90,14 @@ impl ServiceState {
     }
 
     /// Returns whether a server serves nobody any more.
-    pub(crate) fn is_shut(&self) -> bool
+    pub fn is_shut(&self) -> bool
         ensures { IsTrue result ↔ IsShut self.now }
     {
         matches!(self, ServiceState::Shut(_))
     }
 
     /// Returns whether a server may serve, as far as this says.
-    pub(crate) fn is_open(&self) -> bool
+    pub fn is_open(&self) -> bool
         ensures { IsTrue result ↔ IsOpen self.now }
     {
         matches!(self, ServiceState::Open)
@@ -125,7 +128,7 @@ fn held_off(since: Instant, partner: &PartnerView, now: Instant) -> ServiceState
 }
 
 /// Whether a server of a book may serve when it has started: a survivor that has a partner holds off.
-pub(crate) fn service_of(book: &Book, is_alone: bool, now: Instant) -> ServiceState
+pub fn service_of(book: &Book, is_alone: bool, now: Instant) -> ServiceState
     ensures { IsAfterStart book.now is_alone now result }
 {
     if is_alone {
