@@ -91,7 +91,7 @@ def main():
         print(f"{len(files)} volumes, {whole / 1e6:.1f} MB; grep over all of them: {whole / 1e6 / grep:.0f} MB/s")
         for what, number in (("first", 1), ("middle", VOLUMES // 2), ("last", VOLUMES)):
             moment = opened(number) + 100_000
-            words = ["who", "--skew-ms", str(SKEW), "--prefix", POOL, "--at", str(moment), "--journals", str(folder)]
+            words = ["who", "--skew-ms", str(SKEW), "--prefix", POOL, "--at", f"{moment}ms", "--journals", str(folder)]
             lasted, out, read = timed([desk, *words])
             chosen = sum((folder / f"{side}-{number:07}.journal").stat().st_size for side in "AB")
             named = out.startswith(f"holder {client(number)}\n".encode())

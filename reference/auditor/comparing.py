@@ -4,7 +4,7 @@ import random
 import subprocess
 from typing import NamedTuple
 
-from . import clock_edges, edges, limits, settings_edges
+from . import carry_edges, clock_edges, edges, limits, settings_edges
 from .desk import Evidence, answer, cut
 from .certificates import read_certificate
 from .changing import changed_certificate, changed_lines, changed_text, changed_words
@@ -99,11 +99,12 @@ class Draw:
         yield self.rng.choice((changed_lines, changed_words))(self.rng, text)
 
     def believe(self, texts):
-        """What the second auditor accepts of an honest run must have been so, and it must not refuse the run's clocks."""
+        """What the second auditor accepts of an honest run must have been so; its clocks and ends aren't refused."""
         if self.skew < self.run.off:
             return
         evidence = Evidence(*self.journals)
-        assert refusal_of(evidence.behind, self.skew) is None, (self.skew, b"".join(self.journals).decode())
+        refused = refusal_of(evidence.behind, self.skew) or evidence.carried
+        assert refused is None, (refused, self.skew, b"".join(self.journals).decode())
         for text in texts if self.run.honest else []:
             if evidence.verdict(text, self.skew, self.transit) == "accepted":
                 fault = untrue(self.run, read_certificate(text), self.transit)
@@ -269,7 +270,7 @@ def at_limits():
         for transit in transits:
             words = ["batch", "--skew-ms", "2000", "--transit-ms", str(transit), "--workers", "1"]
             yield Question(words, b"".join([*journals, *certificates]))
-    for journals, skews in clock_edges.inputs():
+    for journals, skews in [*clock_edges.inputs(), *carry_edges.inputs()]:
         text = b"".join(journals)
         for skew in skews:
             yield Question(["batch", "--skew-ms", str(skew), "--workers", "1"], text + b"".join(clock_edges.CERTIFICATES))

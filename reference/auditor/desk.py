@@ -2,6 +2,7 @@
 import sys
 from typing import NamedTuple
 
+from . import carried
 from .auditing import audit
 from .certificates import read_certificate
 from .clocks import farthest, least_skew, refusal_of, takes_behind
@@ -66,7 +67,7 @@ class Evidence:
     """Two journal texts, read once for any number of certificates."""
 
     def __init__(self, first, second):
-        self.pair = None
+        self.pair = self.carried = None
         self.behind = []
         # The refusal of the texts themselves comes before a certificate's, that of what they say after its form's.
         self.before = self.after = None
@@ -84,10 +85,11 @@ class Evidence:
             self.after = refused
             return
         self.behind = list(takes_behind(self.pair))
+        self.carried = carried.refusal_of(self.pair)
 
     def refusal(self, skew):
         """What is refused of the two journals, whatever the certificate, None where nothing is."""
-        return self.before or self.after or refusal_of(self.behind, skew)
+        return self.before or self.after or refusal_of(self.behind, skew) or self.carried
 
     def warned(self, skew, transit):
         """The lines of warning, where both texts are journals."""

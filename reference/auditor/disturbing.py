@@ -1,8 +1,9 @@
 """Changes of the journals of an honest run, most of which leave well-formed journals that are nearly legal."""
+from .carried import MOST_AHEAD
 from .changing import near, prefix_near
 from .journals import MOST_VOLUME, Base, Carry, Close, Open, Pending, Pool, Send, Take, Transit, UnitLine, line_of
 from .running import CLIENTS, DAY, HOUR, KINDS, Entry, Server
-from .words import Malformed, Prefix, other_side
+from .words import MOST_COUNTER, SIDES, Malformed, Prefix, other_side
 from .writing import event_words, journal_text
 
 NAMES = {
@@ -185,6 +186,23 @@ def with_take_at_bound(rng, texts, side):
     entries[place:] = [Entry(max(least, at + moved), event) for at, event in entries[place:]]
 
 
+def with_far_ends(rng, texts, side):
+    """What later volumes of a side or of both carry lasts as long as it may, a millisecond longer, or far longer."""
+    for each in rng.choice(((side,), (side,), (other_side(side),), SIDES)):
+        entries = texts.entries[each]
+        places = [at for at, (_, event) in enumerate(entries) if isinstance(event, (Carry, UnitLine))]
+        most = min(entries[0].reading + MOST_AHEAD, MOST_COUNTER)
+        ends = (most - 1, most, most, most + 1, most + 1, most + DAY, 2 * most, MOST_COUNTER)
+        for place in rng.sample(places, min(len(places), rng.choice((1, 1, 2, 3)))):
+            entries[place] = with_end(entries[place], min(rng.choice(ends), MOST_COUNTER))
+
+
+def with_end(entry, end):
+    """A carry or unit line of another end."""
+    name = "end" if isinstance(entry.event, Carry) else "own_end"
+    return Entry(entry.reading, entry.event._replace(**{name: end}))
+
+
 WAYS = {
     inserted: 10,
     with_other_field: 6,
@@ -196,6 +214,7 @@ WAYS = {
     of_other_volume: 0.5,
     shifted: 1,
     with_take_at_bound: 1.5,
+    with_far_ends: 1.5,
 }
 
 

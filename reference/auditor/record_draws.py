@@ -101,7 +101,7 @@ def questions(rng, directory):
     given = ["--skew-ms", str(settings.skew), "--transit-ms", str(settings.transit)]
     for entry in rng.sample(grants, min(len(grants), ASKED_OF_EACH)):
         moment = entry.reading + late + rng.randrange(max(1, 1000 * entry.event.valid - 2 * late))
-        yield [*given, "--prefix", prefix_text(entry.event.prefix), "--at", str(moment)]
+        yield [*given, "--prefix", prefix_text(entry.event.prefix), "--at", f"{moment}ms"]
 
 
 def ask(desk, files, words):

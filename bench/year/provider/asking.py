@@ -83,7 +83,7 @@ class Desk:
         self.journals = [word for folder in folders for word in ("--journals", folder)]
 
     def ask(self, question, *more):
-        words = [*self.words, "--prefix", question.text, "--at", str(question.moment), *self.journals, *more]
+        words = [*self.words, "--prefix", question.text, "--at", f"{question.moment}ms", *self.journals, *more]
         begun = time.perf_counter()
         done = subprocess.run(words, capture_output=True, text=True, check=False)
         return done, time.perf_counter() - begun

@@ -23,7 +23,7 @@ use Rattle.attribution_desk.specs.Judgements.{IsJudgementOfJournals, IsJudgement
 use Rattle.attribution_desk.specs.Laws.{AcceptedRulingsAreTrue}
 use Rattle.journal_archive.specs.declared.pair_lookup.VolumePair.{VolumePair}
 use Rattle.journal_archive.specs.declared.archive.Archive.{Archive}
-use Rattle.archive_files.specs.Showing.{AreShownBy, AreClosed}
+use Rattle.archive_files.specs.Showing.{AreShownBy, AreClosed, AreBorneOut}
 use Rattle.archive_desk.specs.declared.judging.ArchiveJudgement.TheVariants.{Ruled, Faulty, Lacking}
 use Rattle.archive_desk.specs.declared.waiting.PendingState.{PendingState}
 use Rattle.archive_desk.specs.declared.waiting.PendingState.TheVariants.{Shown, Judged}
@@ -201,13 +201,13 @@ ruled_at a b skew transit (t ∷ texts) (s ∷ rs) (suc i) text r h x y =
 -- a ruling over the journals that a pair of volumes shows
 module _ (had : ℕ → List ℕ → Type 0) (archive : Archive) (skew transit : ℕ) (pair : VolumePair)
     (law : AcceptedRulingsAreTrue) (snaps : ShownAreSnapshots) where
-  ruling_stands : (shown : PairJournals) → AreShownBy had pair shown → AreClosed shown
+  ruling_stands : (shown : PairJournals) → AreShownBy had pair shown → AreClosed shown → AreBorneOut had archive pair
       → (certificate : Result Claimed CertificateFault) (r : Judgement)
       → IsPlaced archive skew transit certificate (Shown pair)
       → IsJudgementOfParsed (Ok shown.primary) (Ok shown.secondary) skew transit certificate r
       → IsPending had archive skew transit certificate (Judged (Ruled pair r))
-  ruling_stands shown is closed (Ok claim) r placed ruled = (
-    (shown, (placed, is, closed), ruled),
+  ruling_stands shown is closed borne (Ok claim) r placed ruled = (
+    (shown, (placed, is, closed, borne), ruled),
     λ accepted. (
         let v = is.0 in
         let w = is.1 in
@@ -221,19 +221,19 @@ module _ (had : ℕ → List ℕ → Type 0) (archive : Archive) (skew transit :
               (read_of v.journal w.journal) read,
         )),
   )
-  ruling_stands shown is closed (Err fault) r placed ruled = absurd (cc)
+  ruling_stands shown is closed borne (Err fault) r placed ruled = absurd (cc)
 
   module _ (old : List PendingCertificate) (ms : List Member) (claims : List CertificateText) (rulings : List Judgement)
       (members : AreMembers old pair ms) (texts : texts_of claims ≡ texts_among ms)
       (waits : AreWaiting had archive skew transit old)
-      (over : AreRuledOver had pair skew transit (texts_of claims) rulings) where
-    ruled : AreRuledOver had pair skew transit (texts_among ms) rulings
-    ruled = subst (λ (ts : List (List ℕ)). AreRuledOver had pair skew transit ts rulings) texts over
+      (over : AreRuledOver had archive pair skew transit (texts_of claims) rulings) where
+    ruled : AreRuledOver had archive pair skew transit (texts_among ms) rulings
+    ruled = subst (λ (ts : List (List ℕ)). AreRuledOver had archive pair skew transit ts rulings) texts over
 
     -- each has its ruling
     pub has_ruling : (i : ℕ) → i < length ms → i < length rulings
     has_ruling i lt =
-        let n = count_of (Ok ruled.0.primary) (Ok ruled.0.secondary) skew transit (texts_among ms) rulings ruled.3 in
+        let n = count_of (Ok ruled.0.primary) (Ok ruled.0.secondary) skew transit (texts_among ms) rulings ruled.4 in
         let c = among_length ms in
         omega arith
 
@@ -267,9 +267,9 @@ module _ (had : ℕ → List ℕ → Type 0) (archive : Archive) (skew transit :
           let u = get_or ws m.place d in
           let here : slice_get ws m.place ≡ Some u = slice_get-get_or ws m.place d stands in
           let own_text : x.text.now ≡ m.text.now = ap (λ t. t.now) text ∙ text_is u here in
-          let stood = ruling_stands ruled.0 ruled.1 ruled.2 (certificate_of m.text.now) r placed
+          let stood = ruling_stands ruled.0 ruled.1 ruled.2 ruled.3 (certificate_of m.text.now) r placed
           (ruled_at (Ok ruled.0.primary) (Ok ruled.0.secondary) skew transit (texts_among ms) rulings i m.text.now r
-          ruled.3 (text_among ms i m at) has) in
+          ruled.4 (text_among ms i m at) has) in
           let good : IsPending had archive skew transit (certificate_of x.text.now) x.pending =
           subst (λ t. IsPending had archive skew transit (certificate_of t) x.pending) (sym own_text)
           (subst (IsPending had archive skew transit (certificate_of m.text.now)) (sym pending) stood) in (

@@ -1,5 +1,6 @@
 -- Why files answer nothing, by name and files.
 use Rattle.std.specs.Prelude.{◌≡◌, ℕ, List, [], ◌∷◌, ◌++◌, codes}
+use Rattle.std.specs.Fmt.{decimal}
 use Rattle.std.specs.declared.path.buf.PathBuf.{PathBuf}
 use Rattle.journal_archive.specs.declared.error.ArchiveError.{ArchiveError}
 use Rattle.journal_archive.specs.declared.error.ArchiveError.TheVariants.{NoVolume, Differ, OutOfOrder, Memory}
@@ -25,6 +26,11 @@ refusal_line names error = refusal_words names error ++ 10 ∷ []
 abbrev pub other_pair_line : {A : Type 0} → List (PathBuf A) → (first second : ℕ) → List ℕ
 other_pair_line names first second =
     codes "refused V4 OtherPair" ++ (file_word names first ++ (file_word names second ++ 10 ∷ []))
+
+-- V7: a volume that begins otherwise than the one before it names
+abbrev pub other_head_line : {A : Type 0} → List (PathBuf A) → (file line : ℕ) → List ℕ
+other_head_line names file line =
+    codes "refused V7 Head" ++ (file_word names file ++ (32 ∷ (decimal line ++ 10 ∷ [])))
 
 -- standard output says this line, and nothing else is said
 pub record IsRefusal (line : List ℕ) (told : CommandOutput) : Type 0 where

@@ -12,7 +12,7 @@ use Rattle.journal_archive.specs.declared.pair_lookup.VolumePair.{VolumePair}
 use Rattle.journal_archive.specs.declared.archive.Archive.{Archive}
 use Rattle.journal_archive.specs.declared.pair.PairJournals.{PairJournals}
 use Rattle.journal_archive.specs.Shown.{read_of}
-use Rattle.archive_files.specs.Showing.{IsCopyOf, AreShownBy, IsShownAt, AreClosed}
+use Rattle.archive_files.specs.Showing.{IsCopyOf, AreShownBy, IsShownAt, AreClosed, AreBorneOut}
 use Rattle.archive_files.specs.declared.showing.ShownJournals.TheVariants.{Journals as ShownJournals, Lacking as ShownLacking}
 use Rattle.attribution_desk.specs.Judgements.{IsJudgementOfJournals}
 use Rattle.attribution_desk.specs.Batch.{AreRuled}
@@ -63,8 +63,9 @@ abbrev pub IsRuledByShown : PairJournals → (skew transit : ℕ) → List (List
 IsRuledByShown shown skew transit texts rulings =
     AreRuled (Ok shown.primary) (Ok shown.secondary) skew transit texts rulings
 
--- over the journals that the two volumes show
-abbrev pub AreRuledOver : (had : ℕ → List ℕ → Type 0) → VolumePair → (skew transit : ℕ) → List (List ℕ) → List Judgement
-    → Type 0
-AreRuledOver had pair skew transit texts rulings =
-    (shown : PairJournals) × AreShownBy had pair shown × AreClosed shown × IsRuledByShown shown skew transit texts rulings
+-- over the journals that the two volumes show, which agree with the volumes beside them
+abbrev pub AreRuledOver : (had : ℕ → List ℕ → Type 0) → Archive → VolumePair → (skew transit : ℕ) → List (List ℕ)
+    → List Judgement → Type 0
+AreRuledOver had archive pair skew transit texts rulings =
+    (shown : PairJournals) × AreShownBy had pair shown × AreClosed shown × AreBorneOut had archive pair
+    × IsRuledByShown shown skew transit texts rulings

@@ -1,7 +1,7 @@
 //! Why files answer nothing, in words.
 
 ghost use Rattle.std.specs.Prelude.{◌≡◌, ◌++◌, OnOk, IfOk};
-ghost use Rattle.archive_desk.specs.Failing.{file_word, refusal_line, other_pair_line, IsRefusal};
+ghost use Rattle.archive_desk.specs.Failing.{file_word, refusal_line, other_pair_line, other_head_line, IsRefusal};
 ghost use Rattle.archive_desk.specs.Unread.{unread_line, IsFault};
 
 use crate::command_output::CommandOutput;
@@ -10,6 +10,7 @@ use archive_files::FilesError;
 use journal_archive::ArchiveError;
 use std::alloc::{AllocError, Global};
 use std::path::PathBuf;
+use text_fields::push_number;
 
 /// Appends a blank and the name of a file.
 fn push_file(out: &mut Vec<u8>, names: &[PathBuf], file: usize) -> Result<(), AllocError>
@@ -87,6 +88,28 @@ fn of_two_pairs(
     })
 }
 
+/// What is told where a volume begins otherwise than the one before it names: in which line first.
+fn with_other_head(
+    alloc: Global,
+    names: &[PathBuf],
+    file: usize,
+    line: usize,
+) -> Result<CommandOutput, AllocError>
+    ensures { IfOk result (IsRefusal (other_head_line names.now file line)) }
+{
+    let mut text = Vec::new(alloc);
+    text.extend_from_slice(b"refused V7 Head")?;
+    push_file(&mut text, names, file)?;
+    text.push(b' ')?;
+    push_number(&mut text, line as u64)?;
+    text.push(b'\n')?;
+    Ok(CommandOutput {
+        text,
+        status: 1,
+        notes: Vec::new(alloc),
+    })
+}
+
 /// What is told where a file by the name of a volume's can't be read.
 fn unread(alloc: Global, names: &[PathBuf], file: usize) -> Result<CommandOutput, AllocError>
     ensures { IfOk result (IsFault (unread_line names.now file)) }
@@ -120,8 +143,15 @@ fn faulty(
             let words = format!(in alloc; ": {fault}")?;
             notes.extend_from_slice(words.as_bytes())?;
         }
+        FilesError::Torn { file, line } => {
+            notes.extend_from_slice(b"fault Journal")?;
+            push_file(&mut notes, names, *file)?;
+            let words = format!(in alloc; ": zero octets stand where line {line} should")?;
+            notes.extend_from_slice(words.as_bytes())?;
+        }
         FilesError::Archive(_)
         | FilesError::OtherPair { .. }
+        | FilesError::OtherHead { .. }
         | FilesError::Unread { .. }
         | FilesError::Memory => { notes.extend_from_slice(b"fault Memory")? }
     }
@@ -144,6 +174,7 @@ pub fn failure(
         FilesError::Archive(ArchiveError::Memory) => faulty(alloc, names, error),
         FilesError::Archive(refusal) => refused(alloc, names, refusal),
         FilesError::OtherPair { first, second } => of_two_pairs(alloc, names, *first, *second),
+        FilesError::OtherHead { file, line } => with_other_head(alloc, names, *file, *line),
         FilesError::Unread { file } => unread(alloc, names, *file),
         _ => faulty(alloc, names, error),
     }

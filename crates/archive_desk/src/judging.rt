@@ -80,22 +80,23 @@ struct JudgedCertificates {
     warnings: Vec<u8>,
 }
 
-/// Reads a pair of volumes and rules on certificates over them.
+/// Reads a pair of volumes, which must agree with those beside them, and rules on certificates over them.
 fn rulings_over<F: JournalFiles>(
     rt: &(impl Threads + Wait + Sync),
     alloc: Global,
     files: &F,
+    archive: &Archive,
     pair: &VolumePair,
     claims: Vec<CertificateText>,
     bounds: &TimingBounds,
     workers: Workers,
 ) -> Result<JudgedCertificates, FilesError>
-    ensures rulings { IfOk result (λ ruled. AreRuledOver (F.had files.now) pair.now bounds.now.skew bounds.now.transit
-        (texts_of claims.entry.items) ruled.rulings.items) }
+    ensures rulings { IfOk result (λ ruled. AreRuledOver (F.had files.now) archive.now pair.now bounds.now.skew
+        bounds.now.transit (texts_of claims.entry.items) ruled.rulings.items) }
     ensures warnings { IfOk result (λ ruled. IsWarnedOver (F.had files.now) pair.now bounds.now.skew bounds.now.transit
         ruled.warnings.items) }
 {
-    let shown = shown_by(alloc, files, pair)?;
+    let shown = shown_by(alloc, files, archive, pair)?;
     let warnings = warnings(
         alloc,
         &shown.primary,
@@ -128,7 +129,7 @@ fn judge_shown<F: JournalFiles>(
     accepted_rulings_are_true();
     let members = members_of(alloc, waiting, pair)?;
     let claims = claims_of(alloc, &members)?;
-    let ruled = rulings_over(rt, alloc, files, pair, claims, bounds, workers)?;
+    let ruled = rulings_over(rt, alloc, files, archive, pair, claims, bounds, workers)?;
     for i in 0..members.len() {
         let place = members[i].place;
         let judged = ArchiveJudgement::Ruled(*pair, ruled.rulings[i]);

@@ -7,3 +7,5 @@ pub mod Showing
 pub mod Telling
 pub mod Laws
 pub mod Reaching
+pub mod Torn
+pub mod Rereading

@@ -6,6 +6,7 @@ ghost use Rattle.archive_files.specs.Found.{IsFound};
 ghost use Rattle.archive_files.specs.Catalogues.{AreFound};
 ghost use Rattle.archive_files.specs.Alike.{AreSameUpTo, AreCopies, IsCopyOf, AreCopiesOf};
 ghost use Rattle.archive_files.specs.Alike.{DifferTruly, IsNoArchives, IsNoTies};
+ghost use Rattle.archive_files.specs.Rereading.{IsReadingRefusal, IsOfFile};
 
 use crate::error::FilesError;
 use crate::files::{JournalFiles, Unreadable};
@@ -22,8 +23,14 @@ fn are_same_up_to(octets: u64, first: &[u8], second: &[u8]) -> bool
 }
 
 /// All octets of a file, as it has them now. `Changed` where it can't be read again.
-fn octets_of<F: JournalFiles>(alloc: Global, files: &F, file: usize) -> Result<Vec<u8>, FilesError>
+pub(crate) fn octets_of<F: JournalFiles>(
+    alloc: Global,
+    files: &F,
+    file: usize,
+) -> Result<Vec<u8>, FilesError>
     ensures had { IfOk result (λ octets. F.had files.now file octets.items) }
+    ensures refused { IfErr result (IsReadingRefusal (F.had files.now)) }
+    ensures own { IfErr result (IsOfFile file) }
     ensures differ { IfErr result IsNoArchives }
     ensures others { IfErr result IsNoTies }
 {

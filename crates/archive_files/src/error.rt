@@ -16,6 +16,10 @@ pub enum FilesError {
     /// The settings of these two files' servers differ, though they should be of one pair.
     #[error("files {first} and {second} are of two pairs: their settings differ")]
     OtherPair { first: usize, second: usize },
+    /// This file's volume begins otherwise than the volume before it, whose file is read too, names it: in this line
+    /// first.
+    #[error("file {file}: line {line} isn't what the volume before says")]
+    OtherHead { file: usize, line: usize },
     /// This file has the name of a volume's and can't be read: who knows the names of the files tells.
     #[error("file {file} can't be read")]
     Unread { file: usize },
@@ -25,6 +29,9 @@ pub enum FilesError {
     /// This file has this fault, its first, which its edges don't show.
     #[error("file {file}: {fault}")]
     Faulty { file: usize, fault: JournalFault },
+    /// Zero octets stand in this file where this line should, though its volume isn't the last.
+    #[error("file {file}: zero octets stand where line {line} should")]
+    Torn { file: usize, line: usize },
     /// A growth was refused.
     #[error("out of memory")]
     Memory,

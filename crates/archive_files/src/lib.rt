@@ -3,7 +3,8 @@
 //! [`catalogue_of`] looks at the edges of each file and says what it is: the outline of a volume, for the archive, or
 //! why it's passed over. Only where the edges don't tell, or two files have one volume, is a file read whole.
 //! [`shown_at`] chooses the pair of volumes that shows a moment, reads these two whole, and gives the two journals that
-//! they show, or says what is lacking; a file with another volume than its edges said is refused there. The contracts
+//! they show, or says what is lacking; a file with another volume than its edges said is refused there, and so is a
+//! volume that begins otherwise than the one before it names, where that lies beside (specs/Showing). The contracts
 //! speak of octets that a file had when it was read (`had` of [`JournalFiles`]): a file that a server writes on may
 //! have others each time.
 //!
@@ -15,6 +16,9 @@
 //! reading, octets, and whether it's closed) nothing is answered: `ArchiveError::Differ`. Where these are the same both
 //! are read whole and compared when the catalogue is made, as far as both go and no farther than they were outlined:
 //! where they differ nothing is answered either.
+//!
+//! [`read_untorn`] reads a volume that a further one follows: zero octets before its close line are a fault of its file
+//! (specs/Torn).
 //!
 //! ```text
 //! let catalogue = catalogue_of(alloc, &files, SettingsScope::OfBoth)?;
@@ -31,6 +35,7 @@ mod error;
 mod file_content;
 mod files;
 mod laws;
+mod neighbours;
 mod reaching;
 mod settings_check;
 mod showing;
@@ -43,4 +48,4 @@ pub use journal_archive::FileEnd;
 pub use laws::what_is_shown_is_what_is_asked;
 pub use reaching::shown_until;
 pub use settings_check::SettingsScope;
-pub use showing::{ShownJournals, read_again, shown_at, shown_by};
+pub use showing::{ShownJournals, read_again, read_untorn, shown_at, shown_by};

@@ -20,7 +20,7 @@ use Rattle.auditor.specs.Texts.{ParsedIsTrueInEveryRun}
 use Rattle.auditor.proofs.TextVerdicts.{accepted_parsed}
 use Rattle.certificate.specs.Laws.{CertificatesAreSpelled}
 use Rattle.pair_judgement.specs.declared.judging.Judgement.{Judgement}
-use Rattle.pair_judgement.specs.declared.judging.Judgement.TheVariants.{Verdict, Clocks, Pair, Skew}
+use Rattle.pair_judgement.specs.declared.judging.Judgement.TheVariants.{Verdict, Clocks, Pair, Skew, Carried}
 use Rattle.pair_judgement.specs.Judgements.{verdict_status, status_of}
 use Rattle.attribution_desk.specs.declared.error.DeskError.{DeskError}
 use Rattle.attribution_desk.specs.declared.outcome.DeskOutcome.{DeskOutcome}
@@ -75,6 +75,7 @@ first_and_rest (Verdict v) rest e = all_by v rest e
 first_and_rest (Clocks take) rest e = absurd (omega (arith, e))
 first_and_rest Pair rest e = absurd (omega (arith, e))
 first_and_rest Skew rest e = absurd (omega (arith, e))
+first_and_rest (Carried line) rest e = absurd (omega (arith, e))
 
 -- what is ruled as accepted has that verdict
 ruled_parsed : (a b : Result Lines JournalFault) (skew transit : ℕ) (claim : Result Claim CertificateFault)
@@ -94,6 +95,7 @@ accepted_ruling a b skew transit claim (Verdict v) h none =
 accepted_ruling a b skew transit claim (Clocks take) h none = absurd (omega (arith, none))
 accepted_ruling a b skew transit claim Pair h none = absurd (omega (arith, none))
 accepted_ruling a b skew transit claim Skew h none = absurd (omega (arith, none))
+accepted_ruling a b skew transit claim (Carried line) h none = absurd (omega (arith, none))
 
 -- the answer to one certificate over two journals that were read
 answered_true : CertificatesAreSpelled → (a b : Result Lines JournalFault) (text line : List ℕ)

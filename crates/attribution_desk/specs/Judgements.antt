@@ -1,5 +1,5 @@
--- What the desk rules on three texts: the definition of the verdict, with K1 behind what refuses the two journals and
--- before what is asked of the certificate.
+-- What the desk rules on three texts: the definition of the verdict, with K1 and K4 after what refuses the two journals
+-- and before what is asked of the certificate.
 use Rattle.std.specs.Prelude.{◌≡◌, ◌⊎◌, ℕ, Result, Ok, Err}
 use Rattle.binding_rules.specs.declared.role.Role.TheVariants.{Primary, Secondary}
 use Rattle.journal_lines.specs.declared.line.Journal.{Journal as Lines}

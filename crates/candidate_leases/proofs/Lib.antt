@@ -1,2 +1,9 @@
 mod Listed
+mod EdgeReadings
+mod PoolLines
 mod Whys
+mod Ends
+mod ShownSo
+mod InRuns
+mod ShownLaw
+mod NobodyLaw

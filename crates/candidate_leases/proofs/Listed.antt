@@ -1,8 +1,7 @@
 -- Lists of lines, and what is shown of each.
-use Rattle.std.specs.Prelude.{◌≡◌, ◌↔◌, ℕ, ◌+◌, ◌<◌, ◌≤◌, List, [], ◌∷◌, ◌++◌, length, Option, Some, None, slice_get, option_map, take}
+use Rattle.std.specs.Prelude.{◌≡◌, ◌↔◌, ℕ, ◌+◌, ◌<◌, ◌≤◌, List, [], ◌∷◌, ◌++◌, length, Option, Some, None, option_map, take}
 use Rattle.std.specs.Prelude.{Contains as Has}
 use Rattle.std.proofs.Common.{sym, ◌∙◌, ap, subst, arith, inl, inr, get_or, refl, append_assoc, append-nil}
-use Rattle.std.proofs.lemmas.Option.{slice_get-get_or}
 use Rattle.std.proofs.lemmas.List.{take_more, take_all}
 use Rattle.std.proofs.lemmas.List.Elements.{Contains-push, Contains-push_cases, Contains-append_left, Contains-get_or}
 use Rattle.prefix_range.specs.Prefix.{Prefix, Overlaps}
@@ -11,18 +10,19 @@ use Rattle.causal_order.specs.declared.reference.Ref.{Ref}
 use Rattle.causal_order.specs.Journals.{Journals, Names, line_of}
 use Rattle.causal_order.proofs.Deciding.{line_names, names_line}
 use Rattle.attribution.specs.declared.delegation.Delegation.{Delegation}
-use Rattle.attribution.specs.Acceptance.{Tells, GivesBack}
+use Rattle.attribution.specs.Acceptance.{Tells}
 use Rattle.attribution.specs.Listing.{IsListing}
-use Rattle.attribution.proofs.Deciding.{told_tells, tells_told}
+use Rattle.attribution.proofs.Deciding.{tells_told}
 use Rattle.attribution.proofs.Listing.{concerned}
 use Rattle.auditor.specs.Walks.{AreReleases}
-use Rattle.auditor.proofs.Given.{Contains-get, get-Contains}
 use Rattle.evidence_report.specs.declared.mark.LineReading.{LineReading}
 use Rattle.evidence_report.specs.Lines.{AreOnce}
 use Rattle.evidence_report.specs.Marks.{Reads, mark_of, IsToldAt}
 use Rattle.evidence_report.specs.declared.foreign_report.ReportedDelegation.{ReportedDelegation}
+use Rattle.candidate_leases.specs.declared.at_moment.AtMoment.TheVariants.{Shown}
 use Rattle.candidate_leases.specs.declared.candidates.CandidateLease.{CandidateLease}
-use Rattle.candidate_leases.specs.Near.{Asked, IsNear, IsSo, IsPossible, SaysPossible}
+use Rattle.candidate_leases.specs.Conditions.{Asked}
+use Rattle.candidate_leases.specs.Near.{IsNear, IsSo, IsPossible, SaysPossible, IsShown}
 use Rattle.candidate_leases.specs.Leases.{AreMarksOf, AreReleaseMarks, AreConcerning, Concerns, IsNearLease, IsNearAt}
 use Rattle.candidate_leases.specs.Leases.{AreNearLeases, found_list}
 
@@ -63,10 +63,10 @@ mark_by js r m (Some l) e is =
     let same : record { at = r; reading = l.reading } ≡ m = cc in
     (sym (ap (λ (k : LineReading). k.at) same), (l, line_names js r l e, ap (λ (k : LineReading). k.reading) same))
 
-marked : (js : Journals) (r : Ref) (m : LineReading) → Some m ≡ mark_of js r → (m.at ≡ r) × Reads js r m.reading
+pub marked : (js : Journals) (r : Ref) (m : LineReading) → Some m ≡ mark_of js r → (m.at ≡ r) × Reads js r m.reading
 marked js r m e = mark_by js r m (line_of js r) refl (sym e)
 
-unmarked : (js : Journals) (r : Ref) (l : Line) → None ≡ mark_of js r → Names js r l → ⊥
+pub unmarked : (js : Journals) (r : Ref) (l : Line) → None ≡ mark_of js r → Names js r l → ⊥
 unmarked js r l e names =
     let f : mark_of js r ≡ Some (record { at = r; reading = l.reading }) =
     ap (option_map (λ (l : Line). record { at = r; reading = l.reading })) (names_line js r l names) in
@@ -128,9 +128,10 @@ release_marks js d refs marks releases h = record {
 pub lease_so : (js : Journals) (p : Prefix) (q : Asked) (n : CandidateLease) (releases : List LineReading)
     → Tells js n.line.at n.delegation → Reads js n.line.at n.line.reading → Overlaps n.delegation.prefix p
     → IsNear q n.line n.delegation.lasting → AreReleaseMarks js n.delegation releases
-    → IsSo q n.line n.delegation.lasting releases n.state
-    → (SaysPossible n.state ↔ IsPossible q n.line n.delegation.lasting releases) → IsNearLease js p q n
-lease_so js p q n releases tells reads overlaps near are so possible = record {
+    → IsSo js q n.line n.delegation.lasting releases n.state
+    → (SaysPossible n.state ↔ IsPossible q n.line n.delegation.lasting releases)
+    → (IsShown js q n.line n.delegation.lasting releases → n.state ≡ Shown) → IsNearLease js p q n
+lease_so js p q n releases tells reads overlaps near are so possible shown = record {
   tells = tells;
   reads = reads;
   overlaps = overlaps;
@@ -139,15 +140,16 @@ lease_so js p q n releases tells reads overlaps near are so possible = record {
   are_releases = are;
   so = so;
   possible = possible;
+  shown = shown;
 }
 
-one_reading : (js : Journals) (r : Ref) (x y : ℕ) → Reads js r x → Reads js r y → x ≡ y
+pub one_reading : (js : Journals) (r : Ref) (x y : ℕ) → Reads js r x → Reads js r y → x ≡ y
 one_reading js r x y a b =
     let same : Some a.0 ≡ Some b.0 = sym (names_line js r a.0 a.1) ∙ names_line js r b.0 b.1 in
     let one : a.0 ≡ b.0 = cc in
     sym a.2 ∙ (ap (λ (l : Line). l.reading) one ∙ b.2)
 
-one_told : (js : Journals) (r : Ref) (d f : Delegation) → Tells js r d → Tells js r f → d ≡ f
+pub one_told : (js : Journals) (r : Ref) (d f : Delegation) → Tells js r d → Tells js r f → d ≡ f
 one_told js r d f a b = let x : Some d ≡ Some f = sym (tells_told js r d a) ∙ tells_told js r f b in cc
 
 module _ (js : Journals) (p : Prefix) (q : Asked) (r : Ref) where

@@ -1,5 +1,5 @@
 -- The delegations of addresses of a prefix that lines tell of, round a moment.
-use Rattle.std.specs.Prelude.{◌≡◌, ◌↔◌, ℕ, ◌+◌, ◌≤◌, List, [], ◌∷◌, Option, Some, None, Contains as Has}
+use Rattle.std.specs.Prelude.{◌≡◌, ◌↔◌, ℕ, List, [], ◌∷◌, Option, Some, None, Contains as Has}
 use Rattle.prefix_range.specs.Prefix.{Prefix, Overlaps}
 use Rattle.causal_order.specs.declared.reference.Ref.{Ref}
 use Rattle.journal_lines.specs.declared.line.Line.{Line}
@@ -8,8 +8,10 @@ use Rattle.attribution.specs.declared.delegation.Delegation.{Delegation}
 use Rattle.attribution.specs.Acceptance.{Tells, GivesBack}
 use Rattle.evidence_report.specs.declared.mark.LineReading.{LineReading}
 use Rattle.evidence_report.specs.Marks.{Reads}
+use Rattle.candidate_leases.specs.declared.at_moment.AtMoment.TheVariants.{Shown}
 use Rattle.candidate_leases.specs.declared.candidates.CandidateLease.{CandidateLease}
-use Rattle.candidate_leases.specs.Near.{Asked, IsNear, IsSo, IsPossible, SaysPossible}
+use Rattle.candidate_leases.specs.Conditions.{Asked}
+use Rattle.candidate_leases.specs.Near.{IsNear, IsSo, IsPossible, SaysPossible, IsShown}
 
 -- exactly the releases of the delegation, with their readings
 pub record AreReleaseMarks (js : Journals) (d : Delegation) (marks : List LineReading) : Type 0 where
@@ -33,8 +35,9 @@ pub record IsNearLease (js : Journals) (prefix : Prefix) (q : Asked) (n : Candid
   pub near : IsNear q n.line n.delegation.lasting
   pub releases : List LineReading
   pub are_releases : AreReleaseMarks js n.delegation releases
-  pub so : IsSo q n.line n.delegation.lasting releases n.state
+  pub so : IsSo js q n.line n.delegation.lasting releases n.state
   pub possible : SaysPossible n.state ↔ IsPossible q n.line n.delegation.lasting releases
+  pub shown : IsShown js q n.line n.delegation.lasting releases → n.state ≡ Shown
 
 -- the line tells of a delegation of an address of the prefix that may have been a client's near the moment
 abbrev pub Concerns : Journals → Prefix → Asked → Ref → Type 0

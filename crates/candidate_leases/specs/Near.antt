@@ -1,15 +1,19 @@
--- What the readings of single lines show of a moment: of the delegations that they tell of, and of releases of these.
+-- What two journals show of a moment: of the delegations that single lines tell of, and of releases of these.
 use Rattle.std.specs.Prelude.{◌≡◌, ◌≢◌, ⊤, ℕ, ◌+◌, ◌-◌, ◌*◌, ◌<◌, ◌≤◌, ◌⊎◌, List, Option, Some, None, Contains as Has}
 use Rattle.std.specs.Prelude.{if◌then◌else◌, nat_eq}
+use Rattle.binding_rules.specs.declared.role.Role.{Role}
+use Rattle.causal_order.specs.Journals.{Journals}
 use Rattle.attribution.specs.declared.delegation.Lasting.{Lasting}
 use Rattle.attribution.specs.declared.delegation.Lasting.TheVariants.{For, Until}
 use Rattle.attribution.specs.Run.{infinity}
 use Rattle.attribution.specs.Acceptance.{IsNew}
-use Rattle.plain_search.specs.declared.query.HolderQuery.{HolderQuery}
 use Rattle.evidence_report.specs.declared.mark.LineReading.{LineReading}
 use Rattle.candidate_leases.specs.declared.at_moment.AtMoment.{AtMoment}
 use Rattle.candidate_leases.specs.declared.at_moment.AtMoment.TheVariants.{NotBegun, Ended, GivenBack, Carried}
-use Rattle.candidate_leases.specs.declared.at_moment.AtMoment.TheVariants.{Beginning, Ending, MayBeGivenBack, Shown}
+use Rattle.candidate_leases.specs.declared.at_moment.AtMoment.TheVariants.{Beginning, Ending, MayBeGivenBack}
+use Rattle.candidate_leases.specs.declared.at_moment.AtMoment.TheVariants.{EarlierVolumes, LaterVolumes, Shown}
+use Rattle.candidate_leases.specs.Conditions.{Asked, IsPastClose, IsBeforeClose, MayPrecedePartner}
+use Rattle.candidate_leases.specs.Conditions.{IsPastPartner}
 
 -- before this moment nothing that was granted at the reading was its client's
 abbrev pub may_begin : (reading skew : ℕ) → ℕ
@@ -25,16 +29,7 @@ ends_by skew transit reading (Until end) = Some (end + skew + transit)
 abbrev pub shows_to : (skew reading valid : ℕ) → Option ℕ
 shows_to skew reading valid = if nat_eq valid infinity then None else Some (reading + valid * 1000 - skew)
 
--- ---- what is shown at a moment
-
--- what is asked: a moment, and the bounds on clocks and answers
-pub record Asked : Type 0 where
-  pub at : ℕ
-  pub skew : ℕ
-  pub transit : ℕ
-
-abbrev pub asked_of : HolderQuery → Asked
-asked_of query = record { at = query.at; skew = query.skew; transit = query.transit }
+-- ---- what lines show at a moment
 
 -- the line was surely written after the moment, and what it tells of began there
 abbrev pub IsLater : Asked → LineReading → Lasting → Type 0
@@ -72,18 +67,36 @@ abbrev pub AddsUpTo : Asked → LineReading → Lasting → ℕ → Type 0
 AddsUpTo q line (For valid) end = shows_to q.skew line.reading valid ≡ Some end
 AddsUpTo q line (Until _) end = ⊥
 
+-- By the line and these releases it was its client's: it had begun and not ended, and none of these gave it back.
+pub record IsShownByLines (q : Asked) (line : LineReading) (lasting : Lasting) (releases : List LineReading)
+    : Type 0 where
+  pub new : IsNew lasting
+  pub begun : line.reading + q.skew + q.transit ≤ q.at
+  pub lasts : (end : ℕ) → AddsUpTo q line lasting end → q.at < end
+  pub kept : (r : LineReading) → Has releases r → MayEndIt q line r → ⊥
+
+-- No volume that isn't here gave it back by the moment: earlier ones of its server's partner ended before the line, and
+-- later ones of either begin after the moment. (Its server's own earlier volumes end before the line anyway.)
+pub record IsShownByVolumes (js : Journals) (q : Asked) (line : LineReading) : Type 0 where
+  pub earlier : IsPastPartner js q line
+  pub later : (side : Role) → IsBeforeClose js q side
+
+-- it was its client's, in every run that leaves these journals (specs/Laws)
+abbrev pub IsShown : Journals → Asked → LineReading → Lasting → List LineReading → Type 0
+IsShown js q line lasting releases = IsShownByLines q line lasting releases × IsShownByVolumes js q line
+
 -- what is said of the moment is so
-abbrev pub IsSo : Asked → LineReading → Lasting → List LineReading → AtMoment → Type 0
-IsSo q line lasting releases NotBegun = IsLater q line lasting
-IsSo q line lasting releases (Ended end) = HasEndedBy q line lasting end
-IsSo q line lasting releases (GivenBack release) = Has releases release × EndsIt q line release
-IsSo q line lasting releases Carried = IsNew lasting → ⊥
-IsSo q line lasting releases (Beginning begun) = (begun ≡ line.reading + q.skew + q.transit) × (q.at < begun)
-IsSo q line lasting releases (Ending end) = AddsUpTo q line lasting end × (end ≤ q.at)
-IsSo q line lasting releases (MayBeGivenBack release) = Has releases release × MayEndIt q line release
-IsSo q line lasting releases Shown =
-    (line.reading + q.skew + q.transit ≤ q.at) × ((end : ℕ) → AddsUpTo q line lasting end → q.at < end)
-    × ((r : LineReading) → Has releases r → MayEndIt q line r → ⊥)
+abbrev pub IsSo : Journals → Asked → LineReading → Lasting → List LineReading → AtMoment → Type 0
+IsSo js q line lasting releases NotBegun = IsLater q line lasting
+IsSo js q line lasting releases (Ended end) = HasEndedBy q line lasting end
+IsSo js q line lasting releases (GivenBack release) = Has releases release × EndsIt q line release
+IsSo js q line lasting releases Carried = IsNew lasting → ⊥
+IsSo js q line lasting releases (Beginning begun) = (begun ≡ line.reading + q.skew + q.transit) × (q.at < begun)
+IsSo js q line lasting releases (Ending end) = AddsUpTo q line lasting end × (end ≤ q.at)
+IsSo js q line lasting releases (MayBeGivenBack release) = Has releases release × MayEndIt q line release
+IsSo js q line lasting releases (EarlierVolumes side needed) = MayPrecedePartner js q line side needed
+IsSo js q line lasting releases (LaterVolumes side needed closed) = IsPastClose js q side needed closed
+IsSo js q line lasting releases Shown = IsShown js q line lasting releases
 
 -- the words for what may have been
 abbrev pub SaysPossible : AtMoment → Type 0
@@ -92,7 +105,8 @@ SaysPossible (Ended _) = ⊥
 SaysPossible (GivenBack _) = ⊥
 SaysPossible _ = ⊤
 
--- it may have been its client's within a day of the moment
+-- It may have been its client's within a day of the moment. What is carried began before its line, whose reading says
+-- nothing of it.
 abbrev pub IsNear : Asked → LineReading → Lasting → Type 0
-IsNear q line lasting = (line.reading ≤ q.at + q.skew + 86400000)
+IsNear q line lasting = (IsNew lasting → line.reading ≤ q.at + q.skew + 86400000)
     × ((end : ℕ) → ends_by q.skew q.transit line.reading lasting ≡ Some end → q.at ≤ end + 86400000)

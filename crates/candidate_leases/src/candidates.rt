@@ -1,11 +1,11 @@
 //! The delegations of addresses of a prefix that lines tell of, round a moment.
 
-ghost use Rattle.std.specs.Prelude.{◌≡◌, ◌↔◌, ◌++◌, IsTrue, IfOk, OnOk};
+ghost use Rattle.std.specs.Prelude.{◌≡◌, ◌↔◌, ◌+◌, ◌<◌, ◌++◌, IsTrue, IfOk, OnOk};
 ghost use Rattle.prefix_range.specs.Prefix.{Overlaps};
-ghost use Rattle.causal_order.specs.Journals.{Journals};
-ghost use Rattle.attribution.specs.Acceptance.{Tells};
+ghost use Rattle.attribution.specs.Acceptance.{IsNew, Tells};
 ghost use Rattle.evidence_report.specs.Marks.{Reads};
-ghost use Rattle.candidate_leases.specs.Near.{asked_of, IsNear};
+ghost use Rattle.candidate_leases.specs.Conditions.{asked_of};
+ghost use Rattle.candidate_leases.specs.Near.{IsNear};
 ghost use Rattle.candidate_leases.specs.Leases.{AreReleaseMarks, AreMarksOf, AreConcerning, IsNearLease, IsNearAt};
 ghost use Rattle.candidate_leases.specs.Leases.{AreNearLeases, found_list};
 
@@ -28,20 +28,31 @@ pub struct CandidateLease {
     /// The line, and its reading.
     pub line: LineReading,
     pub delegation: Delegation,
-    /// What the line, and the releases of the delegation, show of the moment asked about.
+    /// What both journals show of the moment asked about.
     pub state: AtMoment,
+}
+
+/// Returns whether it was surely granted more than a day later.
+fn is_far_later(line: &LineReading, lasting: &Lasting, query: &HolderQuery) -> bool
+    ensures { IsTrue result ↔ (IsNew lasting.now
+        × ((asked_of query.now).at + (asked_of query.now).skew + 86400000 < line.now.reading)) }
+{
+    let from = query.at.milliseconds() + query.skew.milliseconds() + DAY;
+    match lasting {
+        Lasting::For(_) => from < line.reading.milliseconds(),
+        Lasting::Until(_) => false,
+    }
 }
 
 /// Returns whether what the line tells of may have been its client's within a day of the moment.
 fn is_near(line: &LineReading, lasting: &Lasting, query: &HolderQuery) -> bool
     ensures { IsTrue result ↔ IsNear (asked_of query.now) line.now lasting.now }
 {
-    let at = query.at.milliseconds();
-    if at + query.skew.milliseconds() + DAY < line.reading.milliseconds() {
+    if is_far_later(line, lasting, query) {
         return false;
     }
     match ends_by(line.reading, lasting, query.skew, query.transit) {
-        Some(end) => at.saturating_sub(DAY) <= end,
+        Some(end) => query.at.milliseconds().saturating_sub(DAY) <= end,
         None => true,
     }
 }
@@ -80,21 +91,25 @@ fn release_marks_of<S: LineSource>(
 
 /// What is shown of a delegation that a line tells of, by the releases of it.
 #[tactic(auto, using(crate::proofs::Listed::lease_so))]
-fn lease_by(
+fn lease_by<S: LineSource>(
+    source: &S,
     line: LineReading,
     delegation: &Delegation,
     releases: &[LineReading],
     query: &HolderQuery,
 ) -> CandidateLease
-    ensures { (js : Journals) → Tells js line.at delegation.now → Reads js line.at line.reading
-        → Overlaps delegation.now.prefix query.now.prefix → IsNear (asked_of query.now) line delegation.now.lasting
-        → AreReleaseMarks js delegation.now releases.now
-        → IsNearLease js query.now.prefix (asked_of query.now) result × (result.line ≡ line) }
+    requires tells { Tells (S.journals source.now) line.at delegation.now }
+    requires reads { Reads (S.journals source.now) line.at line.reading }
+    requires overlaps { Overlaps delegation.now.prefix query.now.prefix }
+    requires near { IsNear (asked_of query.now) line delegation.now.lasting }
+    requires releases { AreReleaseMarks (S.journals source.now) delegation.now releases.now }
+    ensures lease { IsNearLease (S.journals source.now) query.now.prefix (asked_of query.now) result }
+    ensures line { result.line ≡ line }
 {
     CandidateLease {
         line,
         delegation: *delegation,
-        state: state_at(&line, &delegation.lasting, releases, query),
+        state: state_at(source, &line, &delegation.lasting, releases, query),
     }
 }
 
@@ -114,7 +129,7 @@ fn lease_of<S: LineSource>(
         × (lease.line ≡ line)) }
 {
     let releases = release_marks_of(alloc, source, delegation)?;
-    Ok(lease_by(line, delegation, &releases, query))
+    Ok(lease_by(source, line, delegation, &releases, query))
 }
 
 /// Returns whether the delegation that the line tells of is of an address of the prefix, and near the moment.

@@ -8,7 +8,9 @@ use Rattle.prefix_range.specs.Prefix.{Prefix, IsPrefix}
 use Rattle.prefix_range.specs.Spelling.{Spells}
 use Rattle.plain_search.specs.declared.query.Query.{Query}
 use Rattle.plain_search.specs.declared.query.HolderQuery.{HolderQuery}
-use Rattle.time_text.specs.Time.{IsTimeOf}
+use Rattle.report_times.specs.ReportTimes.{IsReportTime}
+use Rattle.desk_args.specs.declared.when.BareNumbers.{BareNumbers}
+use Rattle.desk_args.specs.declared.when.BareNumbers.TheVariants.{AnyMilliseconds, SureMilliseconds}
 use Rattle.desk_args.specs.declared.settings.SettingsCheck.{SettingsCheck}
 use Rattle.desk_args.specs.declared.settings.SettingsCheck.TheVariants.{MustAgree, MayDiffer}
 use Rattle.desk_args.specs.declared.command.Command.{Command}
@@ -64,17 +66,24 @@ abbrev pub IsBlockText : Option Text → Prefix → Type 0
 IsBlockText None p = ⊥
 IsBlockText (Some text) p = IsPrefixText (Some text) p ⊎ IsPrefixText (Some (text ++ codes "/128")) p
 
--- a moment in milliseconds, or a time (RFC 3339) with any offset and up to three decimals
-abbrev pub IsWhen : Option Text → ℕ → Type 0
-IsWhen None moment = ⊥
-IsWhen (Some text) moment = (moment ≤ 281474976710656) × ((text ≡ decimal moment) ⊎ IsTimeOf text moment)
+-- over files only a number that can be nothing else is milliseconds; over standard input each is
+abbrev pub numbers_by : (journals : Option Text) → BareNumbers
+numbers_by None = AnyMilliseconds
+numbers_by (Some path) = SureMilliseconds
+
+-- a moment as reports spell it, or in milliseconds
+abbrev pub IsWhen : BareNumbers → Option Text → ℕ → Type 0
+IsWhen numbers None moment = ⊥
+IsWhen SureMilliseconds (Some text) moment = (moment ≤ 281474976710656) × IsReportTime text moment
+IsWhen AnyMilliseconds (Some text) moment =
+    (moment ≤ 281474976710656) × (IsReportTime text moment ⊎ (text ≡ decimal moment))
 
 -- which prefix is asked of, at which moment, and the bounds on clocks and answers
 pub record IsHolderQuery (rows : List Row) (q : HolderQuery) : Type 0 where
   pub skew : IsSkew (first_of (codes "skew-ms") rows) q.skew
   pub transit : IsTransit (first_of (codes "transit-ms") rows) q.transit
   pub prefix : IsBlockText (first_of (codes "prefix") rows) q.prefix
-  pub at : IsWhen (first_of (codes "at") rows) q.at
+  pub at : IsWhen (numbers_by (first_of (codes "journals") rows)) (first_of (codes "at") rows) q.at
 
 -- `--settings-differ` stands among the words
 abbrev pub IsSettings : Option Text → SettingsCheck → Type 0

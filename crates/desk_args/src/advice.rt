@@ -6,7 +6,9 @@ use crate::command::{
 use crate::error::UsageError;
 use crate::join_args::{side_given, volume_given};
 use crate::subcommands::desk_command;
-use crate::who_args::{block_given, when_given};
+use crate::time_advice::advice_on_time;
+use crate::when::{numbers_given, when_given};
+use crate::who_args::block_given;
 use crate::wishes::WISHES;
 use clap::ArgMatches;
 use std::alloc::{AllocError, Global};
@@ -18,15 +20,20 @@ struct InvalidOption<'a> {
     value: &'a str,
 }
 
+/// Returns whether a value was given.
+fn is_given(given: Result<(), UsageError>) -> Result<bool, AllocError> {
+    match given {
+        Ok(()) => Ok(true),
+        Err(UsageError::Usage) => Ok(false),
+        Err(UsageError::Memory) => Err(AllocError),
+    }
+}
+
 /// Returns whether an option of `who` is as wanted.
 fn is_fit_for_who(alloc: Global, option: &str, options: &ArgMatches) -> Result<bool, AllocError> {
     match option {
-        "at" => Ok(when_given(options).is_some()),
-        "prefix" => match block_given(alloc, options) {
-            Ok(_) => Ok(true),
-            Err(UsageError::Usage) => Ok(false),
-            Err(UsageError::Memory) => Err(AllocError),
-        },
+        "at" => is_given(when_given(alloc, options).map(|_| ())),
+        "prefix" => is_given(block_given(alloc, options).map(|_| ())),
         _ => Ok(true),
     }
 }
@@ -90,20 +97,33 @@ fn first_unfit<'a>(
     Ok(None)
 }
 
+/// Returns what is wrong with the options of a command.
+fn advice_on_options(
+    alloc: Global,
+    command: &str,
+    options: &ArgMatches,
+) -> Result<String, AllocError> {
+    let Some(unfit) = first_unfit(alloc, command, options)? else {
+        return String::from_str(
+            alloc,
+            "error: these options don't go together, as desk --help says",
+        );
+    };
+    let InvalidOption {
+        option,
+        wish,
+        value,
+    } = unfit;
+    if option == "at" {
+        return advice_on_time(alloc, numbers_given(options), value, wish);
+    }
+    format!(in alloc; "error: --{option} wants {wish}, and has '{value}'")
+}
+
 /// Returns what is wrong with words in which clap finds nothing wrong.
 fn advice_on_values(alloc: Global, matches: &ArgMatches) -> Result<String, AllocError> {
-    let unfit = match matches.subcommand() {
-        Some((command, options)) => first_unfit(alloc, command, options)?,
-        None => None,
-    };
-    match unfit {
-        Some(
-            InvalidOption {
-                option,
-                wish,
-                value,
-            },
-        ) => format!(in alloc; "error: --{option} wants {wish}, and has '{value}'"),
+    match matches.subcommand() {
+        Some((command, options)) => advice_on_options(alloc, command, options),
         None => String::from_str(
             alloc,
             "error: these options don't go together, as desk --help says",

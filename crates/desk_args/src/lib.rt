@@ -21,6 +21,8 @@ mod requests;
 mod settings;
 mod sources;
 mod subcommands;
+mod time_advice;
+mod when;
 mod who_args;
 mod wishes;
 mod workers;

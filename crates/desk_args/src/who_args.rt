@@ -1,19 +1,18 @@
 //! The words of `who`.
 
-ghost use Rattle.std.specs.Prelude.{◌≡◌, ◌++◌, ℕ, ◌≤◌, ◌^◌, List, codes, IfOk, IfSome, IsErrOf, Some, None};
+ghost use Rattle.std.specs.Prelude.{◌≡◌, ◌++◌, codes, IfOk, IfSome, IsErrOf, Some, None};
 ghost use Rattle.clap.specs.Words.{first_of, rows_of, found_of};
 ghost use Rattle.prefix_range.specs.Prefix.{Prefix as PrefixValue};
 ghost use Rattle.plain_search.specs.declared.query.HolderQuery.{HolderQuery as HolderQueryValue};
-ghost use Rattle.desk_args.specs.Given.{IsPrefixText, IsBlockText, IsMoment, IsWhen, IsHolderQuery};
+ghost use Rattle.desk_args.specs.Given.{IsPrefixText, IsBlockText, IsHolderQuery};
 
-use crate::command::{number_in, prefix_in, skew_given, transit_given};
+use crate::command::{prefix_in, skew_given, transit_given};
 use crate::error::UsageError;
+use crate::when::when_given;
 use clap::ArgMatches;
-use lead_time::Reading;
 use plain_search::HolderQuery;
 use prefix_range::{Prefix, read_text};
 use std::alloc::{AllocError, Global};
-use time_text::read_time;
 
 /// The prefix of one address, which a text without a length spells.
 fn address_in(alloc: Global, text: &str) -> Result<Option<Prefix>, AllocError>
@@ -45,25 +44,6 @@ fn block_in(alloc: Global, text: &str) -> Result<Prefix, UsageError>
     }
 }
 
-/// The moment of so many milliseconds.
-fn moment_in(text: &str) -> Option<Reading>
-    ensures given { IfSome result (IsMoment (Some text.now)) }
-    ensures none { result ≡ None → (m : ℕ) → IsMoment (Some text.now) m → ⊥ }
-{
-    Reading::new(number_in(text, Reading::MAX)?).ok()
-}
-
-/// The moment of a text: milliseconds, or a time.
-fn when_in(text: &str) -> Option<Reading>
-    ensures given { IfSome result (IsWhen (Some text.now)) }
-    ensures none { result ≡ None → (m : ℕ) → IsWhen (Some text.now) m → ⊥ }
-{
-    if let Some(moment) = moment_in(text) {
-        return Some(moment);
-    }
-    read_time(text.as_bytes())
-}
-
 pub(crate) fn block_given(alloc: Global, options: &ArgMatches) -> Result<Prefix, UsageError>
     ensures given { IfOk result (IsBlockText (first_of (codes "prefix") (rows_of (found_of options.now)))) }
     ensures none { IsErrOf result UsageError.Usage
@@ -73,14 +53,6 @@ pub(crate) fn block_given(alloc: Global, options: &ArgMatches) -> Result<Prefix,
         return Err(UsageError::Usage);
     };
     block_in(alloc, text)
-}
-
-pub(crate) fn when_given(options: &ArgMatches) -> Option<Reading>
-    ensures given { IfSome result (IsWhen (first_of (codes "at") (rows_of (found_of options.now)))) }
-    ensures none { result ≡ None
-        → (m : ℕ) → IsWhen (first_of (codes "at") (rows_of (found_of options.now))) m → ⊥ }
-{
-    when_in(options.get_str("at")?)
 }
 
 /// Returns what is asked of the search for a holder.
@@ -94,7 +66,7 @@ pub(crate) fn holder_query_given(
 {
     let skew = skew_given(options).ok_or(UsageError::Usage)?;
     let transit = transit_given(options).ok_or(UsageError::Usage)?;
-    let at = when_given(options).ok_or(UsageError::Usage)?;
+    let at = when_given(alloc, options)?;
     let prefix = block_given(alloc, options)?;
     Ok(HolderQuery {
         prefix,

@@ -12,7 +12,7 @@ use attribution_desk::{
     Command, DeskError, Intake, PairIntake, ReadInput, ReadPair, Watched, run, take_all,
 };
 use desk_args::{ReportOptions, SettingsCheck};
-use desk_reports::{explain_told, holder_told};
+use desk_reports::{VolumeEnds, explain_told, holder_told};
 use journal_text::{text_gives_what_it_spells, written_is_closed};
 use lead_time::{Skew, Transit};
 use plain_search::HolderQuery;
@@ -120,6 +120,14 @@ pub(crate) fn holder_explained(
     let zone = zone_named(rt, telling.zone)?;
     let pair = pair_of(rt, threads).map_err(DeskFault::Desk)?;
     let style = style_of(telling, &zone);
-    let told = holder_told(threads, rt.alloc(), &pair, query, settings, &style);
+    let told = holder_told(
+        threads,
+        rt.alloc(),
+        &pair,
+        query,
+        settings,
+        VolumeEnds::CLOSED,
+        &style,
+    );
     write_out(rt, &told.map_err(DeskFault::Desk)?)
 }

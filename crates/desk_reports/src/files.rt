@@ -16,10 +16,11 @@ use archive_files::{
 use attribution::Verdict;
 use attribution_desk::{DeskError, ReadPair};
 use binding_rules::Role;
+use candidate_leases::{VolumeEnd, VolumeEnds};
 use causal_order::CertificateFault;
 use certificate::CertificateError;
 use desk_args::SettingsCheck;
-use journal_archive::{Archive, CoverageGap, PairJournals, VolumePair};
+use journal_archive::{Archive, CoverageGap, FiledVolume, PairJournals, VolumeEnding, VolumePair};
 use journal_lines::Journal;
 use lead_time::{Skew, Transit};
 use pair_judgement::{Judgement, judgement_line};
@@ -147,6 +148,21 @@ fn explain_over<F: JournalFiles>(
     }
 }
 
+fn end_of(volume: &FiledVolume) -> VolumeEnd {
+    match volume.outline.ending {
+        VolumeEnding::Closed => VolumeEnd::Closed,
+        VolumeEnding::GoesOn => VolumeEnd::Open,
+    }
+}
+
+/// Which of two volumes their servers still write.
+fn ends_of(pair: &VolumePair) -> VolumeEnds {
+    VolumeEnds {
+        primary: end_of(&pair.primary),
+        secondary: end_of(&pair.secondary),
+    }
+}
+
 /// The report on a search for a holder over the pair of volumes that shows the moment.
 fn holder_over<F: JournalFiles>(
     rt: &(impl Threads + Sync),
@@ -166,7 +182,8 @@ fn holder_over<F: JournalFiles>(
     match shown_at(alloc, files, archive, moment, query.skew, query.transit)? {
         ShownJournals::Journals(pair, shown) => {
             let read = read_pair(&pair, shown)?;
-            let told = holder_told(rt, alloc, &read, query, settings, style);
+            let ends = ends_of(&pair);
+            let told = holder_told(rt, alloc, &read, query, settings, ends, style);
             noted(alloc, names, &pair, told)
         }
         ShownJournals::Lacking(side, lack) => {

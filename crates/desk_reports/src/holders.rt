@@ -1,17 +1,27 @@
 //! Who held a prefix, and why; or why nobody is named.
 
+ghost use Rattle.std.specs.Prelude.{◌≡◌, IfOk, IfErr, map};
 ghost use Rattle.std.specs.Result.{ForOk};
 ghost use Rattle.journal_text.specs.Closed.{IsClosed};
+ghost use Rattle.report_document.specs.Telling.{told_of};
+ghost use Rattle.desk_reports.specs.NoHolders.{IsNotNamed, IsNoHolder, IsNoHolderOf, no_holder_told};
 
 use crate::explaining::explain_read;
 use crate::telling::{ReportStyle, ReportSubject, page_told, written};
 use crate::why_data::why_data;
 use archive_desk::CommandOutput;
+use attribution::Verdict;
 use attribution_desk::{DeskError, IndexedPair, ReadPair, Search, SearchAnswer, search_pair};
-use candidate_leases::{CandidateLease, NoHolderReason, candidate_leases, no_holder_reason};
+use binding_rules::Role;
+use candidate_leases::{
+    CandidateLease, NoHolderReason, VolumeEnds, candidate_leases, no_holder_reason,
+};
 use desk_args::{ReportForm, SettingsCheck};
+use journal_lines::Journal;
+use line_index::LineIndex;
+use pair_judgement::{Judgement, objection};
 use plain_search::HolderQuery;
-use report_document::why_blocks;
+use report_document::{Block, refusal_blocks, why_blocks};
 use report_render::{RenderedText, passages_of, text_of};
 use std::alloc::{AllocError, Global};
 use std::thread::Threads;
@@ -28,33 +38,101 @@ fn certificate_in(line: &[u8]) -> &[u8] {
     rest
 }
 
-/// Why a search names nobody, with the delegations near the moment.
+/// Why a search names nobody.
 #[derive(Drop)]
-pub struct NoHolderReport {
-    pub why: NoHolderReason,
-    pub leases: Vec<CandidateLease>,
+pub enum NoHolder {
+    /// This stands against the two journals, or against asking this of them.
+    Refused(Judgement),
+    /// Nobody is shown to have had the prefix: why, with the delegations near the moment.
+    NotNamed {
+        why: NoHolderReason,
+        leases: Vec<CandidateLease>,
+    },
 }
 
-/// Why a search names nobody over two journals that fit; nothing where they don't.
+/// Why nobody is named over an index of two journals.
+fn reasons_by(
+    alloc: Global,
+    index: &LineIndex,
+    query: &HolderQuery,
+    ends: VolumeEnds,
+) -> Result<NoHolder, DeskError>
+    ensures why { IfOk result (IsNotNamed index.now.journals query.now ends) }
+    ensures refused { IfErr result (λ e. e ≡ DeskError.Memory) }
+{
+    let leases = candidate_leases(alloc, index, query)?;
+    let why = no_holder_reason(index, &leases, query, ends);
+    Ok(NoHolder::NotNamed { why, leases })
+}
+
+/// Why nobody is named over two journals: what stands against them or against the question, or else the reason.
 fn reasons_over(
+    rt: &(impl Threads + Sync),
+    alloc: Global,
+    primary: &Journal,
+    secondary: &Journal,
+    query: &HolderQuery,
+    settings: SettingsCheck,
+    ends: VolumeEnds,
+) -> Result<NoHolder, DeskError>
+    requires primary_closed { IsClosed primary.now.lines }
+    requires secondary_closed { IsClosed secondary.now.lines }
+    ensures why { IfOk result (IsNoHolder primary.now secondary.now query.now settings ends) }
+    ensures refused { IfErr result (λ e. e ≡ DeskError.Memory) }
+{
+    let case = IndexedPair::of(rt, alloc, primary, secondary, query.skew)?;
+    let index = match &case {
+        IndexedPair::Open(index) => index,
+        IndexedPair::Refused(ruling) => return Ok(NoHolder::Refused(*ruling)),
+    };
+    if let SettingsCheck::MustAgree = settings
+        && let Some(ruling) = objection(primary, secondary, query.skew, query.transit)
+    {
+        return Ok(NoHolder::Refused(ruling));
+    }
+    reasons_by(alloc, index, query, ends)
+}
+
+/// Why nobody is named over two texts as journals.
+fn reasons_of(
     rt: &(impl Threads + Sync),
     alloc: Global,
     pair: &ReadPair,
     query: &HolderQuery,
-) -> Result<Option<NoHolderReport>, DeskError>
+    settings: SettingsCheck,
+    ends: VolumeEnds,
+) -> Result<NoHolder, DeskError>
     requires primary_closed { ForOk pair.now.primary (λ journal. IsClosed journal.lines) }
     requires secondary_closed { ForOk pair.now.secondary (λ journal. IsClosed journal.lines) }
+    ensures why { IfOk result (IsNoHolderOf pair.now.primary pair.now.secondary query.now settings ends) }
+    ensures refused { IfErr result (λ e. e ≡ DeskError.Memory) }
 {
-    let (Ok(primary), Ok(secondary)) = (&pair.primary, &pair.secondary) else {
-        return Ok(None);
-    };
-    match &IndexedPair::of(rt, alloc, primary, secondary, query.skew)? {
-        IndexedPair::Open(index) => {
-            let leases = candidate_leases(alloc, index, query)?;
-            let why = no_holder_reason(index, &leases, query);
-            Ok(Some(NoHolderReport { why, leases }))
+    match (&pair.primary, &pair.secondary) {
+        (Ok(primary), Ok(secondary)) => {
+            reasons_over(rt, alloc, primary, secondary, query, settings, ends)
         }
-        IndexedPair::Refused(_) => Ok(None),
+        (Err(fault), _) => Ok(NoHolder::Refused(Judgement::Verdict(Verdict::Journal(
+            Role::Primary,
+            *fault,
+        )))),
+        (Ok(_), Err(fault)) => Ok(NoHolder::Refused(Judgement::Verdict(Verdict::Journal(
+            Role::Secondary,
+            *fault,
+        )))),
+    }
+}
+
+/// What is told of why nobody is named.
+fn told_reasons(
+    alloc: Global,
+    query: &HolderQuery,
+    reasons: &NoHolder,
+) -> Result<Vec<Block>, AllocError>
+    ensures { IfOk result (λ blocks. map told_of blocks.items ≡ no_holder_told query.now reasons.now) }
+{
+    match reasons {
+        NoHolder::Refused(ruling) => refusal_blocks(alloc, query, ruling),
+        NoHolder::NotNamed { why, leases } => why_blocks(alloc, query, why, leases),
     }
 }
 
@@ -63,13 +141,10 @@ fn spelled_reasons(
     alloc: Global,
     query: &HolderQuery,
     line: Vec<u8>,
-    reasons: &Option<NoHolderReport>,
+    reasons: &NoHolder,
     style: &ReportStyle,
 ) -> Result<RenderedText, AllocError> {
-    let blocks = match reasons {
-        Some(NoHolderReport { why, leases }) => why_blocks(alloc, query, why, leases)?,
-        None => Vec::new(alloc),
-    };
+    let blocks = told_reasons(alloc, query, reasons)?;
     let passages = passages_of(alloc, &blocks, style.zone)?;
     Ok(RenderedText { line, passages })
 }
@@ -80,7 +155,7 @@ fn why_written(
     pair: &ReadPair,
     query: &HolderQuery,
     line: Vec<u8>,
-    reasons: &Option<NoHolderReport>,
+    reasons: &NoHolder,
     style: &ReportStyle,
 ) -> Result<Vec<u8>, DeskError> {
     if style.form == ReportForm::Json {
@@ -107,6 +182,8 @@ fn why_told(
     alloc: Global,
     pair: &ReadPair,
     query: &HolderQuery,
+    settings: SettingsCheck,
+    ends: VolumeEnds,
     found: SearchAnswer,
     style: &ReportStyle,
 ) -> Result<CommandOutput, DeskError>
@@ -114,7 +191,7 @@ fn why_told(
     requires secondary_closed { ForOk pair.now.secondary (λ journal. IsClosed journal.lines) }
 {
     let SearchAnswer { line, status, note } = found;
-    let reasons = reasons_over(rt, alloc, pair, query)?;
+    let reasons = reasons_of(rt, alloc, pair, query, settings, ends)?;
     let text = why_written(alloc, pair, query, line, &reasons, style)?;
     Ok(CommandOutput {
         text,
@@ -124,13 +201,14 @@ fn why_told(
 }
 
 /// What a search for a holder answers over two texts as journals, and a report on it: what the certificate shows, or
-/// why nobody is named. `Memory` where a growth was refused.
+/// why nobody is named. `ends` says which of the journals are still being written. `Memory` where a growth was refused.
 pub fn holder_told(
     rt: &(impl Threads + Sync),
     alloc: Global,
     pair: &ReadPair,
     query: &HolderQuery,
     settings: SettingsCheck,
+    ends: VolumeEnds,
     style: &ReportStyle,
 ) -> Result<CommandOutput, DeskError>
     requires primary_closed { ForOk pair.now.primary (λ journal. IsClosed journal.lines) }
@@ -138,7 +216,7 @@ pub fn holder_told(
 {
     let found = search_pair(rt, alloc, pair, &Search::Who(*query, settings))?;
     if found.status != 0 {
-        return why_told(rt, alloc, pair, query, found, style);
+        return why_told(rt, alloc, pair, query, settings, ends, found, style);
     }
     let certificate = certificate_in(&found.line);
     let claim = certificate::read(alloc, certificate);

@@ -18,6 +18,7 @@ mod telling;
 mod why_data;
 
 pub use answers::answer_data;
+pub use candidate_leases::VolumeEnds;
 pub use explaining::{explain_journals, explain_read};
 pub use files::{explain_files, holder_in_files};
 pub use holders::holder_told;

@@ -1,7 +1,8 @@
 //! Why nobody is named, as JSON.
 
-use crate::holders::NoHolderReport;
+use crate::holders::NoHolder;
 use attribution::Lasting;
+use binding_rules::Role;
 use candidate_leases::{
     AtMoment, CandidateLease, NoHolderReason, begun_by, ends_by, lasts_from, may_begin,
 };
@@ -19,17 +20,38 @@ fn reason(alloc: Global, name: &'static str) -> Object {
     Object::new(alloc).with("reason", name)
 }
 
+/// A reason by a side's journal: the least that its clock must have shown, and what it showed last, in milliseconds.
+fn ended(
+    alloc: Global,
+    name: &'static str,
+    side: Role,
+    needed: u64,
+    shown: (&'static str, u64),
+) -> Result<Value, AllocError> {
+    reason(alloc, name)
+        .with("side", side_of(side))
+        .with_made("needed", time_of(alloc, needed))
+        .with_made(shown.0, time_of(alloc, shown.1))
+        .into_value()
+}
+
+/// A reason by two lines.
+fn several(alloc: Global, first: &LineReading, other: &LineReading) -> Result<Value, AllocError> {
+    let mut lines = Vec::new(alloc);
+    lines.push(line_of(alloc, first.at)?)?;
+    lines.push(line_of(alloc, other.at)?)?;
+    reason(alloc, "several")
+        .with("lines", Value::Array(lines))
+        .into_value()
+}
+
 fn why_of(alloc: Global, why: &NoHolderReason) -> Result<Value, AllocError> {
     match why {
-        NoHolderReason::PastEnd {
-            side,
-            needed,
-            closed,
-        } => {
-            reason(alloc, "past_end")
-                .with("side", side_of(*side))
-                .with_made("needed", time_of(alloc, *needed))
-                .with_made("closed", time_of(alloc, closed.milliseconds()))
+        NoHolderReason::OutsidePools => reason(alloc, "outside_pools").into_value(),
+        NoHolderReason::BeforeFirstVolume { primary, secondary } => {
+            reason(alloc, "before_first_volume")
+                .with_made("journal_a", time_of(alloc, primary.milliseconds()))
+                .with_made("journal_b", time_of(alloc, secondary.milliseconds()))
                 .into_value()
         }
         NoHolderReason::BeforeOpen { side, needed } => {
@@ -38,9 +60,39 @@ fn why_of(alloc: Global, why: &NoHolderReason) -> Result<Value, AllocError> {
                 .with_made("needed", time_of(alloc, *needed))
                 .into_value()
         }
-        NoHolderReason::Nobody => reason(alloc, "nobody").into_value(),
+        NoHolderReason::AfterLastLine { side, needed, last } => {
+            ended(
+                alloc,
+                "after_last_line",
+                *side,
+                *needed,
+                ("last", last.milliseconds()),
+            )
+        }
+        NoHolderReason::PastEnd {
+            side,
+            needed,
+            closed,
+        } => ended(
+            alloc,
+            "past_end",
+            *side,
+            *needed,
+            ("closed", closed.milliseconds()),
+        ),
+        NoHolderReason::SeveralCustomers { unit_length } => {
+            reason(alloc, "several_customers")
+                .with("unit_length", *unit_length)
+                .into_value()
+        }
+        NoHolderReason::Several { first, other } => several(alloc, first, other),
+        NoHolderReason::Carried { line } => {
+            reason(alloc, "carried")
+                .with_made("line", line_of(alloc, line.at))
+                .into_value()
+        },
         NoHolderReason::NotShown => reason(alloc, "not_shown").into_value(),
-        NoHolderReason::Several => reason(alloc, "several").into_value(),
+        NoHolderReason::Nobody => reason(alloc, "nobody").into_value(),
     }
 }
 
@@ -80,6 +132,15 @@ fn falls_short(
         .into_value()
 }
 
+/// A lease that may have been given back behind a close line.
+fn later(alloc: Global, side: Role, needed: u64, closed: Reading) -> Result<Value, AllocError> {
+    state(alloc, "later_volumes")
+        .with("side", side_of(side))
+        .with_made("needed", time_of(alloc, needed))
+        .with_made("closed", time_of(alloc, closed.milliseconds()))
+        .into_value()
+}
+
 fn state_of(alloc: Global, found: &AtMoment, at: Reading) -> Result<Value, AllocError> {
     let at = at.milliseconds();
     match found {
@@ -100,6 +161,17 @@ fn state_of(alloc: Global, found: &AtMoment, at: Reading) -> Result<Value, Alloc
             falls_short(alloc, "ending", ("lasts_to", *end), short)
         }
         AtMoment::MayBeGivenBack(release) => given_back(alloc, "may_be_given_back", release),
+        AtMoment::EarlierVolumes { side, needed } => {
+            state(alloc, "earlier_volumes")
+                .with("side", side_of(*side))
+                .with_made("needed", time_of(alloc, *needed))
+                .into_value()
+        }
+        AtMoment::LaterVolumes {
+            side,
+            needed,
+            closed,
+        } => later(alloc, *side, *needed, *closed),
         AtMoment::Shown => state(alloc, "shown").into_value(),
     }
 }
@@ -177,15 +249,12 @@ pub fn why_data(
     alloc: Global,
     query: &HolderQuery,
     line: &[u8],
-    reasons: &Option<NoHolderReport>,
+    reasons: &NoHolder,
 ) -> Result<Vec<u8>, AllocError> {
     let answer = line.strip_suffix(b"\n").unwrap_or(line);
     let (why, leases) = match reasons {
-        Some(NoHolderReport { why, leases }) => (
-            why_of(alloc, why),
-            leases_of(alloc, leases, query),
-        ),
-        None => (Ok(Value::Null), Ok(Value::Null)),
+        NoHolder::NotNamed { why, leases } => (why_of(alloc, why), leases_of(alloc, leases, query)),
+        NoHolder::Refused(_) => (Ok(Value::Null), Ok(Value::Null)),
     };
     let line = Object::new(alloc)
         .with_made("answer", text_of(alloc, answer))

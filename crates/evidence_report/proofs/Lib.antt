@@ -1,10 +1,13 @@
 pub mod Clearing
 pub mod Failed
 pub mod Granting
+pub mod InOrder
 pub mod Lookup
 pub mod Marks
 pub mod Pushed
 pub mod Shown
+pub mod Told
+pub mod CutShort
 pub mod Unheld
 pub mod Wholly
 pub mod Refused

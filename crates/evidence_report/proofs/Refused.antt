@@ -47,7 +47,7 @@ module _ (js : Journals) (skew transit : ℕ) (c : Certificate) where
   refused_in (k ∷ ks) v (inr h) = refused_in ks v h.1
 
   -- a verdict of a condition is a refusal by it
-  refused : (v : Verdict) (k : Condition) → IsVerdict js skew transit c v → condition_of v ≡ Some k
+  pub refused : (v : Verdict) (k : Condition) → IsVerdict js skew transit c v → condition_of v ≡ Some k
       → Refuses js skew transit c k v
   refused v k h e = elim (refused_in CONDITIONS v h) [
     | inl accepted ↦ absurd (let x : None ≡ Some k = sym (ap condition_of accepted) ∙ e in cc)

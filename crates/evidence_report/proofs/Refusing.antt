@@ -30,7 +30,7 @@ use Rattle.evidence_report.specs.Pieces.{IsPieceReport}
 use Rattle.evidence_report.specs.Reports.{AreShown, IsSideReport, IsReport}
 use Rattle.evidence_report.specs.Failures.{side_in, IsBeforeOpen, IsOpenFailure}
 use Rattle.evidence_report.specs.Faults.{FailsPiece, FailsForeign}
-use Rattle.evidence_report.proofs.Wholly.{one_at}
+use Rattle.evidence_report.proofs.InOrder.{one_at}
 
 -- ---- where pieces begin
 

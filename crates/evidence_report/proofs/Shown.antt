@@ -20,13 +20,16 @@ use Rattle.attribution.proofs.Deciding.{grants_lease}
 use Rattle.auditor.specs.Walks.{AreReleases}
 use Rattle.auditor.proofs.Given.{Contains-get}
 use Rattle.evidence_report.specs.declared.mark.LineReading.{LineReading}
+use Rattle.evidence_report.specs.declared.piece_report.PieceReleases.{PieceReleases}
 use Rattle.evidence_report.specs.declared.piece_report.ReleaseReport.{ReleaseReport}
 use Rattle.evidence_report.specs.declared.piece_report.ReportedGrant.{ReportedGrant}
-use Rattle.evidence_report.specs.Lines.{AreOnce, AreRising}
-use Rattle.evidence_report.specs.Marks.{Reads, IsGrantedAt, mark_of}
+use Rattle.evidence_report.specs.Lines.{AreOnce, AreExactly}
+use Rattle.evidence_report.specs.Marks.{Reads, Exists, IsGrantedAt, mark_of}
 use Rattle.evidence_report.specs.Pieces.{releases_in, IsReleaseReport, AreReportsOf, AreReleaseReports}
+use Rattle.evidence_report.specs.Pieces.{EndsDelegation, EndsGrant, IsTold}
 use Rattle.evidence_report.specs.Reports.{AreShown}
 use Rattle.evidence_report.proofs.Pushed.{get_pushed}
+use Rattle.evidence_report.proofs.Told.{same_reports}
 
 -- ---- one for each of a list
 
@@ -131,22 +134,15 @@ module _ (js : Journals) (skew : ℕ) (p : Piece) (refs : List Ref) where
     ];
   }
 
-  module _ (given : Delegation) (releases : AreReleases js given refs) where
+  module _ (there : (r : Ref) → Has refs r → Exists js r) where
     pub none_missing : (i : ℕ) (d : Ref) → i < length refs → None ≡ mark_of js (get_or refs i d) → ⊥
     none_missing i d lt e =
-        let back = releases.only (get_or refs i d) (Contains-get refs i (get_or refs i d)
-        (slice_get-get_or refs i d lt)) in
-        unmarked_by js (get_or refs i d) back.0 e (names_line js (get_or refs i d) back.0 back.1)
+        let line = there (get_or refs i d) (Contains-get refs i (get_or refs i d) (slice_get-get_or refs i d lt)) in
+        unmarked_by js (get_or refs i d) line.0 e (names_line js (get_or refs i d) line.0 line.1)
 
-    pub all_reported : (shown : List ReleaseReport) (i : ℕ) → length refs ≤ i → AreRising refs
-        → AreReportedSoFar js skew p refs shown i → AreReportsOf js skew p given shown
-    all_reported shown i le rising h =
-        let lines : releases_in shown ≡ refs = h.lines ∙ take_all i refs le in
-        record {
-          releases = subst (AreReleases js given) (sym lines) releases;
-          once = subst AreRising (sym lines) rising;
-          each = h.each;
-        }
+  pub all_reported : (shown : List ReleaseReport) (i : ℕ) → length refs ≤ i → AreReportedSoFar js skew p refs shown i
+      → AreReportsOf js skew p refs shown
+  all_reported shown i le h = record { lines = h.lines ∙ take_all i refs le; each = h.each }
 
 -- ---- those of what a grant gave
 
@@ -154,23 +150,29 @@ pub one_lease : (js : Journals) (r : Ref) (g h : Lease) → Grants js r g → Gr
 one_lease js r g h a b = let x : Some g ≡ Some h = sym (grants_lease js r g a) ∙ grants_lease js r h b in cc
 
 module _ (js : Journals) (skew : ℕ) (p : Piece) where
-  pub by_grant : (granted : ReportedGrant) (d : Delegation) (shown : List ReleaseReport)
-      → IsGrantedAt js p.grant (Some granted) → d ≡ of_lease granted.lease → AreReportsOf js skew p d shown
-      → AreReleaseReports js skew p shown
+  pub by_grant : (granted : ReportedGrant) (d : Delegation) (shown : PieceReleases)
+      → IsGrantedAt js p.grant (Some granted) → d ≡ of_lease granted.lease
+      → AreReleaseReports js skew p (EndsDelegation js d) shown → AreReleaseReports js skew p (EndsGrant js p) shown
   by_grant granted d shown grants is h =
-      let back = subst (λ (x : Delegation). AreReleases js x (releases_in shown)) is h.releases in
-      record {
-        all = λ r ends. back.all r (subst (λ (g : Lease). GivesBack js r (of_lease g))
-            (one_lease js p.grant ends.0 granted.lease ends.1 grants.0) ends.2);
-        only = λ r has. (granted.lease, grants.0, back.only r has);
-        once = h.once;
-        each = h.each;
-      }
+      same_reports js skew p (EndsDelegation js d) (EndsGrant js p) shown
+      (λ r back. (granted.lease, grants.0, subst (GivesBack js r) is back))
+      (λ r ends. subst (GivesBack js r) (ap of_lease (one_lease js p.grant ends.0 granted.lease ends.1 grants.0) ∙ sym is)
+      ends.2) h
 
-  pub by_nothing : IsGrantedAt js p.grant None → AreReleaseReports js skew p []
-  by_nothing n = record {
-    all = λ r ends. absurd (n ends.0 ends.1);
-    only = λ r has. absurd (none_in r has);
-    once = λ i j r s lt a b. absurd (cc);
-    each = λ s has. absurd (none_in s has);
+  pub by_nothing : (shown : PieceReleases) → shown.told.items ≡ [] → shown.more ≡ 0 → IsGrantedAt js p.grant None
+      → AreReleaseReports js skew p (EndsGrant js p) shown
+  by_nothing shown none zero n = record {
+    told = subst (λ (xs : List ReleaseReport). AreExactly (IsTold (EndsGrant js p) p) (releases_in xs)) (sym none)
+        (exactly_none (IsTold (EndsGrant js p) p) (λ r is. n is.0.0 is.0.1));
+    each = λ s has. absurd (none_in s (subst (λ (xs : List ReleaseReport). Has xs s) none has));
+    ending = [];
+    whole = exactly_none (EndsGrant js p) (λ r ends. n ends.0 ends.1);
+    counted = (let empty = ap (length {A = ReleaseReport}) none in omega (arith, empty, zero));
   }
+    where
+      exactly_none : (P : Ref → Type 0) → ((r : Ref) → P r → ⊥) → AreExactly P []
+      exactly_none P n = record {
+        all = λ r p. absurd (n r p);
+        only = λ r has. absurd (none_in r has);
+        once = λ i j r s lt a b. absurd (cc);
+      }

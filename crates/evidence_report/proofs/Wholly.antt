@@ -1,7 +1,8 @@
 -- What the report of an accepted certificate shows.
-use Rattle.std.specs.Prelude.{◌≡◌, ℕ, ◌<◌, IsSome, List, [], ◌∷◌, length, Option, Some, None, slice_get, option_map}
+use Rattle.std.specs.Prelude.{◌≡◌, ℕ, ◌+◌, ◌≤◌, IsSome, List, length, Option, Some, None, slice_get, option_map}
 use Rattle.std.specs.Prelude.{Contains as Has}
-use Rattle.std.proofs.Common.{zero, suc, sym, ◌∙◌, ap, subst, refl, arith}
+use Rattle.std.proofs.Common.{sym, ◌∙◌, ap, subst, refl, arith, inl}
+use Rattle.std.proofs.lemmas.List.{length-map}
 use Rattle.std.proofs.lemmas.Option.{slice_get-map}
 use Rattle.journal_lines.specs.declared.event.Lease.{Lease}
 use Rattle.causal_order.specs.declared.certificate.Certificate.{Certificate}
@@ -24,12 +25,8 @@ use Rattle.evidence_report.specs.Marks.{IsLatestMark, IsEarliestMark, IsGrantedA
 use Rattle.evidence_report.specs.Pieces.{IsPieceReport, releases_in}
 use Rattle.evidence_report.specs.Others.{IsForeignReport}
 use Rattle.evidence_report.specs.Reports.{AreShown}
+use Rattle.evidence_report.proofs.InOrder.{one_at, no_more}
 use Rattle.evidence_report.specs.Whole.{IsWholePiece, IsWholeEntry, AcceptedIsWhole}
-
-pub one_at : {X : Type 0} (xs : List X) (i : ℕ) → i < length xs → (x : X) × (slice_get xs i ≡ Some x)
-one_at [] i lt = absurd (omega arith)
-one_at (x ∷ xs) zero lt = (x, refl)
-one_at (x ∷ xs) (suc i) lt = one_at xs i (omega arith)
 
 -- what is shown stands for one of the list
 pub shown_for : {X Y : Type 0} (Shows : X → Y → Type 0) (xs : List X) (ys : List Y) → AreShown Shows xs ys → (y : Y)
@@ -39,6 +36,13 @@ shown_for Shows xs ys h y has =
     let lt = at.1 in
     let some = one_at xs at.0 (let n = h.count in omega arith) in
     (at.0, some.0, some.1, at.2, h.each at.0 some.0 y some.1 at.2)
+
+-- the line of a release that is told of
+line_of_report : (shown : List ReleaseReport) (s : ReleaseReport) → Has shown s → Has (releases_in shown) s.release.at
+line_of_report shown s has =
+    let at = get-Contains shown s has in
+    Contains-get (releases_in shown) at.0 s.release.at (slice_get-map (λ (s : ReleaseReport). s.release.at) shown at.0
+    ∙ ap (option_map (λ (s : ReleaseReport). s.release.at)) at.2)
 
 some_lease : (js : Journals) (r : Ref) (g : Lease) (o : Option ReportedGrant) → Grants js r g → IsGrantedAt js r o → IsSome o
 some_lease js r g None grants n = absurd (n g grants)
@@ -67,13 +71,16 @@ module _ (js : Journals) (skew transit : ℕ) (c : Certificate) where
     latest = some_latest js p.latest p.grant carried.0.latest shown.latest carried.0.written_by h.latest;
     earliest = some_earliest js p.earliest p.grant carried.0.earliest shown.earliest carried.0.written_from h.earliest;
     discharged = λ r has.
-        let at = get-Contains shown.releases.items r has in
-        let line : Has (releases_in shown.releases.items) r.release.at =
-        Contains-get (releases_in shown.releases.items) at.0 r.release.at
-        (slice_get-map (λ (s : ReleaseReport). s.release.at) shown.releases.items at.0
-        ∙ ap (option_map (λ (s : ReleaseReport). s.release.at)) at.2) in
-        let ends = h.releases.only r.release.at line in
+        let ends = (h.releases.told.only r.release.at (line_of_report shown.releases.told.items r has)).0 in
         (h.releases.each r has).discharged.1 (carried.1 r.release.at ends.0 ends.1 ends.2);
+    uncounted =
+        let told = h.releases.told in
+        let all = h.releases.whole in
+        let fewer = no_more (releases_in shown.releases.told.items) h.releases.ending told.once all.once
+        (λ r has. (let ends = all.only r has in let clears = carried.1 r ends.0 ends.1 ends.2 in
+        told.all r (ends, inl (clears.0, clears.1, clears.2)))) in
+        let lines = length-map shown.releases.told.items (λ (s : ReleaseReport). s.release.at) in
+        omega (arith, fewer, lines, h.releases.counted);
   }
 
   entry_whole : (f : Foreign) (shown : ForeignReport) → ReasonHolds js skew transit c f → IsForeignReport js f shown

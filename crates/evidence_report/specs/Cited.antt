@@ -45,9 +45,9 @@ foreign_lines f = f.grant ∷ reason_lines f.reason
 abbrev pub certificate_lines : Certificate → List Ref
 certificate_lines c = flat_map piece_lines c.pieces ++ flat_map foreign_lines c.foreign
 
--- those, and each release that a piece's report shows
+-- those, and each release that a piece's report tells of
 abbrev pub cited_by : Certificate → List PieceReport → List Ref
-cited_by c pieces = certificate_lines c ++ flat_map (λ s. releases_in s.releases.items) pieces
+cited_by c pieces = certificate_lines c ++ flat_map (λ s. releases_in s.releases.told.items) pieces
 
 -- each of them that names a line, once, with the line
 pub record AreCited (js : Journals) (c : Certificate) (pieces : List PieceReport) (cited : List CitedLine) : Type 0 where

@@ -13,8 +13,18 @@ pub record AreOnce (refs once : List Ref) : Type 0 where
   pub same : (r : Ref) → Has refs r ↔ Has once r
   pub rising : AreRising once
 
+-- exactly the lines of which P holds, each once, in order
+pub record AreExactly (P : Ref → Type 0) (refs : List Ref) : Type 0 where
+  pub all : (r : Ref) → P r → Has refs r
+  pub only : (r : Ref) → Has refs r → P r
+  pub once : AreRising refs
+
 -- ---- for bodies
 
 -- the line comes behind the last of these
 abbrev pub ComesAfterLast : List Ref → Ref → Type 0
 ComesAfterLast once r = (last : Ref) → slice_get once (length once - 1) ≡ Some last → place_of last < place_of r
+
+-- one of the lines, and none of those
+abbrev pub IsMissing : (refs those : List Ref) → Ref → Type 0
+IsMissing refs those r = Has refs r × (Has those r → ⊥)

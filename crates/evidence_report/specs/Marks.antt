@@ -55,6 +55,10 @@ IsOrderReport js _ r s _ = ⊥
 
 -- ---- for bodies
 
+-- the reference names a line
+abbrev pub Exists : Journals → Ref → Type 0
+Exists js r = (l : Line) × Names js r l
+
 -- the line that the reference names, with its reading
 abbrev pub mark_of : Journals → Ref → Option LineReading
 mark_of js r = option_map (λ l. record { at = r; reading = l.reading }) (line_of js r)

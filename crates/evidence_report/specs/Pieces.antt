@@ -1,5 +1,5 @@
 -- What is shown of pieces.
-use Rattle.std.specs.Prelude.{◌≡◌, ◌↔◌, ℕ, IsTrue, List, Option, Some, None, map, Contains as Has}
+use Rattle.std.specs.Prelude.{◌≡◌, ◌↔◌, ◌⊎◌, ℕ, ◌+◌, IsTrue, List, length, Option, Some, None, map, Contains as Has}
 use Rattle.std.specs.Borrow.{Bor}
 use Rattle.journal_lines.specs.declared.event.Lease.{Lease}
 use Rattle.causal_order.specs.declared.reference.Ref.{Ref}
@@ -8,15 +8,16 @@ use Rattle.causal_order.specs.declared.certificate.Clear.{Clear}
 use Rattle.causal_order.specs.declared.certificate.ClearReason.{ClearReason}
 use Rattle.causal_order.specs.declared.certificate.ClearReason.TheVariants.{Before as BeforeGrant, After as AfterEnd}
 use Rattle.causal_order.specs.Journals.{Journals}
+use Rattle.causal_order.specs.LineOrder.{IsLeast}
 use Rattle.attribution.specs.declared.delegation.Delegation.{Delegation}
 use Rattle.attribution.specs.Delegation.{of_lease}
 use Rattle.attribution.specs.Acceptance.{Grants, GivesBack, IsCleared, Discharges}
-use Rattle.auditor.specs.Walks.{AreReleases}
 use Rattle.evidence_report.specs.declared.piece_report.ClearReport.{ClearReport}
 use Rattle.evidence_report.specs.declared.piece_report.ClearReport.TheVariants.{Before, After}
 use Rattle.evidence_report.specs.declared.piece_report.ReleaseReport.{ReleaseReport}
+use Rattle.evidence_report.specs.declared.piece_report.PieceReleases.{PieceReleases}
 use Rattle.evidence_report.specs.declared.piece_report.PieceReport.{PieceReport}
-use Rattle.evidence_report.specs.Lines.{AreRising}
+use Rattle.evidence_report.specs.Lines.{AreExactly}
 use Rattle.evidence_report.specs.Marks.{Reads, IsLatestMark, IsEarliestMark, IsGrantedAt, IsOrderReport}
 
 -- what is shown of why the release doesn't cut the piece short
@@ -47,15 +48,29 @@ pub record IsReleaseReport (js : Journals) (skew : ℕ) (p : Piece) (shown : Rel
 abbrev pub EndsGrant : Journals → Piece → Ref → Type 0
 EndsGrant js p r = (g : Lease) × Grants js p.grant g × GivesBack js r (of_lease g)
 
+-- an entry of the piece names the line
+abbrev pub NamesRelease : Piece → Ref → Type 0
+NamesRelease p r = (k : Clear) × Has p.clear k × (k.release ≡ r)
+
+-- it is a release, by what makes one, and no entry names it
+abbrev pub IsUnnamed : (Ref → Type 0) → Piece → Ref → Type 0
+IsUnnamed Ends p r = Ends r × (NamesRelease p r → ⊥)
+
+-- what is told of one by one: a release that an entry names, and the first that none names
+abbrev pub IsTold : (Ref → Type 0) → Piece → Ref → Type 0
+IsTold Ends p r = Ends r × (NamesRelease p r ⊎ IsLeast (IsUnnamed Ends p) r)
+
 abbrev pub releases_in : List ReleaseReport → List Ref
 releases_in shown = map (λ s. s.release.at) shown
 
--- exactly the releases that do, each once
-pub record AreReleaseReports (js : Journals) (skew : ℕ) (p : Piece) (shown : List ReleaseReport) : Type 0 where
-  pub all : (r : Ref) → EndsGrant js p r → Has (releases_in shown) r
-  pub only : (r : Ref) → Has (releases_in shown) r → EndsGrant js p r
-  pub once : AreRising (releases_in shown)
-  pub each : (s : ReleaseReport) → Has shown s → IsReleaseReport js skew p s
+-- of all releases exactly these are told of, each once, and so many more there are
+pub record AreReleaseReports (js : Journals) (skew : ℕ) (p : Piece) (Ends : Ref → Type 0) (shown : PieceReleases)
+    : Type 0 where
+  pub told : AreExactly (IsTold Ends p) (releases_in shown.told.items)
+  pub each : (s : ReleaseReport) → Has shown.told.items s → IsReleaseReport js skew p s
+  pub ending : List Ref
+  pub whole : AreExactly Ends ending
+  pub counted : length ending ≡ length shown.told.items + shown.more
 
 -- all that is shown of a piece
 pub record IsPieceReport (js : Journals) (skew : ℕ) (p : Piece) (shown : PieceReport) : Type 0 where
@@ -63,15 +78,22 @@ pub record IsPieceReport (js : Journals) (skew : ℕ) (p : Piece) (shown : Piece
   pub granted : IsGrantedAt js p.grant shown.granted
   pub latest : IsLatestMark js p.latest p.grant shown.latest
   pub earliest : IsEarliestMark js p.earliest p.grant shown.earliest
-  pub releases : AreReleaseReports js skew p shown.releases.items
+  pub releases : AreReleaseReports js skew p (EndsGrant js p) shown.releases
 
 -- ---- for bodies
 
--- the releases of this delegation, each once
-pub record AreReportsOf (js : Journals) (skew : ℕ) (p : Piece) (d : Delegation)
-    (shown : List ReleaseReport) : Type 0 where
-  pub releases : AreReleases js d (releases_in shown)
-  pub once : AreRising (releases_in shown)
+-- a release that an entry names
+abbrev pub IsNamedRelease : (Ref → Type 0) → Piece → Ref → Type 0
+IsNamedRelease Ends p r = Ends r × NamesRelease p r
+
+-- a release of the delegation
+abbrev pub EndsDelegation : Journals → Delegation → Ref → Type 0
+EndsDelegation js d r = GivesBack js r d
+
+-- one for each of these lines, in their order
+pub record AreReportsOf (js : Journals) (skew : ℕ) (p : Piece) (refs : List Ref) (shown : List ReleaseReport)
+    : Type 0 where
+  pub lines : releases_in shown ≡ refs
   pub each : (s : ReleaseReport) → Has shown s → IsReleaseReport js skew p s
 
 -- the entry discharges the release

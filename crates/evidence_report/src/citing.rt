@@ -114,15 +114,15 @@ fn cite_releases(refs: &mut Vec<Ref>, releases: &[ReleaseReport]) -> Result<(), 
 
 fn cite_reports(refs: &mut Vec<Ref>, pieces: &[PieceReport]) -> Result<(), AllocError>
     ensures { OnOk result
-        (refs.new.items ≡ refs.old.items ++ flat_map (λ s. releases_in s.releases.items) pieces.now) }
+        (refs.new.items ≡ refs.old.items ++ flat_map (λ s. releases_in s.releases.told.items) pieces.now) }
 {
     for piece in pieces {
-        cite_releases(refs, &piece.releases)?;
+        cite_releases(refs, &piece.releases.told)?;
     }
     Ok(())
 }
 
-/// The lines that the certificate names, and those that its pieces' reports show as releases.
+/// The lines that the certificate names, and those that its pieces' reports tell of as releases.
 fn lines_cited(
     alloc: Global,
     certificate: &Certificate,
@@ -150,7 +150,7 @@ fn found<L: Lines>(alloc: Global, lines: &L, refs: &[Ref]) -> Result<Vec<CitedLi
     Ok(cited)
 }
 
-/// Each line that the certificate names, or that gives back what a piece's grant gave, once, in order.
+/// Each line that the certificate names, or that a piece's report tells of as a release, once, in order.
 pub fn cited_lines<L: Lines>(
     alloc: Global,
     lines: &L,

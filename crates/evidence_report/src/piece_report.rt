@@ -34,6 +34,15 @@ pub struct ReleaseReport<'a> {
     pub is_discharged: bool,
 }
 
+/// What is shown of the releases of what a piece's grant gave.
+#[derive(Debug, Drop)]
+pub struct PieceReleases<'a> {
+    /// Each that an entry of the piece names, and the first that none names, in the order of their lines.
+    pub told: Vec<ReleaseReport<'a>>,
+    /// How many more there are. No entry names them.
+    pub more: u64,
+}
+
 /// What is shown of a piece.
 #[derive(Debug, Drop)]
 pub struct PieceReport<'a> {
@@ -46,6 +55,6 @@ pub struct PieceReport<'a> {
     /// The first line of the chain to the grant: at its reading less the skew, or later, the grant was written. `None`
     /// where it is no chain to the grant.
     pub earliest: Option<LineReading>,
-    /// Each release of what the grant gave.
-    pub releases: Vec<ReleaseReport<'a>>,
+    /// The releases of what the grant gave.
+    pub releases: PieceReleases<'a>,
 }

@@ -2,12 +2,12 @@
 
 ghost use Rattle.std.specs.Prelude.{IfOk};
 ghost use Rattle.evidence_report.specs.Marks.{IsGrantedAt};
-ghost use Rattle.evidence_report.specs.Pieces.{AreReleaseReports, IsPieceReport};
+ghost use Rattle.evidence_report.specs.Pieces.{EndsGrant, AreReleaseReports, IsPieceReport};
 ghost use Rattle.evidence_report.specs.Reports.{AreShown};
 
 use crate::chains::{earliest_mark, latest_mark};
-use crate::piece_report::{PieceReport, ReleaseReport, ReportedGrant};
-use crate::releases::release_reports;
+use crate::piece_report::{PieceReleases, PieceReport, ReportedGrant};
+use crate::releases::{release_reports, releases_of};
 use crate::reported_delegation::granted_at;
 use attribution::Delegation;
 use auditor::LineSource;
@@ -15,23 +15,28 @@ use causal_order::{Certificate, Piece};
 use lead_time::Skew;
 use std::alloc::{AllocError, Global};
 
-/// What is shown of each release of what the piece's grant gave.
+/// What is shown of the releases of what the piece's grant gave.
 fn releases_of_grant<'a, S: LineSource>(
     alloc: Global,
     source: &S,
     piece: &'a Piece,
     granted: &Option<ReportedGrant>,
     skew: Skew,
-) -> Result<Vec<ReleaseReport<'a>>, AllocError>
+) -> Result<PieceReleases<'a>, AllocError>
     requires { IsGrantedAt (S.journals source.now) piece.now.grant granted.now }
-    ensures { IfOk result (λ v. AreReleaseReports (S.journals source.now) skew piece.now v.items) }
+    ensures { IfOk result (AreReleaseReports (S.journals source.now) skew piece.now
+        (EndsGrant (S.journals source.now) piece.now)) }
 {
     let Some(granted) = granted else {
-        return Ok(Vec::new(alloc));
+        return Ok(PieceReleases {
+            told: Vec::new(alloc),
+            more: 0,
+        });
     };
     let delegation = Delegation::of_lease(&granted.lease);
-    let releases = release_reports(alloc, source, piece, &delegation, skew)?;
-    Ok(releases)
+    let releases = releases_of(alloc, source, &delegation)?;
+    let shown = release_reports(alloc, source, piece, &delegation, &releases, skew)?;
+    Ok(shown)
 }
 
 /// What is shown of a piece.

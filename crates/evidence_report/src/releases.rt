@@ -1,21 +1,24 @@
 //! What is shown of the releases of what a piece's grant gave.
 
 ghost use Rattle.std.specs.Prelude.{◌≡◌, ◌↔◌, IfOk, IsTrue, MatchOption, Contains as Has};
+ghost use Rattle.causal_order.specs.declared.reference.Ref.{Ref as RefValue};
 ghost use Rattle.causal_order.specs.declared.certificate.Clear.{Clear as ClearValue};
 ghost use Rattle.causal_order.specs.Naming.{NamesAt};
 ghost use Rattle.attribution.specs.Acceptance.{IsCleared, Discharges};
 ghost use Rattle.auditor.specs.Bounds.{IsWrittenFrom};
 ghost use Rattle.auditor.specs.Refusals.{ClearsAt};
 ghost use Rattle.auditor.specs.Walks.{AreReleases};
-ghost use Rattle.evidence_report.specs.Lines.{AreRising};
-ghost use Rattle.evidence_report.specs.Marks.{Reads};
+ghost use Rattle.evidence_report.specs.Lines.{AreRising, AreExactly};
+ghost use Rattle.evidence_report.specs.Marks.{Reads, Exists};
 ghost use Rattle.evidence_report.specs.Pieces.{IsClearing, IsDischarging, IsShownEntry, IsReleaseReport, AreReportsOf};
+ghost use Rattle.evidence_report.specs.Pieces.{EndsDelegation, AreReleaseReports};
 
 use crate::chains::{earliest_mark, mark_at};
 use crate::line_order::in_order;
 use crate::mark::LineReading;
 use crate::orders::order_report;
-use crate::piece_report::{ClearReport, ReleaseReport};
+use crate::piece_report::{ClearReport, PieceReleases, ReleaseReport};
+use crate::told_releases::told_releases;
 use attribution::Delegation;
 use auditor::LineSource;
 use causal_order::{Chain, Clear, ClearReason, Lines, Piece, Ref, precedes};
@@ -192,23 +195,41 @@ pub fn releases_of<S: LineSource>(
     Ok(once)
 }
 
-/// What is shown of each line that gives the delegation back.
-pub fn release_reports<'a, S: LineSource>(
+/// What is shown of each of these lines.
+fn reports_of<'a, L: Lines>(
     alloc: Global,
-    source: &S,
+    lines: &L,
     piece: &'a Piece,
-    delegation: &Delegation,
+    refs: &[Ref],
     skew: Skew,
 ) -> Result<Vec<ReleaseReport<'a>>, AllocError>
-    ensures { IfOk result
-        (λ v. AreReportsOf (S.journals source.now) skew piece.now delegation.now v.items) }
+    requires { (r : RefValue) → Has refs.now r → Exists (L.journals lines.now) r }
+    ensures { IfOk result (λ v. AreReportsOf (L.journals lines.now) skew piece.now refs.now v.items) }
 {
-    let refs = releases_of(alloc, source, delegation)?;
     let mut releases = Vec::new(alloc);
-    for at in &refs {
-        if let Some(release) = mark_at(source, *at) {
-            releases.extend_from_slice(&[release_report(source, piece, release, skew)])?;
+    for at in refs {
+        if let Some(release) = mark_at(lines, *at) {
+            releases.extend_from_slice(&[release_report(lines, piece, release, skew)])?;
         }
     }
     Ok(releases)
+}
+
+/// What is shown of the delegation's releases, of which these are all.
+pub fn release_reports<'a, L: Lines>(
+    alloc: Global,
+    lines: &L,
+    piece: &'a Piece,
+    delegation: &Delegation,
+    releases: &[Ref],
+    skew: Skew,
+) -> Result<PieceReleases<'a>, AllocError>
+    requires { AreExactly (EndsDelegation (L.journals lines.now) delegation.now) releases.now }
+    ensures { IfOk result (AreReleaseReports (L.journals lines.now) skew piece.now
+        (EndsDelegation (L.journals lines.now) delegation.now)) }
+{
+    let refs = told_releases(alloc, lines, piece, delegation, releases)?;
+    let more = (releases.len() - refs.len()) as u64;
+    let told = reports_of(alloc, lines, piece, &refs, skew)?;
+    Ok(PieceReleases { told, more })
 }

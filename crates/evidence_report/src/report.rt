@@ -37,7 +37,7 @@ pub struct Report<'a> {
     pub pieces: Vec<PieceReport<'a>>,
     /// One for each foreign entry of the certificate, in its order.
     pub foreign: Vec<ForeignReport<'a>>,
-    /// Each line that the certificate names, or that gives back what a piece's grant gave, once: the primary's before
+    /// Each line that the certificate names, or that a piece's report tells of as a release, once: the primary's before
     /// the secondary's, and then by number.
     pub cited: Vec<CitedLine>,
 }

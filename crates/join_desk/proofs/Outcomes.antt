@@ -1,5 +1,6 @@
 -- What comes of one volume more.
 use Rattle.std.specs.Prelude.{◌≡◌, ◌≢◌, ◌↔◌, ℕ, ◌+◌, ◌⊎◌, List, [], ◌∷◌, ◌-◌, ◌≤◌, length, take, drop, Bool, true, false, not, IsTrue}
+use Rattle.std.specs.Prelude.{Result, IfOk}
 use Rattle.journal_lines.specs.declared.line.Line.{Line}
 use Rattle.volume_join.specs.Joined.{behind_head}
 use Rattle.journal_lines.specs.declared.line.Journal.{Journal}
@@ -8,16 +9,17 @@ use Rattle.journal_archive.specs.declared.outline.FiledVolume.{FiledVolume}
 use Rattle.open_volume.specs.declared.volume.VolumeSoFar.{VolumeSoFar}
 use Rattle.order_book.specs.Replayed.{IsLegal}
 use Rattle.archive_files.specs.Showing.{IsCopyOf}
+use Rattle.archive_files.specs.Torn.{IsUntornCopyOf}
 use Rattle.volume_join.specs.declared.error.JoinError.{JoinError}
 use Rattle.volume_join.specs.Joining.{Joining, one, with_next, IsContinuation, HasRoom, IsRefused, IsRuleRefusal}
 use Rattle.join_desk.specs.declared.outcome.JoinOutcome.{JoinOutcome}
 use Rattle.join_desk.specs.declared.outcome.JoinOutcome.TheVariants.{Joined, Refused}
 use Rattle.join_desk.specs.declared.outcome.JoinRefusal.{JoinRefusal}
 use Rattle.join_desk.proofs.Rows.{behind_first}
-use Rattle.join_desk.specs.Joined.{journal_of, IsRefusalAt, IsLeftOut, IsOutcomeFrom, IsOutcome}
+use Rattle.join_desk.specs.Joined.{journal_of, IsRefusalAt, IsReadBefore, IsLeftOut, IsOutcomeFrom, IsOutcome}
 
 module _ (had : ℕ → List ℕ → Type 0) (j : Joining) (count before : ℕ) (f : FiledVolume) (fs : List FiledVolume) (v : VolumeSoFar)
-    (copy : IsCopyOf (had f.file) f v) where
+    (copy : IsReadBefore had fs f v) where
   pub left_out : IsLeftOut fs v → IsOutcomeFrom had j count before (f ∷ fs) (Joined (journal_of j) count)
   left_out h = (v, copy, inl (h, refl))
 
@@ -80,7 +82,7 @@ module _ (had : ℕ → List ℕ → Type 0) (begun : Joining) (first : ℕ) (la
     (count before : ℕ) where
   pub go_more : (f : FiledVolume) (fs : List FiledVolume) (v : VolumeSoFar) (k : Joining)
       → IsOnward had begun first later j count before (f ∷ fs)
-      → IsCopyOf (had f.file) f v → (IsLeftOut fs v → ⊥) → k ≡ with_next j v.journal → IsContinuation j.last v.journal
+      → IsReadBefore had fs f v → (IsLeftOut fs v → ⊥) → k ≡ with_next j v.journal → IsContinuation j.last v.journal
       → HasRoom j v.journal → IsOnward had begun first later k (count + 1) f.file fs
   go_more f fs v k onward copy kept is goes room = record {
     each = λ outcome h. onward.each outcome (one_more had j count before f fs v copy outcome k kept is goes room h);
@@ -89,13 +91,13 @@ module _ (had : ℕ → List ℕ → Type 0) (begun : Joining) (first : ℕ) (la
 
   pub end_left : (f : FiledVolume) (fs : List FiledVolume) (v : VolumeSoFar)
       → IsOnward had begun first later j count before (f ∷ fs)
-      → IsCopyOf (had f.file) f v → IsLeftOut fs v
+      → IsReadBefore had fs f v → IsLeftOut fs v
       → IsOutcomeFrom had begun 1 first later (Joined (journal_of j) count)
   end_left f fs v onward copy out = onward.each _ (left_out had j count before f fs v copy out)
 
   pub end_refused : (f : FiledVolume) (fs : List FiledVolume) (v : VolumeSoFar) (e : JoinError) (outcome : JoinOutcome)
       → IsOnward had begun first later j count before (f ∷ fs)
-      → IsCopyOf (had f.file) f v → (IsLeftOut fs v → ⊥) → IsRefused j v.journal e
+      → IsReadBefore had fs f v → (IsLeftOut fs v → ⊥) → IsRefused j v.journal e
       → ((r : JoinRefusal) × IsRefusalAt before f.file e r × (outcome ≡ Refused r))
       → IsOutcomeFrom had begun 1 first later outcome
   end_refused f fs v e outcome onward copy kept refused h =
@@ -107,10 +109,23 @@ module _ (had : ℕ → List ℕ → Type 0) (begun : Joining) (first : ℕ) (la
 
   pub go_step : (rest : List FiledVolume) (f : FiledVolume) (v : VolumeSoFar) (k : Joining) → 1 ≤ length rest
       → f ≡ get_or rest 0 f → IsOnward had begun first later j count before rest
-      → IsCopyOf (had f.file) f v → (IsLeftOut (take (length rest - 1) (drop 1 rest)) v → ⊥)
+      → IsReadBefore had (take (length rest - 1) (drop 1 rest)) f v → (IsLeftOut (take (length rest - 1) (drop 1 rest)) v → ⊥)
       → k ≡ with_next j v.journal → IsContinuation j.last v.journal → HasRoom j v.journal
       → IsOnward had begun first later k (count + 1) f.file (take (length rest - 1) (drop 1 rest))
   go_step rest f v k some first_is onward copy kept is goes room =
       go_more f (take (length rest - 1) (drop 1 rest)) v k
       (subst (IsOnward had begun first later j count before) (behind_first rest f some first_is) onward)
       copy kept is goes room
+
+-- ---- how a volume is read
+
+module _ {E : Type 0} (had : ℕ → List ℕ → Type 0) (f : FiledVolume) where
+  pub read_last : (later : List FiledVolume) (r : Result VolumeSoFar E) → later ≡ []
+      → IfOk r (IsCopyOf (had f.file) f) → IfOk r (IsReadBefore had later f)
+  read_last [] r none copy = copy
+  read_last (g ∷ gs) r none copy = absurd (cc)
+
+  pub read_before : (later : List FiledVolume) (r : Result VolumeSoFar E) → (later ≡ [] → ⊥)
+      → IfOk r (IsUntornCopyOf (had f.file) f) → IfOk r (IsReadBefore had later f)
+  read_before [] r some copy = absurd (some refl)
+  read_before (g ∷ gs) r some copy = copy

@@ -5,6 +5,7 @@ use Rattle.journal_archive.specs.declared.outline.FiledVolume.{FiledVolume}
 use Rattle.open_volume.specs.declared.volume.VolumeSoFar.{VolumeSoFar}
 use Rattle.order_book.specs.Replayed.{state_of, IsLegal}
 use Rattle.archive_files.specs.Showing.{IsCopyOf}
+use Rattle.archive_files.specs.Torn.{IsUntornCopyOf}
 use Rattle.volume_join.specs.declared.error.JoinError.{JoinError}
 use Rattle.volume_join.specs.declared.error.JoinError.TheVariants.{OtherVolume, NotClosed, Rule, Head, TooLong, Memory}
 use Rattle.volume_join.specs.Joined.{behind_head}
@@ -27,6 +28,11 @@ IsRefusalAt before file TooLong r = r ≡ TooLongFile file
 IsRefusalAt before file OtherVolume r = ⊥
 IsRefusalAt before file Memory r = ⊥
 
+-- a copy of a volume that its file had: where further ones follow it, it isn't torn
+abbrev pub IsReadBefore : (had : ℕ → List ℕ → Type 0) → (later : List FiledVolume) → FiledVolume → VolumeSoFar → Type 0
+IsReadBefore had [] f v = IsCopyOf (had f.file) f v
+IsReadBefore had (g ∷ gs) f v = IsUntornCopyOf (had f.file) f v
+
 -- the last volume is left out where nobody was told of it: no line stands behind its head lines
 abbrev pub IsLeftOut : List FiledVolume → VolumeSoFar → Type 0
 IsLeftOut later v = (later ≡ []) × (behind_head v.journal.lines ≡ [])
@@ -35,7 +41,7 @@ IsLeftOut later v = (later ≡ []) × (behind_head v.journal.lines ≡ [])
 abbrev pub IsOutcomeFrom : (had : ℕ → List ℕ → Type 0) → Joining → (count before : ℕ) → List FiledVolume → JoinOutcome → Type 0
 IsOutcomeFrom had j count before [] outcome = outcome ≡ Joined (journal_of j) count
 IsOutcomeFrom had j count before (f ∷ fs) outcome =
-    (v : VolumeSoFar) × IsCopyOf (had f.file) f v
+    (v : VolumeSoFar) × IsReadBefore had fs f v
     × ((IsLeftOut fs v × (outcome ≡ Joined (journal_of j) count))
     ⊎ ((IsLeftOut fs v → ⊥) × (IsContinuation j.last v.journal × HasRoom j v.journal
     × IsOutcomeFrom had (with_next j v.journal) (count + 1) f.file fs outcome))
@@ -46,7 +52,7 @@ IsOutcomeFrom had j count before (f ∷ fs) outcome =
 abbrev pub IsOutcome : (had : ℕ → List ℕ → Type 0) → List FiledVolume → JoinOutcome → Type 0
 IsOutcome had [] outcome = ⊥
 IsOutcome had (f ∷ fs) outcome =
-    (v : VolumeSoFar) × IsCopyOf (had f.file) f v
+    (v : VolumeSoFar) × IsReadBefore had fs f v
     × ((IsLegal v.journal × IsOutcomeFrom had (one v.journal) 1 f.file fs outcome)
     ⊎ ((e : JoinError) × (r : JoinRefusal) × IsRuleRefusal v.journal e × IsRefusalAt f.file f.file e r
     × (outcome ≡ Refused r)))

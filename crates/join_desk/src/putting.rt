@@ -2,10 +2,10 @@
 
 ghost use Rattle.std.specs.Prelude.{◌≡◌, ◌∷◌, ◌↔◌, [], IsTrue, IfOk};
 ghost use Rattle.volume_join.specs.Joined.{behind_head};
-ghost use Rattle.join_desk.specs.Joined.{IsLeftOut, IsOutcomeFrom, IsOutcome};
+ghost use Rattle.join_desk.specs.Joined.{IsReadBefore, IsLeftOut, IsOutcomeFrom, IsOutcome};
 
 use crate::outcome::{JoinOutcome, refused};
-use archive_files::{FilesError, JournalFiles, read_again};
+use archive_files::{FilesError, JournalFiles, read_again, read_untorn};
 use journal_archive::FiledVolume;
 use journal_lines::Line;
 use open_volume::VolumeSoFar;
@@ -18,6 +18,23 @@ fn has_nothing_behind(lines: &[Line]) -> bool
     ensures { IsTrue result ↔ (behind_head lines.now ≡ []) }
 {
     !is_published(lines)
+}
+
+/// The volume that a file has now. Where further ones follow no line of it is still to come, and zero octets in their
+/// place are a fault: `Torn`. `Changed` or `Faulty` where it isn't what the archive knows of it.
+#[tactic(auto, using(crate::proofs::Outcomes::read_last, crate::proofs::Outcomes::read_before))]
+fn read_of<F: JournalFiles>(
+    alloc: Global,
+    files: &F,
+    filed: &FiledVolume,
+    later: &[FiledVolume],
+) -> Result<VolumeSoFar, FilesError>
+    ensures { IfOk result (IsReadBefore (F.had files.now) later.now filed.now) }
+{
+    if later.is_empty() {
+        return read_again(alloc, files, filed);
+    }
+    read_untorn(alloc, files, filed)
 }
 
 /// Returns whether nobody was told of the last volume: no line stands behind its head lines.
@@ -43,7 +60,7 @@ fn outcome_from<F: JournalFiles>(
     let mut before = first;
     let mut rest = later;
     while let [filed, behind @ ..] = rest {
-        let volume = read_again(alloc, files, filed)?;
+        let volume = read_of(alloc, files, filed, behind)?;
         if is_left_out(behind, &volume) {
             return Ok(JoinOutcome::Joined(joined.into_journal(), count));
         }
@@ -69,7 +86,7 @@ pub(crate) fn outcome_of<F: JournalFiles>(
 ) -> Result<JoinOutcome, FilesError>
     ensures { IfOk result (IsOutcome (F.had files.now) (first.now ∷ later.now)) }
 {
-    let volume = read_again(alloc, files, first)?;
+    let volume = read_of(alloc, files, first, later)?;
     match JoinedVolumes::begin(alloc, &volume.journal) {
         Ok(begun) => outcome_from(alloc, files, begun, first.file, later),
         Err(error) => refused(first.file, first.file, &error),

@@ -1,6 +1,5 @@
 -- Takes that read far below their sends are the early ones, in journals that nothing refuses.
-use Rattle.std.specs.Prelude.{◌≡◌, ℕ, Option, Some, None, MatchOption}
-use Rattle.std.proofs.Common.{subst}
+use Rattle.std.specs.Prelude.{ℕ, Option, Some, None, MatchOption}
 use Rattle.binding_rules.specs.declared.role.Role.{Role}
 use Rattle.binding_rules.specs.declared.role.Role.TheVariants.{Primary, Secondary}
 use Rattle.journal_lines.specs.declared.line.Journal.{Journal}
@@ -9,8 +8,9 @@ use Rattle.causal_order.specs.Journals.{journal_of, volume_of, journals_of}
 use Rattle.causal_order.specs.LineOrder.{IsLeast}
 use Rattle.book_rules.specs.Volumes.{IsVolume}
 use Rattle.journal_merge.specs.Early.{IsFarBelowSend, NoneIsFarBelow}
-use Rattle.attribution.specs.Clocks.{AreChecked, IsEarly, NoneIsEarly, EarlyByFirstSend}
+use Rattle.attribution.specs.Clocks.{AreChecked, EarlyByFirstSend}
 use Rattle.auditor.specs.Pair.{IsPairLegal}
+use Rattle.pair_judgement.specs.PairJudgements.{IsFirstEarly}
 
 module _ (a b : Journal) (legal : IsPairLegal a b) where
   each_legal : (side : Role) → IsVolume side (volume_of (journals_of a b) side) (journal_of (journals_of a b) side)
@@ -21,19 +21,12 @@ module _ (a b : Journal) (legal : IsPairLegal a b) where
   checked = record { legal = each_legal; matched = legal.2; ordered = legal.3 }
 
   module _ (law : EarlyByFirstSend) (skew : ℕ) where
-    abbrev pub Found : Option Ref → Type 0
-    Found o = MatchOption o (NoneIsFarBelow (journals_of a b) skew) (IsLeast (IsFarBelowSend (journals_of a b) skew))
-
-    pub none_early : (o : Option Ref) → o ≡ None → Found o → NoneIsEarly (journals_of a b) skew
-    none_early o is found take early =
-        let none : NoneIsFarBelow (journals_of a b) skew = subst Found is found in
-        none take ((law (journals_of a b) skew take checked).0 early)
-
-    pub least_early : (o : Option Ref) (take : Ref) → o ≡ Some take → Found o
-        → IsLeast (IsEarly (journals_of a b) skew) take
-    least_early o take is found =
-        let least : IsLeast (IsFarBelowSend (journals_of a b) skew) take = subst Found is found in (
-          (law (journals_of a b) skew take checked).1 least.0,
-          λ other before early.
-              least.1 other before ((law (journals_of a b) skew other checked).0 early),
-        )
+    -- the least take that reads far below its send is the least that is early
+    pub first_early : (take : Option Ref)
+        → MatchOption take (NoneIsFarBelow (journals_of a b) skew) (IsLeast (IsFarBelowSend (journals_of a b) skew))
+        → IsFirstEarly (journals_of a b) skew take
+    first_early None none = λ take early. none take ((law (journals_of a b) skew take checked).0 early)
+    first_early (Some take) least = (
+      (law (journals_of a b) skew take checked).1 least.0,
+      λ other before early. least.1 other before ((law (journals_of a b) skew other checked).0 early),
+    )

@@ -1,3 +1,4 @@
 pub mod Early
 pub mod Settings
 pub mod SameSettings
+pub mod CarriedLines

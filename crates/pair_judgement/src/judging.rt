@@ -20,6 +20,9 @@ pub enum Judgement {
     Pair,
     /// K3: the question's skew or transit is less than a journal's own line says.
     Skew,
+    /// K4: no legal volume leaves what this line at the beginning of a volume carries, a lease that ends more than
+    /// 10^11 milliseconds after the open line. The first such line, A's before B's.
+    Carried(Ref),
 }
 
 /// `refused K1 Clocks B3` and a line feed.
@@ -51,6 +54,17 @@ fn skew_line(alloc: Global) -> Result<Vec<u8>, AllocError>
     Ok(line)
 }
 
+/// `refused K4 Carried A4` and a line feed.
+fn carried_line(alloc: Global, carrying: Ref) -> Result<Vec<u8>, AllocError>
+    ensures { IfOk result (λ line. line.items ≡ judgement_line (Judgement.Carried carrying)) }
+{
+    let mut line = Vec::new(alloc);
+    line.extend_from_slice(b"refused K4 Carried ")?;
+    push_place(&mut line, carrying.side, carrying.number)?;
+    line.push(b'\n')?;
+    Ok(line)
+}
+
 /// The line that says the ruling, with its line feed. `AllocError` where a growth was refused.
 pub fn judgement_line(alloc: Global, ruling: &Judgement) -> Result<Vec<u8>, AllocError>
     ensures { IfOk result (λ line. line.items ≡ judgement_line ruling.now) }
@@ -60,6 +74,7 @@ pub fn judgement_line(alloc: Global, ruling: &Judgement) -> Result<Vec<u8>, Allo
         Judgement::Clocks(take) => clocks_line(alloc, *take),
         Judgement::Pair => pair_line(alloc),
         Judgement::Skew => skew_line(alloc),
+        Judgement::Carried(carrying) => carried_line(alloc, *carrying),
     }
 }
 
@@ -78,7 +93,7 @@ pub fn status_of(ruling: &Judgement) -> u8
 {
     match ruling {
         Judgement::Verdict(verdict) => verdict_status(verdict),
-        Judgement::Clocks(_) | Judgement::Pair | Judgement::Skew => 1,
+        Judgement::Clocks(_) | Judgement::Pair | Judgement::Skew | Judgement::Carried(_) => 1,
     }
 }
 

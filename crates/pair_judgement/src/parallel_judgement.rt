@@ -8,7 +8,7 @@ ghost use Rattle.pair_judgement.specs.PairJudgements.{IsPairJudgement};
 
 use crate::finding::{Broken, find};
 use crate::judging::Judgement;
-use crate::pair::{PairJudgement, judge_pair};
+use crate::pair::{PairJudgement, judge_pair, ruled_by};
 use attribution::early_by_first_send;
 use auditor::{AuditError, Checked};
 use journal_lines::Journal;
@@ -74,8 +74,6 @@ pub fn judge_pair_by<T: Threads + Sync>(
         Checked::Legal(merged) => merged,
         Checked::Refused(verdict) => return Ok(PairJudgement::Refused(Judgement::Verdict(verdict))),
     };
-    match found.early? {
-        None => Ok(PairJudgement::Fit(merged)),
-        Some(take) => Ok(PairJudgement::Refused(Judgement::Clocks(take))),
-    }
+    let early = found.early?;
+    Ok(ruled_by(primary, secondary, early, merged))
 }

@@ -80,8 +80,16 @@ fn releases_of(alloc: Global, releases: &[ReleaseReport<'_>]) -> Result<Value, A
     Ok(Value::Array(values))
 }
 
+/// The object with the number of releases that aren't told of, where there are any.
+fn with_more(object: Object, more: u64) -> Object {
+    if more == 0 {
+        return object;
+    }
+    object.with("more_releases", more)
+}
+
 fn piece_of(alloc: Global, report: &PieceReport<'_>) -> Result<Value, AllocError> {
-    Object::new(alloc)
+    let object = Object::new(alloc)
         .with_made("from", time_of(alloc, report.piece.from.milliseconds()))
         .with_made("to", time_of(alloc, report.piece.to.milliseconds()))
         .with_made("grant", line_of(alloc, report.piece.grant))
@@ -90,8 +98,8 @@ fn piece_of(alloc: Global, report: &PieceReport<'_>) -> Result<Value, AllocError
         .with_made("granted_by", mark_of(alloc, &report.latest))
         .with_made("chain_to_grant", chain_of(alloc, &report.piece.earliest))
         .with_made("granted_from", mark_of(alloc, &report.earliest))
-        .with_made("releases", releases_of(alloc, &report.releases))
-        .into_value()
+        .with_made("releases", releases_of(alloc, &report.releases.told));
+    with_more(object, report.releases.more).into_value()
 }
 
 /// Each piece, in order.

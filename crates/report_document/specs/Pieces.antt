@@ -88,6 +88,10 @@ release_told skew p r =
 abbrev pub releases_told : (skew : ℕ) → Piece → List ReleaseReport → List Told
 releases_told skew p releases = flat_map (release_told skew p) releases
 
+-- how many more there are that aren't told of, where there are any
+abbrev pub more_told : (more : ℕ) → List Told
+more_told more = if more == 0 then [] else item (word.Number more ∷ []) ∷ []
+
 -- ---- a piece
 
 abbrev pub piece_told : (skew transit number : ℕ) → PieceReport → List Told
@@ -95,4 +99,4 @@ piece_told skew transit number r =
     heading_told number r.piece.now ++ grant_told r.piece.now.grant r.granted
     ++ begun_told skew transit r.piece.now r.latest
     ++ lasts_told skew r.piece.now r.granted r.earliest
-    ++ releases_told skew r.piece.now r.releases.items
+    ++ releases_told skew r.piece.now r.releases.told.items ++ more_told r.releases.more

@@ -7,13 +7,17 @@ use Rattle.attribution.specs.declared.delegation.Lasting.TheVariants.{For, Until
 use Rattle.plain_search.specs.declared.query.HolderQuery.{HolderQuery}
 use Rattle.candidate_leases.specs.declared.candidates.CandidateLease.{CandidateLease}
 use Rattle.candidate_leases.specs.declared.why.NoHolderReason.{NoHolderReason}
-use Rattle.candidate_leases.specs.declared.why.NoHolderReason.TheVariants.{PastEnd, BeforeOpen, Nobody, NotShown, Several}
+use Rattle.candidate_leases.specs.declared.why.NoHolderReason.TheVariants as reason
 use Rattle.candidate_leases.specs.declared.at_moment.AtMoment.{AtMoment}
 use Rattle.candidate_leases.specs.declared.at_moment.AtMoment.TheVariants.{NotBegun, Ended, GivenBack, Carried}
-use Rattle.candidate_leases.specs.declared.at_moment.AtMoment.TheVariants.{Beginning, Ending, MayBeGivenBack, Shown}
+use Rattle.candidate_leases.specs.declared.at_moment.AtMoment.TheVariants.{Beginning, Ending, MayBeGivenBack}
+use Rattle.candidate_leases.specs.declared.at_moment.AtMoment.TheVariants.{EarlierVolumes, LaterVolumes, Shown}
 use Rattle.candidate_leases.specs.Near.{may_begin, shows_to}
+use Rattle.binding_rules.specs.declared.role.Role.{Role}
+use Rattle.pair_judgement.specs.declared.judging.Judgement.{Judgement}
 use Rattle.report_document.specs.declared.word.ReportWord.TheVariants as word
 use Rattle.report_document.specs.Telling.{Told, heading, paragraph, item}
+use Rattle.report_document.specs.Refusing.{ruling_told}
 
 -- the line, and what it tells of
 abbrev pub line_told : CandidateLease → Told
@@ -76,6 +80,9 @@ state_told at Carried = item (word.Moment at ∷ [])
 state_told at (Beginning begun) = item (word.Moment at ∷ word.Milliseconds (begun - at) ∷ [])
 state_told at (Ending end) = item (word.Moment at ∷ word.Milliseconds (at + 1 - end) ∷ [])
 state_told at (MayBeGivenBack release) = item (word.Moment at ∷ word.Line release.at ∷ [])
+state_told at (EarlierVolumes side needed) = item (word.Moment at ∷ word.Side side ∷ word.Reading needed ∷ [])
+state_told at (LaterVolumes side needed closed) =
+    item (word.Moment at ∷ word.Side side ∷ word.Reading closed ∷ word.Reading needed ∷ [])
 state_told at Shown = item (word.Moment at ∷ [])
 
 -- all that is told of a delegation
@@ -88,13 +95,23 @@ question_told q =
     ∷ paragraph (word.Prefix q.prefix ∷ word.Moment q.at ∷ word.Milliseconds q.skew ∷ word.Milliseconds q.transit ∷ [])
     ∷ []
 
+-- a side, what its clock showed last, and the least that it must have shown
+abbrev pub ending_told : Role → (closed needed : ℕ) → Told
+ending_told side closed needed = paragraph (word.Side side ∷ word.Reading closed ∷ word.Reading needed ∷ [])
+
+-- the reason, with the values that were compared
 abbrev pub reason_told : NoHolderReason → Told
-reason_told (PastEnd side needed closed) =
-    paragraph (word.Side side ∷ word.Reading closed ∷ word.Reading needed ∷ [])
-reason_told (BeforeOpen side needed) = paragraph (word.Side side ∷ word.Moment needed ∷ [])
-reason_told Nobody = paragraph []
-reason_told NotShown = paragraph []
-reason_told Several = paragraph []
+reason_told reason.OutsidePools = paragraph []
+reason_told (reason.BeforeFirstVolume primary secondary) =
+    paragraph (word.Reading primary ∷ word.Reading secondary ∷ [])
+reason_told (reason.BeforeOpen side needed) = paragraph (word.Side side ∷ word.Moment needed ∷ [])
+reason_told (reason.AfterLastLine side needed last) = ending_told side last needed
+reason_told (reason.PastEnd side needed closed) = ending_told side closed needed
+reason_told (reason.SeveralCustomers unit_length) = paragraph (word.Number unit_length ∷ [])
+reason_told (reason.Several first other) = paragraph (word.Line first.at ∷ word.Line other.at ∷ [])
+reason_told (reason.Carried line) = paragraph (word.Line line.at ∷ [])
+reason_told reason.NotShown = paragraph []
+reason_told reason.Nobody = paragraph []
 
 abbrev pub why_told : NoHolderReason → List Told
 why_told why = heading [] ∷ reason_told why ∷ []
@@ -102,3 +119,7 @@ why_told why = heading [] ∷ reason_told why ∷ []
 -- the question, the reason, and each delegation in its order
 abbrev pub reasons_told : HolderQuery → NoHolderReason → List CandidateLease → List Told
 reasons_told q why leases = question_told q ++ why_told why ++ flat_map (lease_told q) leases
+
+-- the question, and what stands against the journals or against it: no lease is told of
+abbrev pub refusal_told : HolderQuery → Judgement → List Told
+refusal_told q ruling = question_told q ++ heading [] ∷ ruling_told ruling

@@ -55,6 +55,7 @@ ruling_values (ruling.Verdict v) = verdict_values v
 ruling_values (ruling.Clocks take) = word.Line take ∷ []
 ruling_values ruling.Pair = []
 ruling_values ruling.Skew = []
+ruling_values (ruling.Carried line) = word.Line line ∷ []
 
 abbrev pub ruling_told : Judgement → List Told
 ruling_told r = paragraph (ruling_values r) ∷ []

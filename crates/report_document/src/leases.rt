@@ -2,6 +2,7 @@
 
 ghost use Rattle.std.specs.Prelude.{◌≡◌, ◌∷◌, [], OnOk};
 ghost use Rattle.candidate_leases.specs.Near.{shows_to};
+ghost use Rattle.candidate_leases.specs.declared.at_moment.AtMoment.TheVariants as AtMoment;
 ghost use Rattle.report_document.specs.Telling.{values_in, AddsBlocks};
 ghost use Rattle.report_document.specs.Reasons.{line_told, begun_told, lasts_told, may_begin_told, may_last_told};
 ghost use Rattle.report_document.specs.Reasons.{shown_told, possible_told, carried_told, lasting_told};
@@ -12,6 +13,7 @@ use crate::block::{Block, BlockKind, push_block, push_sum};
 use crate::sums::with_both;
 use crate::word::ReportWord;
 use attribution::Lasting;
+use binding_rules::Role;
 use candidate_leases::{AtMoment, CandidateLease, begun_by, lasts_from, may_begin};
 use journal_lines::Lease;
 use lead_time::{End, Reading};
@@ -182,37 +184,97 @@ const BEGINNING: &str = " it may not have begun yet: the moment is too early by 
 
 const ENDING: &str = " it may have ended: the last moment that is shown was earlier by ";
 
+const GIVEN_BACK: &str = " it had surely been given back: by line ";
+
+const MAY_BE_GIVEN_BACK: &str = " it may have been given back: by line ";
+
+const EARLIER: &str =
+    " it may have been given back in an earlier volume, which isn't here, of journal ";
+
+const LATER_GRANT: &str = ": a grant is surely later than that volume from the reading ";
+
+const LATER: &str = " it may have been given back behind the close line of journal ";
+
+/// That an earlier volume may have given it back.
+fn push_earlier(
+    out: &mut Vec<Block>,
+    at: Reading,
+    side: Role,
+    needed: u64,
+) -> Result<(), AllocError>
+    ensures { OnOk result (AddsBlocks (state_told at (AtMoment.EarlierVolumes side needed) ∷ [])
+        out.old.items out.new.items) }
+{
+    let told = [
+        ("At ", ReportWord::Moment(at.milliseconds())),
+        (EARLIER, ReportWord::Side(side)),
+        (LATER_GRANT, ReportWord::Reading(needed)),
+    ];
+    push_block(out, BlockKind::Item, &told, " on.")
+}
+
+/// That what was written behind a close line may have given it back.
+fn push_later(
+    out: &mut Vec<Block>,
+    at: Reading,
+    side: Role,
+    needed: u64,
+    closed: Reading,
+) -> Result<(), AllocError>
+    ensures { OnOk result (AddsBlocks (state_told at (AtMoment.LaterVolumes side needed closed) ∷ [])
+        out.old.items out.new.items) }
+{
+    let told = [
+        ("At ", ReportWord::Moment(at.milliseconds())),
+        (LATER, ReportWord::Side(side)),
+        (
+            ", at which the clock showed ",
+            ReportWord::Reading(closed.milliseconds()),
+        ),
+        (
+            ": the moment's end with the skew is ",
+            ReportWord::Reading(needed),
+        ),
+    ];
+    push_block(out, BlockKind::Item, &told, ".")
+}
+
 /// What is so at the moment asked about.
 fn push_state(out: &mut Vec<Block>, state: &AtMoment, at: Reading) -> Result<(), AllocError>
     ensures { OnOk result (AddsBlocks (state_told at state.now ∷ []) out.old.items out.new.items) }
 {
-    let at = at.milliseconds();
+    let moment = at.milliseconds();
     let (said, value) = match state {
         AtMoment::NotBegun => (" it surely had not begun.", None),
         AtMoment::Ended(end) => (" it had surely ended: by ", Some(ReportWord::Moment(*end))),
-        AtMoment::GivenBack(release) => (
-            " it had surely been given back: by line ",
-            Some(ReportWord::Line(release.at)),
-        ),
+        AtMoment::GivenBack(release) => (GIVEN_BACK, Some(ReportWord::Line(release.at))),
         AtMoment::Carried => (CARRIED, None),
         AtMoment::Beginning(begun) => (
             BEGINNING,
-            Some(ReportWord::Milliseconds(begun.saturating_sub(at))),
+            Some(ReportWord::Milliseconds(begun.saturating_sub(moment))),
         ),
         AtMoment::Ending(end) => (
             ENDING,
-            Some(ReportWord::Milliseconds((at + 1).saturating_sub(*end))),
+            Some(ReportWord::Milliseconds((moment + 1).saturating_sub(*end))),
         ),
         AtMoment::MayBeGivenBack(release) => (
-            " it may have been given back: by line ",
+            MAY_BE_GIVEN_BACK,
             Some(ReportWord::Line(release.at)),
         ),
+        AtMoment::EarlierVolumes { side, needed } => {
+            return push_earlier(out, at, *side, *needed);
+        }
+        AtMoment::LaterVolumes {
+            side,
+            needed,
+            closed,
+        } => return push_later(out, at, *side, *needed, *closed),
         AtMoment::Shown => (" it was its client's.", None),
     };
-    let moment = ("At ", ReportWord::Moment(at));
+    let at = ("At ", ReportWord::Moment(moment));
     match value {
-        Some(value) => push_block(out, BlockKind::Item, &[moment, (said, value)], "."),
-        None => push_block(out, BlockKind::Item, &[moment], said),
+        Some(value) => push_block(out, BlockKind::Item, &[at, (said, value)], "."),
+        None => push_block(out, BlockKind::Item, &[at], said),
     }
 }
 

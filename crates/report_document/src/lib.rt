@@ -16,7 +16,8 @@
 //!
 //! [`why_blocks`] tells it as blocks of a report (`report_document`): what was asked, why nobody is named, and of each
 //! delegation near the moment from when to when it can be shown, from when to when it may have been, and what is
-//! missing at the moment. Each number stands there with the sum that it comes from.
+//! missing at the moment. Each number stands there with the sum that it comes from. [`refusal_blocks`] tells what stands
+//! against the journals instead, and of no delegation.
 //!
 //! ```text
 //! let blocks = why_blocks(alloc, &query, &why, &leases)?;
@@ -43,5 +44,5 @@ mod word;
 pub use block::{Block, BlockKind, Document, SentencePart, push_block, push_sum};
 pub use document::{Explanation, document_of};
 pub use sums::with_both;
-pub use whole::why_blocks;
+pub use whole::{refusal_blocks, why_blocks};
 pub use word::ReportWord;

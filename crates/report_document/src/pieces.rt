@@ -9,7 +9,7 @@ ghost use Rattle.report_document.specs.Pieces.{piece_told};
 use crate::block::{Block, BlockKind, SentencePart, push_block, push_sum};
 use crate::chains::push_chain;
 use crate::moments::{push_must, push_no_chain};
-use crate::releases::push_release;
+use crate::releases::{push_more, push_release};
 use crate::sums::{OF_LEASE, by_mark, less, with_both};
 use crate::word::ReportWord;
 use causal_order::{Piece, Ref};
@@ -195,7 +195,7 @@ fn push_releases(
     Ok(())
 }
 
-/// A piece: what carries it, and each release of that.
+/// A piece: what carries it, and the releases of that.
 pub(crate) fn push_piece(
     out: &mut Vec<Block>,
     skew: Skew,
@@ -215,5 +215,6 @@ pub(crate) fn push_piece(
     push_grant(out, piece.grant, &report.granted)?;
     push_begun(out, skew, transit, piece, &report.latest)?;
     push_lasts(out, skew, piece, &report.granted, &report.earliest)?;
-    push_releases(out, skew, piece, &report.releases)
+    push_releases(out, skew, piece, &report.releases.told)?;
+    push_more(out, report.releases.more)
 }

@@ -2,7 +2,7 @@
 
 ghost use Rattle.std.specs.Prelude.{◌≡◌, OnOk};
 ghost use Rattle.report_document.specs.Telling.{AddsBlocks};
-ghost use Rattle.report_document.specs.Pieces.{cleared_told, release_told};
+ghost use Rattle.report_document.specs.Pieces.{cleared_told, release_told, more_told};
 
 use crate::block::{Block, BlockKind, push_block};
 use crate::moments::{BoundSide, push_must, push_written};
@@ -59,4 +59,24 @@ pub(crate) fn push_release(
     ];
     push_block(out, BlockKind::Item, &given_back, " there.")?;
     push_cleared(out, skew, piece, release, &report.entry)
+}
+
+/// What is said of so many releases that aren't told of.
+fn untold(more: u64) -> &'static str {
+    if more == 1 {
+        " more line gives that back, and no entry names it: it isn't told here."
+    } else {
+        " more lines give that back, and no entry names them: they aren't told here."
+    }
+}
+
+/// How many more releases there are that aren't told of, where there are any.
+pub(crate) fn push_more(out: &mut Vec<Block>, more: u64) -> Result<(), AllocError>
+    ensures { OnOk result (AddsBlocks (more_told more) out.old.items out.new.items) }
+{
+    if more == 0 {
+        return Ok(());
+    }
+    let counted = [("Besides, ", ReportWord::Number(more))];
+    push_block(out, BlockKind::Item, &counted, untold(more))
 }

@@ -215,6 +215,10 @@ const CLOCKS: &str =
     " takes a message, and reads more than twice the skew below the line that sent it: no clocks within \
     the skew can have written both.";
 
+const CARRIED: &str =
+    " carries into its volume a lease that ends more than 10^11 milliseconds (three years) after the volume's open \
+    line. No lease that a server may grant lasts so long, so this line is none that a volume before leaves.";
+
 /// What a ruling says.
 pub(crate) fn push_ruling(out: &mut Vec<Block>, ruling: &Judgement) -> Result<(), AllocError>
     ensures { OnOk result (AddsBlocks (ruling_told ruling.now) out.old.items out.new.items) }
@@ -224,5 +228,6 @@ pub(crate) fn push_ruling(out: &mut Vec<Block>, ruling: &Judgement) -> Result<()
         Judgement::Clocks(take) => push_line(out, *take, CLOCKS),
         Judgement::Pair => push_block(out, BlockKind::Paragraph, &[], PAIR),
         Judgement::Skew => push_block(out, BlockKind::Paragraph, &[], SKEW),
+        Judgement::Carried(carrying) => push_line(out, *carrying, CARRIED),
     }
 }

@@ -119,7 +119,7 @@ fn push_piece(
 {
     push_chain(arrows, dots, &piece.piece.latest)?;
     push_chain(arrows, dots, &piece.piece.earliest)?;
-    for release in &piece.releases {
+    for release in &piece.releases.told {
         push_release(arrows, dots, release)?;
     }
     Ok(())

@@ -47,7 +47,7 @@ class Desk:
 
     def who(self, prefix, moment, texts=(), paths=()):
         """Who held a prefix at a moment, by two journals' texts or by what paths name."""
-        words = ["who", *self.margins, "--prefix", prefix_word(prefix), "--at", str(moment)]
+        words = ["who", *self.margins, "--prefix", prefix_word(prefix), "--at", f"{moment}ms"]
         words += [word for path in paths for word in ("--journals", str(path))]
         return self.run(self.program, words, b"".join(texts))
 

@@ -241,7 +241,7 @@ def askable(found, sides, dice, count):
 
 def named(program, text, prefix, at):
     """Whom the desk names for a prefix and a moment: None for nobody; and what it says."""
-    words = ["who", "--skew-ms", str(SKEW), "--transit-ms", str(TRANSIT), "--prefix", prefix_text(prefix), "--at", str(at)]
+    words = ["who", "--skew-ms", str(SKEW), "--transit-ms", str(TRANSIT), "--prefix", prefix_text(prefix), "--at", f"{at}ms"]
     _, said, complaint = desk(program, words, text)
     who = said.split("\n", 1)[0]
     return (who.split()[1] if who.startswith("holder ") else None), (who + " " + complaint.strip())

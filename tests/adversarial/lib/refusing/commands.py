@@ -194,7 +194,7 @@ class Files(Group):
         holder = f"holder {archive.holder}\n".encode()
         file = self.tools.folder / "certificate"
         for name, moment in (("closed", archive.early), ("open", archive.late)):
-            who = [desk, "who", *MARGINS, "--prefix", prefix, "--at", str(moment), *paths]
+            who = [desk, "who", *MARGINS, "--prefix", prefix, "--at", f"{moment}ms", *paths]
             found = Answer(who)
             yield Command(f"who, {name}", who, holder=holder)
             if found.status:

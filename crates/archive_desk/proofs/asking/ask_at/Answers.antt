@@ -31,7 +31,7 @@ returns-in-Journals g c =
     let had = g.F.JournalFiles.had c.args.files.now in
     let q = c.args.search.now in
     let at = subst (λ (s : ShownJournals). IsShownAt had c.args.archive.now c.skew.result c.transit.result c.args.moment s)
-    c.in-Journals.is c.in_ok-pair.ensures in
+    c.in-Journals.is c.in_ok-pair.ensures.shown in
     let by = subst (λ (skew : ℕ). IsShownAt had c.args.archive.now skew c.transit.result c.args.moment
     (Journals c.in-Journals.pair c.in-Journals.shown)) c.skew.ensures at in
     over had c.args.archive.now c.args.moment q c.in-Journals.pair c.in-Journals.shown

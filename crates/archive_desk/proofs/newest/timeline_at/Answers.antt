@@ -26,5 +26,5 @@ returns-in-Journals g c =
     over (g.F.JournalFiles.had c.args.files.now) c.args.archive.now c.args.moment c.args.skew c.in-Journals.pair
     c.in-Journals.shown
     (subst (λ (s : ShownJournals). IsShownAt (g.F.JournalFiles.had c.args.files.now) c.args.archive.now c.args.skew 0
-    c.args.moment s) c.in-Journals.is c.in_ok-pair.ensures)
+    c.args.moment s) c.in-Journals.is c.in_ok-pair.ensures.shown)
     c.timeline_over.result c.timeline_over.ensures

@@ -34,7 +34,7 @@ returns-in-Journals g c =
     let had = g.F.JournalFiles.had c.args.files.now in
     let q = c.args.query.now in
     let at = subst (λ (s : ShownJournals). IsShownAt had c.args.archive.now q.skew q.transit c.args.moment s) c.in-Journals.is
-    c.in_ok-pair.ensures in
+    c.in_ok-pair.ensures.shown in
     over had c.args.archive.now c.args.moment q c.in-Journals.pair c.in-Journals.shown at c.reply_over.result
     (subst (λ (asked : Query). IfOk c.reply_over.result (IsReplyOver c.in-Journals.pair c.in-Journals.shown (Find asked)))
     (c.cut_at-cut.ensures ∙ ap (λ (o : Option ℕ). cut_at o q) c.shown_until.ensures) c.reply_over.ensures)

@@ -1,6 +1,5 @@
-use Rattle.std.proofs.Common.{List, arith, sym, subst}
-use Rattle.causal_order.specs.declared.reference.Ref.{Ref}
-use Rattle.candidate_leases.specs.Near.{asked_of}
+use Rattle.std.proofs.Common.{arith, sym, subst}
+use Rattle.candidate_leases.specs.Conditions.{asked_of}
 use Rattle.candidate_leases.specs.Leases.{AreConcerning}
 use Rattle.candidate_leases.proofs.Listed.{all_near}
 use Rattle.candidate_leases.proofs.candidates.candidate_leases.Goals as goal

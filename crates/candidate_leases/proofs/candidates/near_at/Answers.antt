@@ -1,4 +1,4 @@
-use Rattle.candidate_leases.specs.Near.{asked_of}
+use Rattle.candidate_leases.specs.Conditions.{asked_of}
 use Rattle.candidate_leases.proofs.Listed.{untold}
 use Rattle.candidate_leases.proofs.candidates.near_at.Goals as goal
 

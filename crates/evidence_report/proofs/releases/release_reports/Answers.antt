@@ -1,24 +1,31 @@
-use Rattle.std.specs.Prelude.{◌+◌, List}
-use Rattle.std.proofs.Common.{sym, subst}
-use Rattle.auditor.specs.Walks.{AreReleases}
-use Rattle.evidence_report.specs.declared.piece_report.ReleaseReport.{ReleaseReport}
-use Rattle.evidence_report.proofs.Shown.{AreReportedSoFar, one_reported, none_missing}
+use Rattle.std.specs.Prelude.{◌≡◌, List, Contains as Has}
+use Rattle.std.proofs.Common.{sym, subst, arith, ap, length}
+use Rattle.causal_order.specs.declared.reference.Ref.{Ref}
+use Rattle.evidence_report.specs.Marks.{Exists}
+use Rattle.evidence_report.specs.Pieces.{EndsDelegation, AreReportsOf}
+use Rattle.evidence_report.proofs.Told.{told_are_some, told_exist, counted_reports}
 use Rattle.evidence_report.proofs.releases.release_reports.Goals as goal
-use Rattle.evidence_report.proofs.releases.release_reports.Goals.{in-Some+in_ok-extend_from_slice, in_default}
 
-pub loop-at-preserved : goal.loop-at-preserved
-loop-at-preserved g c =
-    let js = g.S.Lines.journals c.args.source.now in
-    let refs = c.deref-at-items.result.now in
-    let at = c.loop-at.at-index in
-    elim c.match-mark_at.branch [
-      | in-Some+in_ok-extend_from_slice w ↦ rw w.releases-is
-          (subst (λ (shown : List ReleaseReport). AreReportedSoFar js c.args.skew c.args.piece.now refs shown (at + 1))
-          (sym w.in_ok-extend_from_slice.ensures.items)
-          (one_reported js c.args.skew c.args.piece.now refs c.loop-at.releases.items at _ w.in-Some.release _
-          c.loop-at-test.true w.in-Some.ensures w.release_report.ensures.release w.release_report.ensures.shown
-          c.loop-at.invariant))
-      | in_default w ↦ absurd (none_missing js c.args.skew c.args.piece.now refs c.args.delegation.now
-          (subst (AreReleases js c.args.delegation.now) (sym c.deref-at-items.ensures.value)
-          c.in_ok-refs.ensures.releases) at _ c.loop-at-test.true w.in_default.ensures)
-    ]
+pub overflow_sub-more : goal.overflow_sub-more
+overflow_sub-more g c =
+    let fewer = told_are_some (EndsDelegation (g.L.Lines.journals c.args.lines.now) c.args.delegation.now)
+    c.args.piece.now c.args.releases.now c.in_ok-refs.refs.items c.requires c.in_ok-refs.ensures in
+    omega (arith, fewer, c.len.ensures)
+
+pub reports_of-requires : goal.reports_of-requires
+reports_of-requires g c =
+    let js = g.L.Lines.journals c.args.lines.now in
+    subst (λ (refs : List Ref). (r : Ref) → Has refs r → Exists js r) (sym c.deref.ensures.value)
+    (told_exist js c.args.delegation.now c.args.piece.now c.in_ok-refs.refs.items c.in_ok-refs.ensures)
+
+pub returns : goal.returns
+returns g c =
+    let js = g.L.Lines.journals c.args.lines.now in
+    let ends = EndsDelegation js c.args.delegation.now in
+    let fewer = told_are_some ends c.args.piece.now c.args.releases.now c.in_ok-refs.refs.items c.requires
+    c.in_ok-refs.ensures in
+    counted_reports js c.args.skew c.args.piece.now ends c.args.releases.now c.in_ok-refs.refs.items _ c.requires
+    c.in_ok-refs.ensures
+    (subst (λ (refs : List Ref). AreReportsOf js c.args.skew c.args.piece.now refs c.in_ok-told.told.items)
+    c.deref.ensures.value c.in_ok-told.ensures)
+    (omega (arith, fewer, c.len.ensures))

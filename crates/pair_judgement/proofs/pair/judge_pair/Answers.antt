@@ -1,23 +1,12 @@
 use Rattle.std.proofs.Common.{subst}
 use Rattle.auditor.specs.Pair.{IsChecked}
-use Rattle.pair_judgement.proofs.Early.{none_early, least_early}
+use Rattle.pair_judgement.proofs.Early.{first_early}
 use Rattle.pair_judgement.proofs.pair.judge_pair.Goals as goal
 
-pub returns-in-None : goal.returns-in-None
-returns-in-None c =
-    let legal = subst (IsChecked c.args.primary.now c.args.secondary.now) c.in-Legal.is c.in_ok-merged.ensures in (
-      (
-        legal.0,
-        none_early c.args.primary.now c.args.secondary.now legal.0 c.early_by_first_send.ensures c.args.skew _
-            c.in-None.is c.in_ok-first_early.ensures,
-      ),
-      legal.1,
-    )
-
-pub returns-in-Some : goal.returns-in-Some
-returns-in-Some c =
-    let legal = subst (IsChecked c.args.primary.now c.args.secondary.now) c.in-Legal.is c.in_ok-merged.ensures in (
-      legal.0,
-      least_early c.args.primary.now c.args.secondary.now legal.0 c.early_by_first_send.ensures c.args.skew _ _
-          c.in-Some.is c.in_ok-first_early.ensures,
-    )
+pub returns : goal.returns
+returns c =
+    let a = c.args.primary.now in
+    let b = c.args.secondary.now in
+    let legal = subst (IsChecked a b) c.in-Legal.is c.in_ok-merged.ensures in
+    c.ruled_by.ensures c.args.skew legal.0 legal.1
+    (first_early a b legal.0 c.early_by_first_send.ensures c.args.skew _ c.in_ok-early.ensures)

@@ -1,0 +1,7 @@
+use Rattle.std.proofs.Common.{rules}
+use Rattle.std.proofs.lemmas.Bool.Decides.{Decides-eqb}
+use Rattle.std.proofs.lemmas.Slice.Eq.{strip_suffix_is}
+use Rattle.report_times.proofs.unix_time.without_unit.Goals as goal
+
+pub returns : goal.returns
+returns c = strip_suffix_is Decides-eqb _ _ _ c.strip_suffix.ensures.cases

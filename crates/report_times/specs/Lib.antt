@@ -1,0 +1,5 @@
+pub mod Parts
+pub mod UnixTimes
+pub mod DateTimes
+pub mod MailDates
+pub mod ReportTimes
