@@ -209,9 +209,9 @@ def compare(desk, who):
         return ["named"], None
     mine, lengths = nobody_named(Evidence(*cut(who.text)), who.asked, who.settings_differ)
     its = object_of(written)
-    if status != 1 or its is None:
+    if status != 1 or complaint or its is None:
         told = f"{written}{complaint}status {status}"
-        return kinds_of(mine), Difference(words, who.text, "an object, status 1", told)
+        return kinds_of(mine), Difference(words, who.text, "an object, no warning, status 1", told)
     take_length(mine["why"], its.get("why"), lengths)
     if canonical(mine) == canonical(its):
         return kinds_of(mine), None
