@@ -128,6 +128,9 @@ class Misfortunes:
         file = self.folder / "claimed"
         for command in ("audit", "batch"):
             answer = self.desk.judges(command, [self.right.certificate()], file, [path])
+            # (by another skew a volume may leave another head than the one that follows)
+            if answer.out.startswith(b"refused V7 Head "):
+                continue
             if not answer.out.startswith((b"accepted\n", b"refused L1 ")):
                 yield f"{command} over a partner of another skew: {answer}"
             if answer.err.count(b"warning K2 Pair: ") != 1 or b"journals " not in answer.err:
