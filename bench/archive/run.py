@@ -29,7 +29,12 @@ def opened(number):
 
 def head(side, number, serial):
     words = [f"open {SKEW} {LIFE} {LIFE}", f"pool {POOL} 56"] + ([] if number == 1 else [f"base 0 {serial} 0 0 0"])
-    return [f"pd-journal 1 {side}" if number == 1 else f"pd-journal 2 {side} {number}"], words
+    return [f"pd-journal 1 {side}" if number == 1 else f"pd-journal 2 {side} {numbered(number)}"], words
+
+
+def numbered(number):
+    """The number of a volume: each second, since these begin with a free unit, which none that lies beside would have named."""
+    return 2 * number - 1
 
 
 def volume_pair(number, serial):
@@ -63,7 +68,7 @@ def make(folder):
     for number in range(1, VOLUMES + 1):
         texts, serial = volume_pair(number, serial)
         for side, text in texts.items():
-            (folder / f"{side}-{number:07}.journal").write_bytes(text)
+            (folder / f"{side}-{numbered(number):07}.journal").write_bytes(text)
 
 
 def timed(words):
@@ -93,7 +98,7 @@ def main():
             moment = opened(number) + 100_000
             words = ["who", "--skew-ms", str(SKEW), "--prefix", POOL, "--at", f"{moment}ms", "--journals", str(folder)]
             lasted, out, read = timed([desk, *words])
-            chosen = sum((folder / f"{side}-{number:07}.journal").stat().st_size for side in "AB")
+            chosen = sum((folder / f"{side}-{numbered(number):07}.journal").stat().st_size for side in "AB")
             named = out.startswith(f"holder {client(number)}\n".encode())
             wrong |= not named or read > MOST_READ * chosen
             print(f"{what}: who : grep (time) {lasted / grep:.2f}; read : the two volumes (octets) {read / chosen:.1f}, "
