@@ -80,6 +80,14 @@ def is_closed(lines):
     return bool(lines) and isinstance(lines[-1].event, Close)
 
 
+def lines_of_followed(file, octets):
+    """The lines of a volume that a further one follows; zero octets up to its close line are at fault."""
+    volume = lines_of(file, octets)
+    if b"\0" in octets and not is_closed(volume.lines):
+        raise Fault(f"Journal {file}: zero octets stand where line {len(volume.lines) + 1} should")
+    return volume
+
+
 def named_head(book, lines, reading):
     """The readings and events of the head that a closed volume names for the next; None where it names none."""
     counts = [book.serial, book.restart, *[unit.mine for unit in book.units.values()]]
@@ -155,11 +163,13 @@ def joined(asked):
         if refusals:
             raise Stopped(refusals[0])
         files = chosen(asked, folder)
+        last = files[-1]
         if last_is_untold(files):
             files.pop()
         whole = Joined(asked.side)
         for file in files:
-            whole.add(lines_of(*file))
+            # one that is left out follows the others too
+            whole.add(lines_of(*file) if file is last else lines_of_followed(*file))
     except Stopped as stopped:
         return f"{stopped.line}\n", stopped.said, 1
     except Fault as fault:
