@@ -18,10 +18,16 @@ use pair_judgement::Judgement;
 use plain_search::HolderQuery;
 use std::alloc::{AllocError, Global};
 
-const NO_CLIENT: &str = " (the transit)? No client is named: none is shown to have had it.";
+const NONE_SHOWN: &str = " (the transit)? No client is named: none is shown to have had it.";
+
+const REFUSED: &str = " (the transit)? No client is named.";
 
 /// What is asked, and by which bounds.
-fn push_question(out: &mut Vec<Block>, query: &HolderQuery) -> Result<(), AllocError>
+fn push_question(
+    out: &mut Vec<Block>,
+    query: &HolderQuery,
+    answer: &'static str,
+) -> Result<(), AllocError>
     ensures { OnOk result (AddsBlocks (question_told query.now) out.old.items out.new.items) }
 {
     let (skew, transit) = (query.skew.milliseconds(), query.transit.milliseconds());
@@ -38,7 +44,7 @@ fn push_question(out: &mut Vec<Block>, query: &HolderQuery) -> Result<(), AllocE
             ReportWord::Milliseconds(transit),
         ),
     ];
-    push_block(out, BlockKind::Paragraph, &asked, NO_CLIENT)
+    push_block(out, BlockKind::Paragraph, &asked, answer)
 }
 
 /// What doesn't cover the moment.
@@ -210,7 +216,7 @@ pub fn why_blocks(
     ensures { IfOk result (λ blocks. map told_of blocks.items ≡ reasons_told query.now why.now leases.now) }
 {
     let mut out = Vec::new(alloc);
-    push_question(&mut out, query)?;
+    push_question(&mut out, query, NONE_SHOWN)?;
     push_why(&mut out, why)?;
     push_leases(&mut out, leases, query)?;
     Ok(out)
@@ -226,7 +232,7 @@ pub fn refusal_blocks(
     ensures { IfOk result (λ blocks. map told_of blocks.items ≡ refusal_told query.now ruling.now) }
 {
     let mut out = Vec::new(alloc);
-    push_question(&mut out, query)?;
+    push_question(&mut out, query, REFUSED)?;
     push_block(&mut out, BlockKind::Heading, &[], NOBODY_NAMED)?;
     push_ruling(&mut out, ruling)?;
     Ok(out)
