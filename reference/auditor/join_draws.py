@@ -74,8 +74,8 @@ def renumbered(volume, entries):
 class Directory:
     """The files of one draw; each trouble changes some of them, and gives what it is called."""
 
-    def __init__(self, rng):
-        self.rng, self.run = rng, Rolling(rng)
+    def __init__(self, rng, kind=Rolling):
+        self.rng, self.run = rng, kind(rng)
         for _ in range(rng.choice(STEPS)):
             self.run.step()
         if rng.random() < 0.5:

@@ -130,13 +130,18 @@ class Leases:
     def later_volumes(self, _reference, _line):
         return self.past_end()
 
+    def needed(self):
+        """Up to when a journal has to go to show the moment."""
+        return self.asked.moment + 1 + self.asked.skew
+
+    def ends_too_soon(self):
+        """The sides whose journals end too soon for the moment."""
+        return [side for side in SIDES if self.needed() > self.pair.close_reading(side)]
+
     def past_end(self):
         """The first side whose journal ends too soon for the moment, with what it needs; None where neither does."""
-        needed = self.asked.moment + 1 + self.asked.skew
-        for side in SIDES:
-            closed = self.pair.close_reading(side)
-            if needed > closed:
-                return {"side": side, "needed": time_of(needed), "closed": time_of(closed)}
+        for side in self.ends_too_soon():
+            return {"side": side, "needed": time_of(self.needed()), "closed": time_of(self.pair.close_reading(side))}
         return None
 
     def told(self):

@@ -2,7 +2,7 @@
 from .journals import Pool
 from .leases import Leases
 from .settings import PAIR, SKEW, warnings_of
-from .values import time_of
+from .values import FORMAT, time_of
 from .words import SIDES, prefix_word
 
 # What `who` refuses where the other questions warn.
@@ -10,10 +10,10 @@ REFUSED_OF = {PAIR: "refused K2 Pair", SKEW: "refused K3 Skew"}
 
 
 class Why:
-    """Why nobody is named of a prefix at a moment."""
+    """Why nobody is named of a prefix at a moment, over two journals, of which those of some sides are still being written."""
 
-    def __init__(self, leases):
-        self.leases = leases
+    def __init__(self, leases, written=()):
+        self.leases, self.written = leases, written
         self.pair = leases.pair
         self.asked = leases.asked
         lines = [line for side in SIDES for line in self.pair.lines[side]]
@@ -47,8 +47,15 @@ class Why:
                 return {"side": side, "needed": time_of(needed)}
         return None
 
+    def after_last_line(self):
+        """The first side that still writes its volume and shows too little of it yet."""
+        return next((self.ending(side, "last") for side in self.leases.ends_too_soon() if side in self.written), None)
+
     def past_end(self):
-        return self.leases.past_end()
+        return next((self.ending(side, "closed") for side in self.leases.ends_too_soon() if side not in self.written), None)
+
+    def ending(self, side, name):
+        return {"side": side, "needed": time_of(self.leases.needed()), name: time_of(self.pair.close_reading(side))}
 
     def unit_lengths(self):
         """How long the units are of pools in which the prefix may be several customers'."""
@@ -78,6 +85,7 @@ REASONS = {
     "outside_pools": Why.outside_pools,
     "before_first_volume": Why.before_first_volume,
     "before_open": Why.before_open,
+    "after_last_line": Why.after_last_line,
     "past_end": Why.past_end,
     "several_customers": Why.several_customers,
     "several": Why.several,
@@ -97,11 +105,11 @@ def refusal_of(evidence, asked, settings_differ):
     return next((REFUSED_OF[warning] for warning in warnings), None)
 
 
-def nobody_named(evidence, asked, settings_differ):
-    """The object, and the unit lengths of which it may say any."""
-    refused = refusal_of(evidence, asked, settings_differ)
-    told = {
-        "answer": refused or "none",
+def nobody_over(answer, asked):
+    """The object of an answer that says nothing of leases: `refused V1 ..` or the like, or what is lacking."""
+    return {
+        "format": FORMAT,
+        "answer": answer,
         "prefix": prefix_word(asked.prefix),
         "at": time_of(asked.moment),
         "skew_ms": asked.skew,
@@ -109,8 +117,13 @@ def nobody_named(evidence, asked, settings_differ):
         "why": None,
         "leases": None,
     }
+
+
+def nobody_named(evidence, asked, settings_differ, written=()):
+    """The object, and the unit lengths of which it may say any; over journals of which some sides' are still being written."""
+    refused = refusal_of(evidence, asked, settings_differ)
     if refused:
-        return told, []
+        return nobody_over(refused, asked), []
     leases = Leases(evidence.pair, asked)
-    why = Why(leases)
-    return {**told, "why": why.told(), "leases": leases.told()}, why.unit_lengths()
+    why = Why(leases, written)
+    return {**nobody_over("none", asked), "why": why.told(), "leases": leases.told()}, why.unit_lengths()

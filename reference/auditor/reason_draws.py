@@ -15,6 +15,7 @@ from .leases import NEAR, Asked, Leases
 from .nobody import nobody_named
 from .rules import MOST_SKEW
 from .running import drawn_run
+from .schema import fault_of
 from .words import ADDRESS_BITS, MOST_READING, SIDES, Prefix, other_side, prefix_word
 from .writing import journal_text
 
@@ -205,14 +206,17 @@ def compare(desk, who):
     """What was met, and the difference, None where there is none."""
     words = who.words()
     written, complaint, status = desk_answer(desk, Question(words, who.text))
-    if status == 0:
-        return ["named"], None
-    mine, lengths = nobody_named(Evidence(*cut(who.text)), who.asked, who.settings_differ)
     its = object_of(written)
+    fault = "it is no object" if its is None else fault_of(its)
+    if status == 0:
+        return ["named"], Difference(words, who.text, "an object of the schema", fault) if fault else None
+    mine, lengths = nobody_named(Evidence(*cut(who.text)), who.asked, who.settings_differ)
     if status != 1 or complaint or its is None:
         told = f"{written}{complaint}status {status}"
         return kinds_of(mine), Difference(words, who.text, "an object, no warning, status 1", told)
     take_length(mine["why"], its.get("why"), lengths)
+    if fault:
+        return kinds_of(mine), Difference(words, who.text, "an object of the schema", fault)
     if canonical(mine) == canonical(its):
         return kinds_of(mine), None
     place, ours, theirs = first_difference(mine, its)

@@ -43,7 +43,7 @@ def failure_sentences(failure):
 
 def question_sentences(report):
     question = report["question"]
-    whole = f"client {question['client']} have all of {question['prefix']}"
+    whole = f"client {question['holder']} have all of {question['prefix']}"
     yield from ("", f"Did {whole} from {at(question['from'])} up to {at(question['to'])}?")
     yield f"The skew is {report['skew_ms']} ms, the transit {report['transit_ms']} ms."
     needed = question["to"]["ms"] + report["skew_ms"]

@@ -5,7 +5,7 @@ from .auditing import Audit, ends
 from .certificates import Before, ByChain, Early, Late, read_certificate
 from .failures import CONDITIONS, Failures
 from .journals import Carry, Grant
-from .values import delegation_of, time_of, words_of_chain
+from .values import FORMAT, delegation_of, time_of, words_of_chain
 from .words import SIDES, client_word, prefix_word
 
 
@@ -21,7 +21,7 @@ class Report:
         certificate = self.certificate
         return {
             "question": {
-                "client": client_word(certificate.holder),
+                "holder": client_word(certificate.holder),
                 "prefix": prefix_word(certificate.prefix),
                 "from": time_of(certificate.start),
                 "to": time_of(certificate.end),
@@ -171,7 +171,7 @@ def explanation(evidence, text, skew, transit):
         audit = Audit(evidence.pair, read_certificate(text), skew, transit)
         failure = Failures(audit).of(verdict)
         report = Report(audit).whole()
-    return {"verdict": verdict, "failure": failure, "certificate": decoded(text), "report": report}
+    return {"format": FORMAT, "verdict": verdict, "failure": failure, "certificate": decoded(text), "report": report}
 
 
 def decoded(text):

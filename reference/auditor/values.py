@@ -4,6 +4,8 @@ import datetime
 from .journals import Carry, Grant
 from .words import association_word, client_word, prefix_word
 
+# The edition of the objects that are printed.
+FORMAT = 1
 EPOCH = datetime.datetime(1970, 1, 1)
 # The first moment behind the year 9999.
 PAST_YEARS = 253_402_300_800_000

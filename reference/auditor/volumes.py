@@ -152,13 +152,13 @@ class Folder:
                 found.setdefault(number, (file, octets))
         return dict(sorted(found.items()))
 
-    def refusals(self):
-        """All of V1 to V3 that apply, as lines without a line feed, of A first; where V4 applies its alone."""
-        for kinds in ((self.other_pair,), (self.no_volume, self.differing, self.out_of_order)):
-            said = [f"refused {refusal}" for side in SIDES for kind in kinds for refusal in kind(self.ends[side])]
-            if said:
-                return said
-        return []
+    def refusals(self, together=False):
+        """All of V1 to V3 that apply, as lines, of A first; where V4 applies its alone, of each side's files, or of all together."""
+        sides = [self.ends[side] for side in SIDES]
+        pairs = [[each for side in sides for each in side]] if together else sides
+        others = [f"refused {refusal}" for ends in pairs for refusal in self.other_pair(ends)]
+        kinds = self.no_volume, self.differing, self.out_of_order
+        return others or [f"refused {refusal}" for ends in sides for kind in kinds for refusal in kind(ends)]
 
     @staticmethod
     def other_pair(ends):

@@ -1,6 +1,5 @@
 pub mod Dropping
-pub mod OneMore
+mod Spans
 mod Pendings
-mod Saying
-mod Warned
+mod Taken
 pub mod NoneUnread

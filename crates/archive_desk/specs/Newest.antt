@@ -1,6 +1,5 @@
--- The lines of the newest pair of volumes.
+-- The lines of the newest pair of volumes, in one order.
 use Rattle.std.specs.Prelude.{◌≡◌, ℕ, ◌-◌, min, List, Option, Some, None, Ok, length, slice_get}
-use Rattle.std.specs.declared.path.buf.PathBuf.{PathBuf}
 use Rattle.journal_archive.specs.declared.outline.FiledVolume.{FiledVolume}
 use Rattle.journal_archive.specs.declared.pair_lookup.VolumePair.{VolumePair}
 use Rattle.journal_archive.specs.declared.archive.Archive.{Archive}
@@ -8,10 +7,8 @@ use Rattle.journal_archive.specs.declared.pair.PairJournals.{PairJournals}
 use Rattle.archive_files.specs.Showing.{IsShownAt}
 use Rattle.archive_files.specs.declared.showing.ShownJournals.TheVariants.{Journals as ShownJournals, Lacking as ShownLacking}
 use Rattle.attribution_desk.specs.Timeline.{IsTimelineOf}
-use Rattle.archive_desk.specs.declared.asking.ArchiveReply.{ArchiveReply}
-use Rattle.archive_desk.specs.declared.asking.ArchiveReply.TheVariants.{Answered, Lacking}
-use Rattle.archive_desk.specs.declared.command_output.CommandOutput.{CommandOutput}
-use Rattle.archive_desk.specs.CommandOutputs.{said_of, nothing, IsSaidMore}
+use Rattle.archive_desk.specs.declared.newest.TimelineReply.{TimelineReply}
+use Rattle.archive_desk.specs.declared.newest.TimelineReply.TheVariants.{Answered, Lacking}
 
 abbrev pub last_by : Option FiledVolume → ℕ
 last_by (Some v) = v.outline.last
@@ -26,20 +23,18 @@ abbrev pub last_moment : Archive → ℕ
 last_moment archive = min (last_of archive.primary) (last_of archive.secondary) - 1
 
 -- the order of the lines of the journals that two volumes show
-abbrev pub IsTimelineOver : VolumePair → PairJournals → ArchiveReply → Type 0
-IsTimelineOver pair shown (Answered of found until) =
-    (of ≡ pair) × IsTimelineOf (Ok shown.primary) (Ok shown.secondary) found.line.items found.status
+abbrev pub IsTimelineOver : VolumePair → PairJournals → TimelineReply → Type 0
+IsTimelineOver pair shown (Answered of answer) =
+    (of ≡ pair) × IsTimelineOf (Ok shown.primary) (Ok shown.secondary) answer.line.items answer.status
 IsTimelineOver pair shown (Lacking side lack) = ⊥
 
-abbrev pub IsTimelineAt : (had : ℕ → List ℕ → Type 0) → Archive → (moment skew : ℕ) → ArchiveReply → Type 0
-IsTimelineAt had archive moment skew (Answered pair found until) =
+abbrev pub IsTimelineAt : (had : ℕ → List ℕ → Type 0) → Archive → (moment skew : ℕ) → TimelineReply → Type 0
+IsTimelineAt had archive moment skew (Answered pair answer) =
     (shown : PairJournals) × IsShownAt had archive skew 0 moment (ShownJournals pair shown)
-    × IsTimelineOver pair shown (Answered pair found until)
+    × IsTimelineOver pair shown (Answered pair answer)
 IsTimelineAt had archive moment skew (Lacking side lack) =
     IsShownAt had archive skew 0 moment (ShownLacking side lack)
 
 -- of the pair that shows the last moment before both sides' last readings
-abbrev pub IsTimelineTold : {A : Type 0} → (had : ℕ → List ℕ → Type 0) → List (PathBuf A) → Archive → CommandOutput → Type 0
-IsTimelineTold had names archive told =
-    (reply : ArchiveReply) × IsTimelineAt had archive (last_moment archive) 0 reply
-    × IsSaidMore names reply (last_moment archive) nothing (said_of told)
+abbrev pub IsNewest : (had : ℕ → List ℕ → Type 0) → Archive → TimelineReply → Type 0
+IsNewest had archive reply = IsTimelineAt had archive (last_moment archive) 0 reply

@@ -1,13 +1,11 @@
 -- Files that can't be read, though they have the name of a volume's.
-use Rattle.std.specs.Prelude.{◌≡◌, ℕ, List, [], ◌∷◌, ◌++◌, Some, codes}
+use Rattle.std.specs.Prelude.{◌≡◌, ℕ, List, Some, codes}
 use Rattle.std.specs.Path.{path_extension}
 use Rattle.std.specs.declared.path.buf.PathBuf.{PathBuf}
 use Rattle.archive_files.specs.Catalogues.{IsIn}
 use Rattle.archive_files.specs.declared.cataloguing.SkippedFile.{SkippedFile}
 use Rattle.archive_files.specs.declared.file_content.FileContent.TheVariants.{Unreadable}
-use Rattle.archive_desk.specs.declared.command_output.CommandOutput.{CommandOutput}
 use Rattle.archive_desk.specs.Names.{name_at}
-use Rattle.archive_desk.specs.Failing.{file_word}
 
 -- it is named as a server names the files of its volumes, which end with `.journal`
 abbrev pub IsNamedAsVolume : {A : Type 0} → List (PathBuf A) → ℕ → Type 0
@@ -21,12 +19,3 @@ pub record IsUnread {A : Type 0} (names : List (PathBuf A)) (p : SkippedFile) : 
 -- none of the files that are passed over is one
 abbrev pub AllRead : {A : Type 0} → List (PathBuf A) → List SkippedFile → Type 0
 AllRead names passed = (p : SkippedFile) → IsIn passed p → IsUnread names p → ⊥
-
-abbrev pub unread_line : {A : Type 0} → List (PathBuf A) → ℕ → List ℕ
-unread_line names file = codes "fault Path" ++ (file_word names file ++ 10 ∷ [])
-
--- standard error says this line, and nothing is answered
-pub record IsFault (line : List ℕ) (told : CommandOutput) : Type 0 where
-  pub silent : told.text.items ≡ []
-  pub status : told.status ≡ 2
-  pub notes : told.notes.items ≡ line

@@ -1,15 +1,14 @@
 //! Certificates, judged over the pair of volumes that shows where their interval begins.
 
-ghost use Rattle.std.specs.Prelude.{◌≡◌, ◌++◌, IfOk, OnOk};
+ghost use Rattle.std.specs.Prelude.{◌≡◌, IfOk};
 ghost use Rattle.attribution_desk.specs.Claims.{texts_of};
 ghost use Rattle.archive_files.specs.Showing.{AreClosed};
 ghost use Rattle.archive_desk.specs.Waiting.{AreWaiting, texts_waiting};
 ghost use Rattle.archive_desk.specs.Judging.{IsRuledByShown, AreRuledOver};
-ghost use Rattle.archive_desk.specs.Warnings.{IsWarnedOver, warned, AreWarnings};
+ghost use Rattle.archive_desk.specs.Warnings.{IsWarnedOver, AreWarnings};
 
-use crate::asking::has_lines;
+use crate::asking::expect_lines;
 use crate::coverage_gaps::TimingBounds;
-use crate::names::push_journals;
 use crate::waiting::{PendingCertificate, PendingState, claims_of, members_of, waiting_of};
 use archive_files::{FilesError, JournalFiles, shown_by};
 use attribution_desk::{CertificateText, accepted_rulings_are_true, judge_certificates};
@@ -17,8 +16,7 @@ use binding_rules::Role;
 use desk_args::Workers;
 use journal_archive::{Archive, CoverageGap, PairJournals, VolumePair, shown_pairs_are_snapshots};
 use pair_judgement::{Judgement, warnings};
-use std::alloc::{AllocError, Global};
-use std::path::PathBuf;
+use std::alloc::Global;
 use std::sync::Wait;
 use std::thread::Threads;
 
@@ -31,6 +29,13 @@ pub enum ArchiveJudgement {
     Faulty(Judgement),
     /// No volume of this side shows where its interval begins, and why.
     Lacking(Role, CoverageGap),
+}
+
+/// The warnings on the journals that two volumes show (K2, K3), as lines; none where nothing is to be warned of.
+#[derive(Debug, Drop)]
+pub struct PairWarnings {
+    pub pair: VolumePair,
+    pub text: Vec<u8>,
 }
 
 /// The rulings over the journals that two volumes show. `Changed` where one of them has no line any longer.
@@ -47,16 +52,7 @@ fn rulings_by(
     ensures { IfOk result (λ rs. IsRuledByShown shown.now bounds.now.skew bounds.now.transit
         (texts_of claims.entry.items) rs.items) }
 {
-    if !has_lines(&shown.primary) {
-        return Err(FilesError::Changed {
-            file: pair.primary.file,
-        });
-    }
-    if !has_lines(&shown.secondary) {
-        return Err(FilesError::Changed {
-            file: pair.secondary.file,
-        });
-    }
+    expect_lines(pair, shown)?;
     match judge_certificates(
         rt,
         alloc,
@@ -138,45 +134,27 @@ fn judge_shown<F: JournalFiles>(
     Ok(ruled.warnings)
 }
 
-/// Appends the warnings on a pair of volumes behind the line that names its files; nothing where there are none.
-fn push_warnings(
-    out: &mut Vec<u8>,
-    names: &[PathBuf],
-    pair: &VolumePair,
-    warnings: &[u8],
-) -> Result<(), AllocError>
-    ensures { OnOk result (out.new.items ≡ out.old.items ++ warned names.now pair.now warnings.now) }
-{
-    if warnings.is_empty() {
-        return Ok(());
-    }
-    push_journals(out, names, pair)?;
-    out.extend_from_slice(warnings)?;
-    Ok(())
-}
-
 /// Judges each of the certificates that isn't judged yet, and returns the warnings on the pairs of volumes.
 fn judge_each<F: JournalFiles>(
     rt: &(impl Threads + Wait + Sync),
     alloc: Global,
     files: &F,
-    names: &[PathBuf],
     archive: &Archive,
     waiting: &mut [PendingCertificate],
     bounds: &TimingBounds,
     workers: Workers,
-) -> Result<Vec<u8>, FilesError>
+) -> Result<Vec<PairWarnings>, FilesError>
     requires { AreWaiting (F.had files.now) archive.now bounds.now.skew bounds.now.transit waiting.old }
     ensures texts { texts_waiting waiting.new ≡ texts_waiting waiting.old }
     ensures waiting { AreWaiting (F.had files.now) archive.now bounds.now.skew bounds.now.transit waiting.new }
     ensures warnings { IfOk result
-        (λ warnings. AreWarnings (F.had files.now) names.now bounds.now.skew bounds.now.transit warnings.items) }
+        (λ warnings. AreWarnings (F.had files.now) bounds.now.skew bounds.now.transit warnings.items) }
 {
     let mut warnings = Vec::new(alloc);
     for place in 0..waiting.len() {
         if let PendingState::Shown(pair) = waiting[place].pending {
-            let more = judge_shown(rt, alloc, files, archive, waiting, &pair, bounds, workers)?;
-            push_warnings(&mut warnings, names, &pair, &more)?;
+            let text = judge_shown(rt, alloc, files, archive, waiting, &pair, bounds, workers)?;
+            warnings.push(PairWarnings { pair, text })?;
         }
     }
     Ok(warnings)
@@ -186,7 +164,7 @@ fn judge_each<F: JournalFiles>(
 #[derive(Drop)]
 pub(crate) struct AuditBatch<'a> {
     pub(crate) waiting: Vec<PendingCertificate<'a>>,
-    pub(crate) warnings: Vec<u8>,
+    pub(crate) warnings: Vec<PairWarnings>,
 }
 
 /// Judges certificates, each over the pair of volumes that shows where its interval begins; each such pair is read
@@ -196,7 +174,6 @@ pub(crate) fn judge_all<'a, F: JournalFiles>(
     rt: &(impl Threads + Wait + Sync),
     alloc: Global,
     files: &F,
-    names: &[PathBuf],
     archive: &Archive,
     claims: &[CertificateText<'a>],
     bounds: &TimingBounds,
@@ -206,18 +183,9 @@ pub(crate) fn judge_all<'a, F: JournalFiles>(
     ensures waiting { IfOk result
         (λ j. AreWaiting (F.had files.now) archive.now bounds.now.skew bounds.now.transit j.waiting.items) }
     ensures warnings { IfOk result
-        (λ j. AreWarnings (F.had files.now) names.now bounds.now.skew bounds.now.transit j.warnings.items) }
+        (λ j. AreWarnings (F.had files.now) bounds.now.skew bounds.now.transit j.warnings.items) }
 {
     let mut waiting = waiting_of(alloc, archive, claims, bounds)?;
-    let warnings = judge_each(
-        rt,
-        alloc,
-        files,
-        names,
-        archive,
-        &mut waiting,
-        bounds,
-        workers,
-    )?;
+    let warnings = judge_each(rt, alloc, files, archive, &mut waiting, bounds, workers)?;
     Ok(AuditBatch { waiting, warnings })
 }

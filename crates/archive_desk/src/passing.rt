@@ -2,9 +2,11 @@
 
 use crate::names::name_of;
 use archive_files::{FileContent, SkippedFile};
+use desk_args::NoteDetail;
 use journal_archive::JournalFault;
 use std::alloc::{AllocError, Global};
 use std::path::PathBuf;
+use text_fields::push_number;
 
 /// Appends why a file is passed over.
 fn push_why(alloc: Global, out: &mut Vec<u8>, found: &FileContent) -> Result<(), AllocError> {
@@ -23,13 +25,25 @@ fn push_fault(alloc: Global, out: &mut Vec<u8>, fault: &JournalFault) -> Result<
     Ok(())
 }
 
-/// A line for each file that is passed over, with its name and why.
+/// A line that says how many files are passed over.
+fn push_count(out: &mut Vec<u8>, count: usize) -> Result<(), AllocError> {
+    out.extend_from_slice(b"passed over ")?;
+    push_number(out, count as u64)?;
+    out.extend_from_slice(b" files that are no volumes: --verbose says which, and why\n")
+}
+
+/// A line for each file that is passed over, with its name and why; or in brief one line of several.
 pub fn passed_over(
     alloc: Global,
     names: &[PathBuf],
     passed: &[SkippedFile],
+    detail: NoteDetail,
 ) -> Result<Vec<u8>, AllocError> {
     let mut out = Vec::new(alloc);
+    if detail == NoteDetail::Brief && passed.len() > 1 {
+        push_count(&mut out, passed.len())?;
+        return Ok(out);
+    }
     for file in passed {
         out.extend_from_slice(b"passed over ")?;
         out.extend_from_slice(name_of(names, file.file).as_bytes())?;

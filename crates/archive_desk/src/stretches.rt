@@ -1,21 +1,49 @@
 //! The evidence of an interval, stretch by stretch of one pair of volumes.
 
-ghost use Rattle.std.specs.Prelude.{◌≡◌, ◌≤◌, ◌<◌, IfOk};
-ghost use Rattle.archive_desk.specs.Stretches.{reading_or, stretch_of, cut_at, IsFoundAt, IsFindTold};
-ghost use Rattle.archive_desk.specs.Stretches.{AreStretchesTold};
-ghost use Rattle.archive_desk.specs.CommandOutputs.{said_of, nothing};
+ghost use Rattle.std.specs.Prelude.{◌≡◌, IfOk};
+ghost use Rattle.archive_files.specs.Showing.{AreClosed};
+ghost use Rattle.archive_desk.specs.Stretches.{reading_or, stretch_of, cut_at, IsEvidenceOver, IsFoundAt, IsEvidence};
+ghost use Rattle.archive_desk.specs.Stretches.{AreStretches};
 
-use crate::asking::{ArchiveReply, ask_at, reply_over};
-use crate::command_output::CommandOutput;
-use crate::coverage_gaps::TimingBounds;
+use crate::asking::expect_lines;
 use archive_files::{FilesError, JournalFiles, ShownJournals, shown_at, shown_until};
-use attribution_desk::Search;
+use attribution_desk::{Search, SearchAnswer, search_journals};
+use binding_rules::Role;
 use evidence_search::Query;
-use journal_archive::{Archive, CoverageSpan};
+use journal_archive::{Archive, CoverageGap, CoverageSpan, PairJournals, VolumePair};
 use lead_time::Reading;
+use pair_judgement::warnings;
 use std::alloc::Global;
-use std::path::PathBuf;
 use std::thread::Threads;
+
+/// What files answer to a search for evidence.
+#[derive(Debug, Drop)]
+pub enum EvidenceReply {
+    /// What the desk answers over the journals that these two volumes show, the warnings on those (K2, K3), and the
+    /// first moment of which they can't tell, in milliseconds of true time.
+    Answered {
+        pair: VolumePair,
+        answer: SearchAnswer,
+        warnings: Vec<u8>,
+        until: Option<u64>,
+    },
+    /// No volume of this side shows where the stretch begins, and why.
+    Lacking(Role, CoverageGap),
+}
+
+/// What files answer of a stretch of an interval, and where it ends, in milliseconds of true time.
+#[derive(Debug, Drop)]
+pub struct FoundStretch {
+    pub reply: EvidenceReply,
+    pub end: u64,
+}
+
+/// The question, and what files answer of each stretch of its interval, in order.
+#[derive(Debug, Drop)]
+pub struct FindAnswer {
+    pub query: Query,
+    pub stretches: Vec<FoundStretch>,
+}
 
 /// The reading of a moment, or the other where none has so many milliseconds.
 fn reading_or(moment: u64, other: Reading) -> Reading
@@ -64,79 +92,114 @@ fn cut_at(query: &Query, until: &Option<u64>) -> Query
     }
 }
 
-/// The evidence of an interval over the pair of volumes that shows a moment, as far as the two bear each other out.
-fn find_at<F: JournalFiles>(
+/// The evidence of an interval over the journals that two volumes show, as far as the two bear each other out.
+/// `Changed` where one of them has no line any longer.
+fn evidence_over(
+    rt: &(impl Threads + Sync),
+    alloc: Global,
+    pair: &VolumePair,
+    shown: &PairJournals,
+    query: &Query,
+) -> Result<EvidenceReply, FilesError>
+    requires { AreClosed shown.now }
+    ensures { IfOk result (IsEvidenceOver pair.now shown.now query.now) }
+{
+    expect_lines(pair, shown)?;
+    let until = shown_until(shown, query.skew);
+    let search = Search::Find(cut_at(query, &until));
+    let (primary, secondary) = (&shown.primary, &shown.secondary);
+    let warnings = warnings(alloc, primary, secondary, query.skew, query.transit)?;
+    match search_journals(rt, alloc, primary, secondary, &search) {
+        Ok(answer) => Ok(EvidenceReply::Answered {
+            pair: *pair,
+            answer,
+            warnings,
+            until,
+        }),
+        Err(_) => Err(FilesError::Memory),
+    }
+}
+
+/// The evidence of an interval over the pair of volumes that shows where it begins.
+fn found_at<F: JournalFiles>(
     rt: &(impl Threads + Sync),
     alloc: Global,
     files: &F,
     archive: &Archive,
     moment: u64,
     query: &Query,
-) -> Result<ArchiveReply, FilesError>
+) -> Result<EvidenceReply, FilesError>
     ensures { IfOk result (IsFoundAt (F.had files.now) archive.now moment query.now) }
 {
     match shown_at(alloc, files, archive, moment, query.skew, query.transit)? {
-        ShownJournals::Journals(pair, shown) => {
-            let cut = cut_at(query, &shown_until(&shown, query.skew));
-            reply_over(rt, alloc, &pair, shown, &Search::Find(cut))
-        }
-        ShownJournals::Lacking(side, lack) => Ok(ArchiveReply::Lacking(side, lack)),
+        ShownJournals::Journals(pair, shown) => evidence_over(rt, alloc, &pair, &shown, query),
+        ShownJournals::Lacking(side, lack) => Ok(EvidenceReply::Lacking(side, lack)),
     }
 }
 
-fn bounds_of(query: &Query) -> TimingBounds {
-    TimingBounds {
-        skew: query.skew,
-        transit: query.transit,
-    }
-}
-
-/// Asks of each of the stretches, and tells one reply behind the other.
-fn told_over<F: JournalFiles>(
+/// What is found of each of the stretches.
+fn found_over<F: JournalFiles>(
     rt: &(impl Threads + Sync),
     alloc: Global,
     files: &F,
-    names: &[PathBuf],
     archive: &Archive,
     query: &Query,
     spans: &[CoverageSpan],
-) -> Result<CommandOutput, FilesError>
-    ensures { IfOk result (λ told. AreStretchesTold (F.had files.now) names.now archive.now query.now spans.now nothing
-        (said_of told)) }
+) -> Result<Vec<FoundStretch>, FilesError>
+    ensures { IfOk result
+        (λ stretches. AreStretches (F.had files.now) archive.now query.now spans.now stretches.items) }
 {
-    let bounds = bounds_of(query);
-    let mut told = CommandOutput::nothing(alloc);
+    let mut stretches = Vec::new(alloc);
     for span in spans {
         let stretch = stretch_of(query, span);
-        let reply = find_at(rt, alloc, files, archive, span.from, &stretch)?;
-        told.tell_more(alloc, names, &reply, &bounds, span.to)?;
+        let reply = found_at(rt, alloc, files, archive, span.from, &stretch)?;
+        stretches.push(FoundStretch {
+            reply,
+            end: span.to,
+        })?;
     }
-    Ok(told)
+    Ok(stretches)
+}
+
+/// What is found of each stretch of the question's interval, which lie end to end; of the question as it is where its
+/// interval has no moment.
+fn stretches_for<F: JournalFiles>(
+    rt: &(impl Threads + Sync),
+    alloc: Global,
+    files: &F,
+    archive: &Archive,
+    query: &Query,
+) -> Result<Vec<FoundStretch>, FilesError>
+    ensures { IfOk result (λ stretches. IsEvidence (F.had files.now) archive.now query.now stretches.items) }
+{
+    let from = query.from.milliseconds();
+    if from < query.to.milliseconds() {
+        let spans = archive.over(alloc, query.from, query.to, query.skew, query.transit)?;
+        return found_over(rt, alloc, files, archive, query, &spans);
+    }
+    let reply = found_at(rt, alloc, files, archive, from, query)?;
+    let mut stretches = Vec::new(alloc);
+    stretches.push(FoundStretch { reply, end: from })?;
+    Ok(stretches)
 }
 
 /// The evidence that the client held the prefix over the interval: for each stretch that one pair of volumes shows, in
-/// order, a certificate behind the line that names the two files, as far as these bear each other out; `none` where no
-/// pair shows a stretch. An interval
-/// without a moment is asked of as it is, of the pair that shows its beginning. `Changed` or `Faulty` where a file
-/// isn't what the archive knows of it, `Memory` where a growth was refused.
+/// order, as far as the two bear each other out; or which side lacks a stretch. An interval without a moment is asked of
+/// as it is, of the pair that shows its beginning. `Changed` or `Faulty` where a file isn't what the archive knows of
+/// it, `Memory` where a growth was refused.
 pub(crate) fn find<F: JournalFiles>(
     rt: &(impl Threads + Sync),
     alloc: Global,
     files: &F,
-    names: &[PathBuf],
     archive: &Archive,
     query: &Query,
-) -> Result<CommandOutput, FilesError>
-    ensures { IfOk result (IsFindTold (F.had files.now) names.now archive.now query.now) }
+) -> Result<FindAnswer, FilesError>
+    ensures query { IfOk result (λ answer. answer.query ≡ query.now) }
+    ensures found { IfOk result (λ answer. IsEvidence (F.had files.now) archive.now query.now answer.stretches.items) }
 {
-    let from = query.from.milliseconds();
-    if from >= query.to.milliseconds() {
-        let reply = ask_at(rt, alloc, files, archive, from, &Search::Find(*query))?;
-        let mut told = CommandOutput::nothing(alloc);
-        told.tell_more(alloc, names, &reply, &bounds_of(query), from)?;
-        return Ok(told);
-    }
-    let spans = archive.over(alloc, query.from, query.to, query.skew, query.transit)?;
-    let told = told_over(rt, alloc, files, names, archive, query, &spans)?;
-    Ok(told)
+    let stretches = stretches_for(rt, alloc, files, archive, query)?;
+    Ok(FindAnswer {
+        query: *query,
+        stretches,
+    })
 }

@@ -1,6 +1,6 @@
 -- What is found, as its text is read again.
-use Rattle.std.specs.Prelude.{◌≡◌, ◌↔◌, ℕ, ◌+◌, ◌<◌, ◌≤◌, List, [], Bool, true, false, IsTrue, Ok, Result}
-use Rattle.std.proofs.Common.{sym, ap, subst, ◌∙◌, inl}
+use Rattle.std.specs.Prelude.{◌≡◌, ◌↔◌, ℕ, ◌+◌, ◌<◌, ◌≤◌, List, Bool, true, false, IsTrue, Ok, Result}
+use Rattle.std.proofs.Common.{sym, ap, subst, ◌∙◌}
 use Rattle.causal_order.specs.declared.certificate.Certificate.{Certificate}
 use Rattle.causal_order.specs.declared.fault.CertificateFault.{CertificateFault}
 use Rattle.causal_order.specs.Journals.{Journals}
@@ -11,17 +11,8 @@ use Rattle.attribution.specs.FirstRefusal.{IsVerdict}
 use Rattle.plain_search.specs.declared.query.Query.{Query}
 use Rattle.plain_search.specs.declared.query.HolderQuery.{HolderQuery}
 use Rattle.evidence_search.specs.Claim.{Claims, between, held_by, IsNotTold, IsRound, IsWidest}
-use Rattle.attribution_desk.specs.declared.reading_again.ReadAgain.{ReadAgain}
-use Rattle.attribution_desk.specs.Find.{ClaimSame, IsReadAgain, IsOverLimits, IsFinding}
-use Rattle.attribution_desk.specs.Who.{IsHeldText, IsHolding}
-
--- what the certificate's text is read as, with that text
-abbrev pub IsAgainOf : Journals → (skew transit : ℕ) → Certificate → ReadAgain → Type 0
-IsAgainOf js skew transit found again =
-    IsReadAgain js skew transit found again.certificate × (again.text.items ≡ certificate_text found)
-
-abbrev pub NoneAgain : Journals → (skew transit : ℕ) → Certificate → Type 0
-NoneAgain js skew transit found = IsOverLimits js skew transit found
+use Rattle.attribution_desk.specs.Find.{ClaimSame, IsReadAgain, IsOverLimits, IsFound}
+use Rattle.attribution_desk.specs.Who.{IsHeld}
 
 one_again : (r : Result Certificate CertificateFault) (c d : Certificate) → r ≡ Ok c → r ≡ Ok d → c ≡ d
 one_again r c d is at = let e = sym is ∙ at in cc
@@ -39,11 +30,9 @@ not_again js skew transit found c text b read spelled decides isnt again h =
     ) in
     absurd (cc)
 
-pub finding : (js : Journals) (q : Query) (found again : Certificate) (text line : List ℕ) (status : ℕ) (note : List ℕ)
-    → Claims q found → IsReadAgain js q.skew q.transit found again → text ≡ certificate_text found
-    → (line ≡ text) × (status ≡ 0) × (note ≡ []) → IsFinding js q line status note
-finding js q found again text line status note claims h spelled says = inl record {
-  certificate = again;
+pub finding : (js : Journals) (q : Query) (found again : Certificate) → Claims q found
+    → IsReadAgain js q.skew q.transit found again → IsFound js q again
+finding js q found again claims h = record {
   claims = record {
     holder = h.same.0 ∙ claims.holder;
     prefix = h.same.1 ∙ claims.prefix;
@@ -51,15 +40,8 @@ finding js q found again text line status note claims h spelled says = inl recor
     to = h.same.3 ∙ claims.to;
   };
   shown = record { verdict = h.verdict };
-  spelled = says.0 ∙ (spelled ∙ h.spelled);
-  read = ap certificate_of (says.0 ∙ spelled) ∙ h.read;
-  found = says.1;
-  quiet = says.2;
+  read = ap certificate_of (sym h.spelled) ∙ h.read;
 }
-
-pub text_again : (js : Journals) (skew transit : ℕ) (found again : Certificate) (text : List ℕ)
-    → IsReadAgain js skew transit found again → text ≡ certificate_text found → text ≡ certificate_text again
-text_again js skew transit found again text h spelled = spelled ∙ h.spelled
 
 widest_again : (js : Journals) (q : HolderQuery) (found again : Certificate) → ClaimSame again found
     → IsWidest js q found → IsWidest js q again
@@ -71,12 +53,9 @@ widest_again js q found again same w = record {
       (subst (λ t. IsNotTold js (between (held_by q found.holder) found.from (t + 1))) (sym same.3) w.to));
 }
 
-pub holding : (js : Journals) (q : HolderQuery) (found again : Certificate) (text line : List ℕ) (status : ℕ)
-    (note : List ℕ) → IsRound q found → IsWidest js q found → IsReadAgain js q.skew q.transit found again
-    → IsHeldText again text
-    → (line ≡ text) × (status ≡ 0) × (note ≡ []) → IsHolding js q line status note
-holding js q found again text line status note round widest h held says = inl record {
-  certificate = again;
+pub holding : (js : Journals) (q : HolderQuery) (found again : Certificate) → IsRound q found → IsWidest js q found
+    → IsReadAgain js q.skew q.transit found again → IsHeld js q again
+holding js q found again round widest h = record {
   round = record {
     prefix = h.same.1 ∙ round.prefix;
     from = subst (λ f. f ≤ q.at) (sym h.same.2) round.from;
@@ -85,7 +64,4 @@ holding js q found again text line status note round widest h held says = inl re
   shown = record { verdict = h.verdict };
   widest = widest_again js q found again h.same widest;
   read = ap certificate_of (sym h.spelled) ∙ h.read;
-  spelled = subst (IsHeldText again) (sym says.0) held;
-  found = says.1;
-  quiet = says.2;
 }

@@ -30,11 +30,11 @@ use Rattle.attribution_desk.specs.Answer.{IsAnswerOf, IsDeskAnswer}
 use Rattle.attribution_desk.specs.Input.{first_text, text_behind}
 use Rattle.attribution_desk.specs.Batch.{AreRuled, status_of_all, IsBatch}
 use Rattle.attribution_desk.specs.Running.{IsWritten}
-use Rattle.attribution_desk.specs.Headline.{IsTrueOfTexts, AreTrueInEveryRun}
+use Rattle.attribution_desk.specs.Headline.{IsTrueOfTexts, AreTrueInEveryRun, WritesTrue}
 
 -- ---- status 0 is that the certificate is accepted
 
-accepts : (v : VerdictValue) → verdict_status v ≡ 0 → v ≡ Accepted
+pub accepts : (v : VerdictValue) → verdict_status v ≡ 0 → v ≡ Accepted
 accepts Accepted e = refl
 accepts (Journal side fault) e = absurd (omega (arith, e))
 accepts (Certificate fault) e = absurd (omega (arith, e))
@@ -153,11 +153,23 @@ module _ (law : AcceptedTextsAreTrue) where
 
 -- ---- of what was written where it is known what the reader had to give
 
-pub true_of_written : (answers : List ℕ → List ℕ → ℕ → Type 0) (says : List ℕ → Type 0)
-    → ((input text : List ℕ) (status : ℕ) → answers input text status → status ≡ 0 → says input)
+pub true_of_written : (answers : List ℕ → List ℕ → ℕ → Type 0) (says : List ℕ → List ℕ → Type 0)
+    → ((input text : List ℕ) (status : ℕ) → answers input text status → status ≡ 0 → says input text)
     → (given held now : Option (List ℕ)) (r : Result DeskOutcome DeskError)
     → IfOk r (λ outcome. IsWritten answers given held now outcome.status)
-    → IfOk r (λ outcome. outcome.status ≡ 0 → IfSome given says)
+    → IfOk r (λ outcome. outcome.status ≡ 0 → WritesTrue says given held now)
 true_of_written answers says by None held now (Ok outcome) h = λ none. tt
-true_of_written answers says by (Some input) held now (Ok outcome) h = λ none. by input h.0 outcome.status h.1 none
+true_of_written answers says by (Some input) held now (Ok outcome) h =
+    λ none. (h.0, by input h.0 outcome.status h.1 none, h.2)
 true_of_written answers says by given held now (Err e) h = tt
+
+-- of a search the answer depends on what is warned of
+pub found_of_written : (answers : List ℕ → List ℕ → List ℕ → ℕ → Type 0) (says : List ℕ → List ℕ → Type 0)
+    → ((input notes text : List ℕ) (status : ℕ) → answers input notes text status → status ≡ 0 → says input text)
+    → (given held now : Option (List ℕ)) (r : Result DeskOutcome DeskError)
+    → IfOk r (λ outcome. IsWritten (λ input. answers input outcome.warnings.items) given held now outcome.status)
+    → IfOk r (λ outcome. outcome.status ≡ 0 → WritesTrue says given held now)
+found_of_written answers says by None held now (Ok outcome) h = λ none. tt
+found_of_written answers says by (Some input) held now (Ok outcome) h =
+    λ none. (h.0, by input outcome.warnings.items h.0 outcome.status h.1 none, h.2)
+found_of_written answers says by given held now (Err e) h = tt

@@ -6,15 +6,10 @@ use Rattle.certificate.specs.Spelling.{certificate_text}
 use Rattle.certificate.specs.Faults.{certificate_of}
 use Rattle.attribution.specs.declared.verdict.Verdict.TheVariants.{Accepted}
 use Rattle.attribution.specs.FirstRefusal.{IsVerdict}
-use Rattle.pair_judgement.specs.declared.judging.Judgement.{Judgement}
-use Rattle.pair_judgement.specs.Judgements.{judgement_line, status_of}
 use Rattle.plain_search.specs.declared.query.Query.{Query}
 use Rattle.evidence_search.specs.Claim.{Claims, IsAuditorAccepted, HasNoPlainEvidence, IsTooLong}
-
--- the line and the status of a ruling on the journals
-pub record IsRulingText (r : Judgement) (text : List ℕ) (status : ℕ) : Type 0 where
-  pub line : text ≡ judgement_line r
-  pub gives : status ≡ status_of r
+use Rattle.attribution_desk.specs.declared.finding.Finding.{Finding}
+use Rattle.attribution_desk.specs.declared.finding.Finding.TheVariants.{Shown, NoneFound, TooLong}
 
 -- the same client, prefix and interval
 abbrev pub ClaimSame : Certificate → Certificate → Type 0
@@ -36,41 +31,41 @@ abbrev pub over_limits : List ℕ
 over_limits = codes "warning Length: the evidence that was found has more lines than a certificate may have, 65536\n"
 
 -- a certificate that claims what is asked and that an auditor accepts, which is what its text is read as
-pub record IsFound (js : Journals) (q : Query) (text : List ℕ) (status : ℕ) (note : List ℕ) : Type 0 where
-  pub certificate : Certificate
-  pub claims : Claims q certificate
-  pub shown : IsAuditorAccepted js q certificate
-  pub spelled : text ≡ certificate_text certificate
-  pub read : certificate_of text ≡ Ok certificate
-  pub found : status ≡ 0
-  pub quiet : note ≡ []
+pub record IsFound (js : Journals) (q : Query) (c : Certificate) : Type 0 where
+  pub claims : Claims q c
+  pub shown : IsAuditorAccepted js q c
+  pub read : certificate_of (certificate_text c) ≡ Ok c
 
--- `none`, where no plain one is accepted
-pub record IsNoneFound (js : Journals) (q : Query) (text : List ℕ) (status : ℕ) (note : List ℕ) : Type 0 where
-  pub none : HasNoPlainEvidence js q
-  pub word : text ≡ codes "none\n"
-  pub missed : status ≡ 1
-  pub quiet : note ≡ []
-
--- `none` too, and a line for a person, where one is accepted whose text is over the limits
-pub record IsNotGiven (js : Journals) (q : Query) (text : List ℕ) (status : ℕ) (note : List ℕ) : Type 0 where
+-- one is accepted, and its text is over the limits
+pub record IsNotGiven (js : Journals) (q : Query) : Type 0 where
   pub certificate : Certificate
   pub claims : Claims q certificate
   pub shown : IsAuditorAccepted js q certificate
   pub over : IsOverLimits js q.skew q.transit certificate
-  pub word : text ≡ codes "none\n"
-  pub missed : status ≡ 1
-  pub says : note ≡ over_limits
 
--- the same, where single lines show it by more lines than a certificate's text may have
-pub record IsTooMuch (js : Journals) (q : Query) (text : List ℕ) (status : ℕ) (note : List ℕ) : Type 0 where
-  pub long : IsTooLong js q
-  pub word : text ≡ codes "none\n"
-  pub missed : status ≡ 1
-  pub says : note ≡ over_limits
+-- the evidence; or none, where no plain one is accepted; or too long, where the text of one that is accepted is over the
+-- limits, or where single lines show it by more lines than a certificate's text may have
+abbrev pub IsFinding : Journals → Query → Finding → Type 0
+IsFinding js q (Shown c) = IsFound js q c
+IsFinding js q NoneFound = HasNoPlainEvidence js q
+IsFinding js q TooLong = IsNotGiven js q ⊎ IsTooLong js q
 
-abbrev pub IsFinding : Journals → Query → List ℕ → ℕ → List ℕ → Type 0
-IsFinding js q text status note =
-    IsFound js q text status note
-    ⊎ (IsNoneFound js q text status note
-    ⊎ (IsNotGiven js q text status note ⊎ IsTooMuch js q text status note))
+-- ---- how it is written
+
+-- the certificate's text, or that there is none
+abbrev pub evidence_text : Finding → List ℕ
+evidence_text (Shown c) = certificate_text c
+evidence_text NoneFound = codes "none\n"
+evidence_text TooLong = codes "none\n"
+
+-- 0 where evidence was found
+abbrev pub finding_status : Finding → ℕ
+finding_status (Shown c) = 0
+finding_status NoneFound = 1
+finding_status TooLong = 1
+
+-- a line for a person, where what was found isn't given
+abbrev pub finding_note : Finding → List ℕ
+finding_note (Shown c) = []
+finding_note NoneFound = []
+finding_note TooLong = over_limits

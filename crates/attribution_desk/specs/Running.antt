@@ -7,7 +7,7 @@ use Rattle.attribution_desk.specs.Answer.{IsDeskAnswer}
 use Rattle.attribution_desk.specs.Batch.{IsBatch}
 use Rattle.attribution_desk.specs.Timeline.{IsTimeline}
 use Rattle.attribution_desk.specs.Clocks.{IsClocks}
-use Rattle.attribution_desk.specs.declared.searching.Search.TheVariants.{Find as FindEvidence, Who as FindHolder}
+use Rattle.attribution_desk.specs.declared.search.Search.TheVariants.{Find as FindEvidence, Who as FindHolder}
 use Rattle.attribution_desk.specs.Searching.{IsSearchTold}
 
 -- the text and the status with which a command answers this input; a search's warnings belong to its answer

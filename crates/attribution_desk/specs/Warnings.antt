@@ -7,8 +7,8 @@ use Rattle.journal_text.specs.Faults.{journal_of_side}
 use Rattle.pair_judgement.specs.Ties.{IsWarning}
 use Rattle.desk_args.specs.declared.command.Command.{Command}
 use Rattle.desk_args.specs.declared.command.Command.TheVariants.{Audit, Batch, Timeline, Clocks, Find, Who}
-use Rattle.attribution_desk.specs.declared.searching.Search.{Search}
-use Rattle.attribution_desk.specs.declared.searching.Search.TheVariants.{Find as FindEvidence, Who as FindHolder}
+use Rattle.attribution_desk.specs.declared.search.Search.{Search}
+use Rattle.attribution_desk.specs.declared.search.Search.TheVariants.{Find as FindEvidence, Who as FindHolder}
 use Rattle.attribution_desk.specs.Input.{first_text, text_behind}
 
 -- of what two texts are as journals; none where one is no journal

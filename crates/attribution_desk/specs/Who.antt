@@ -8,7 +8,9 @@ use Rattle.certificate.specs.Spelling.{line_text, holder_words, interval_words, 
 use Rattle.certificate.specs.Faults.{certificate_of}
 use Rattle.plain_search.specs.declared.query.HolderQuery.{HolderQuery}
 use Rattle.evidence_search.specs.Claim.{IsRound, IsAcceptedOf, IsWidest, HasNoPlainHolder, IsTooLongOfOne}
-use Rattle.attribution_desk.specs.Find.{IsOverLimits, over_limits}
+use Rattle.attribution_desk.specs.declared.finding.Finding.{Finding}
+use Rattle.attribution_desk.specs.declared.finding.Finding.TheVariants.{Shown, NoneFound, TooLong}
+use Rattle.attribution_desk.specs.Find.{IsOverLimits}
 
 -- the interval as clocks show its ends
 abbrev pub times_words : (from to : List ℕ) → List (List ℕ)
@@ -29,42 +31,29 @@ pub record IsHeldText (c : Certificate) (text : List ℕ) : Type 0 where
 
 -- a certificate of the prefix round the moment that an auditor accepts, and the widest that plain evidence shows in as
 -- many lines as a text may have; it is what its text is read as
-pub record IsHeld (js : Journals) (q : HolderQuery) (text : List ℕ) (status : ℕ) (note : List ℕ) : Type 0 where
-  pub certificate : Certificate
-  pub round : IsRound q certificate
-  pub shown : IsAcceptedOf js q certificate
-  pub widest : IsWidest js q certificate
-  pub read : certificate_of (certificate_text certificate) ≡ Ok certificate
-  pub spelled : IsHeldText certificate text
-  pub found : status ≡ 0
-  pub quiet : note ≡ []
+pub record IsHeld (js : Journals) (q : HolderQuery) (c : Certificate) : Type 0 where
+  pub round : IsRound q c
+  pub shown : IsAcceptedOf js q c
+  pub widest : IsWidest js q c
+  pub read : certificate_of (certificate_text c) ≡ Ok c
 
--- `none`, where no plain one of any client's is accepted
-pub record IsNoneHeld (js : Journals) (q : HolderQuery) (text : List ℕ) (status : ℕ) (note : List ℕ) : Type 0 where
-  pub none : HasNoPlainHolder js q
-  pub word : text ≡ codes "none\n"
-  pub missed : status ≡ 1
-  pub quiet : note ≡ []
-
--- `none` too, and a line for a person, where one is accepted whose text is over the limits
-pub record IsNotNamed (js : Journals) (q : HolderQuery) (text : List ℕ) (status : ℕ) (note : List ℕ) : Type 0 where
+-- one is accepted, and its text is over the limits
+pub record IsNotNamed (js : Journals) (q : HolderQuery) : Type 0 where
   pub certificate : Certificate
   pub round : IsRound q certificate
   pub shown : IsAcceptedOf js q certificate
   pub over : IsOverLimits js q.skew q.transit certificate
-  pub word : text ≡ codes "none\n"
-  pub missed : status ≡ 1
-  pub says : note ≡ over_limits
 
--- the same, where single lines show it for some client by more lines than a certificate's text may have
-pub record IsTooMuchToName (js : Journals) (q : HolderQuery) (text : List ℕ) (status : ℕ) (note : List ℕ) : Type 0 where
-  pub long : IsTooLongOfOne js q
-  pub word : text ≡ codes "none\n"
-  pub missed : status ≡ 1
-  pub says : note ≡ over_limits
+-- the evidence of who held it; or none, where no plain one of any client's is accepted; or too long, where the text of
+-- one that is accepted is over the limits, or where single lines show it for some client by more lines than a
+-- certificate's text may have
+abbrev pub IsHolding : Journals → HolderQuery → Finding → Type 0
+IsHolding js q (Shown c) = IsHeld js q c
+IsHolding js q NoneFound = HasNoPlainHolder js q
+IsHolding js q TooLong = IsNotNamed js q ⊎ IsTooLongOfOne js q
 
-abbrev pub IsHolding : Journals → HolderQuery → List ℕ → ℕ → List ℕ → Type 0
-IsHolding js q text status note =
-    IsHeld js q text status note
-    ⊎ (IsNoneHeld js q text status note
-    ⊎ (IsNotNamed js q text status note ⊎ IsTooMuchToName js q text status note))
+-- how it is written: those lines and the certificate, or that there is none
+abbrev pub TellsHolder : Finding → List ℕ → Type 0
+TellsHolder (Shown c) text = IsHeldText c text
+TellsHolder NoneFound text = text ≡ codes "none\n"
+TellsHolder TooLong text = text ≡ codes "none\n"

@@ -2,7 +2,7 @@
 
 ghost use Rattle.std.specs.Prelude.{◌≡◌, ◌++◌, ◌∷◌, [], IfOk, IfErr, OnOk};
 ghost use Rattle.text_fields.specs.Cuts.{with_stops};
-ghost use Rattle.certificate.specs.Spelling.{line_text, holder_words, interval_words, certificate_text};
+ghost use Rattle.certificate.specs.Spelling.{line_text, holder_words, interval_words};
 ghost use Rattle.time_text.specs.Time.{IsTimeText};
 ghost use Rattle.attribution_desk.specs.Who.{times_words, held_lines, IsHeldText};
 
@@ -71,20 +71,19 @@ fn time_of(alloc: Global, moment: Reading) -> Result<Vec<u8>, AllocError>
     Ok(text)
 }
 
-/// Who held the prefix and when, in three lines, and the certificate's text behind them.
-pub(crate) fn held_text(
-    alloc: Global,
-    certificate: &Certificate,
-    text: &[u8],
-) -> Result<Vec<u8>, DeskError>
-    requires { text.now ≡ certificate_text certificate.now }
+/// Who held the prefix and when, in three lines, and the certificate's text behind them. `Memory` where a growth was
+/// refused.
+pub fn held_text(alloc: Global, certificate: &Certificate) -> Result<Vec<u8>, DeskError>
     ensures text { IfOk result (λ text. IsHeldText certificate.now text.items) }
     ensures refused { IfErr result (λ e. e ≡ DeskError.Memory) }
 {
+    let Ok(text) = certificate::write(alloc, certificate) else {
+        return Err(DeskError::Memory);
+    };
     let from = time_of(alloc, certificate.from)?;
     let to = time_of(alloc, certificate.to)?;
     let mut out = Vec::new(alloc);
     add_held(&mut out, certificate, &from, &to)?;
-    out.extend_from_slice(text)?;
+    out.extend_from_slice(&text)?;
     Ok(out)
 }

@@ -50,7 +50,8 @@ pub fn judge_journals(
 
 /// The ruling on what two texts are as journals and on a certificate's text: the first of the faults of A's journal,
 /// of B's and of the certificate's text, then what stands against the two journals, then the verdict of `audit`.
-pub(crate) fn judge_parsed(
+/// `Memory` where a growth was refused.
+pub fn judge_parsed(
     rt: &(impl Threads + Sync),
     alloc: Global,
     a: Result<Journal, JournalFault>,

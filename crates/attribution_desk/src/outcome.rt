@@ -31,8 +31,8 @@ impl DeskOutcome {
     }
 }
 
-/// The warnings on what two texts are as journals; none where one isn't.
-pub(crate) fn warnings_on(
+/// The warnings on what two texts are as journals; none where one isn't. `Memory` where a growth was refused.
+pub fn warnings_on(
     alloc: Global,
     a: &Result<Journal, JournalFault>,
     b: &Result<Journal, JournalFault>,

@@ -2,7 +2,6 @@
 
 ghost use Rattle.std.specs.Prelude.{◌≡◌, ◌↔◌, IsTrue, IfOk, IfErr, MatchOption};
 ghost use Rattle.attribution.specs.FirstRefusal.{IsVerdict};
-ghost use Rattle.certificate.specs.Spelling.{certificate_text};
 ghost use Rattle.attribution_desk.specs.Find.{ClaimSame, IsReadAgain, IsOverLimits};
 
 use crate::error::DeskError;
@@ -11,13 +10,6 @@ use auditor::{LineSource, audit};
 use certificate::{Certificate, CertificateError};
 use lead_time::{Skew, Transit};
 use std::alloc::Global;
-
-/// A certificate as its text is read, and that text.
-#[derive(Drop)]
-pub(crate) struct ReadAgain {
-    pub(crate) certificate: Certificate,
-    pub(crate) text: Vec<u8>,
-}
 
 /// Returns whether two certificates claim the same.
 fn claim_same(one: &Certificate, other: &Certificate) -> bool
@@ -70,11 +62,10 @@ pub(crate) fn read_again<S: LineSource>(
     found: &Certificate,
     skew: Skew,
     transit: Transit,
-) -> Result<Option<ReadAgain>, DeskError>
+) -> Result<Option<Certificate>, DeskError>
     ensures again { IfOk result (λ o. MatchOption o
         (IsOverLimits (S.journals source.now) skew transit found.now)
-        (λ again. IsReadAgain (S.journals source.now) skew transit found.now again.certificate
-        × (again.text.items ≡ certificate_text found.now))) }
+        (IsReadAgain (S.journals source.now) skew transit found.now)) }
     ensures refused { IfErr result (λ e. e ≡ DeskError.Memory) }
 {
     let Ok(text) = certificate::write(alloc, found) else {
@@ -83,7 +74,7 @@ pub(crate) fn read_again<S: LineSource>(
     match certificate::read(alloc, &text) {
         Ok(certificate) => {
             if is_again(source, &certificate, found, skew, transit) {
-                return Ok(Some(ReadAgain { certificate, text }));
+                return Ok(Some(certificate));
             }
             Ok(None)
         }

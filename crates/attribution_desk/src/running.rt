@@ -2,7 +2,7 @@
 
 ghost use Rattle.std.specs.Prelude.{◌≡◌, ◌≢◌, ◌⊎◌, true, IfOk, IfSome, IsErrOf, IfErr};
 ghost use Rattle.attribution_desk.specs.Running.{IsCommandOutput, IsWritten};
-ghost use Rattle.attribution_desk.specs.Headline.{SaysTrue};
+ghost use Rattle.attribution_desk.specs.Headline.{SaysTrue, WritesTrue};
 ghost use Rattle.attribution_desk.specs.Warnings.{Warns};
 
 use crate::audit::audit_input;
@@ -10,10 +10,12 @@ use crate::batch::batch_input;
 use crate::clocks::clocks_input;
 use crate::error::DeskError;
 use crate::outcome::DeskOutcome;
-use crate::searching::{Search, search_input};
+use crate::search::Search;
+use crate::searching::search_input;
 use crate::timelines::timeline_input;
 use crate::watched::Watched;
 use auditor::accepted_texts_are_true;
+use certificate::certificates_are_spelled;
 use desk_args::Command;
 use std::alloc::Global;
 use std::io::{Read, Write};
@@ -35,10 +37,11 @@ pub fn run<T: Threads + Wait + Sync, R: Read, W: Write>(
         (W.contents writer.old.device) (W.contents writer.new.device) outcome.status) }
     ensures warned { IfOk result (λ outcome. IfSome (R.remaining reader.old.device)
         (λ input. Warns command.now input outcome.warnings.items)) }
-    // Where it is known what the reader had to give, each certificate that status 0 is said of is true in every run of
-    // the pair that leaves the journals.
+    // Where it is known what the reader had to give, each certificate that status 0 is said of, and each that is found,
+    // is true in every run of the pair that leaves the journals; so is the holder who is named with it.
     ensures headline { IfOk result (λ outcome. outcome.status ≡ 0
-        → IfSome (R.remaining reader.old.device) (SaysTrue command.now)) }
+        → WritesTrue (SaysTrue command.now) (R.remaining reader.old.device) (W.contents writer.old.device)
+        (W.contents writer.new.device)) }
     // A reader that is well and has turns left isn't blamed, nor is a writer that is well.
     ensures read { IsErrOf result DeskError.Read → (reader.new.failed ≡ true) ⊎ (reader.new.turns ≡ 0) }
     ensures write { IsErrOf result DeskError.Write → writer.new.failed ≡ true }
@@ -46,6 +49,7 @@ pub fn run<T: Threads + Wait + Sync, R: Read, W: Write>(
     ensures kept { IfErr result (λ e. e ≢ DeskError.Write → writer.new ≡ writer.old) }
 {
     accepted_texts_are_true();
+    certificates_are_spelled();
     match command {
         Command::Audit { skew, transit } => audit_input(rt, alloc, *skew, *transit, reader, writer),
         Command::Batch {

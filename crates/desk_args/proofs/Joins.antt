@@ -1,6 +1,6 @@
 -- What the words of `join` can't be.
-use Rattle.std.specs.Prelude.{◌≡◌, ℕ, ◌≤◌, ◌<◌, ◌^◌, Option, Some, None, codes}
-use Rattle.std.proofs.Common.{ap, arith, sym, ◌∙◌, refl, subst}
+use Rattle.std.specs.Prelude.{◌≡◌, ℕ, Option, Some, None}
+use Rattle.std.proofs.Common.{ap, arith, refl, subst}
 use Rattle.clap.specs.Words.{Text}
 use Rattle.binding_rules.specs.declared.role.Role.{Role}
 use Rattle.binding_rules.specs.declared.role.Role.TheVariants.{Primary, Secondary}

@@ -1,6 +1,9 @@
 pub mod Words
+pub mod Surrounding
 pub mod Given
 pub mod Joins
 pub mod Requests
 pub mod Sources
+pub mod Asides
+pub mod Outlines
 pub mod Orders

@@ -1,5 +1,5 @@
 -- What the words of a command line ask, and in which form it is answered.
-use Rattle.std.specs.Prelude.{◌≡◌, List, Option, Some, None, codes}
+use Rattle.std.specs.Prelude.{◌≡◌, List, Some, codes}
 use Rattle.std.specs.Option.{option_map}
 use Rattle.clap.specs.Words.{Row, Text, first_of}
 use Rattle.desk_args.specs.declared.request.AnswerForm.{AnswerForm}
@@ -8,7 +8,8 @@ use Rattle.desk_args.specs.declared.request.ReportForm.{ReportForm}
 use Rattle.desk_args.specs.declared.request.ReportForm.TheVariants.{Plain, Page, Json}
 use Rattle.desk_args.specs.declared.request.ReportOptions.{ReportOptions}
 use Rattle.desk_args.specs.declared.request.DeskRequest.{DeskRequest}
-use Rattle.desk_args.specs.declared.request.DeskRequest.TheVariants.{Answer, Explain, ExplainHolder, Join}
+use Rattle.desk_args.specs.declared.request.DeskRequest.TheVariants.{Answer, Explain, ExplainHolder, Join, Volumes}
+use Rattle.desk_args.specs.Surrounding.{Around}
 use Rattle.desk_args.specs.Given.{IsSkew, IsTransit, IsHolderQuery, IsSettings, IsGiven}
 use Rattle.desk_args.specs.Joins.{IsJoinQuery}
 
@@ -34,7 +35,6 @@ pub record IsTelling (rows : List Row) (telling : ReportOptions) : Type 0 where
 pub record AsksNoReport (rows : List Row) : Type 0 where
   pub unexplained : IsUnset (codes "explain") rows
   pub no_page : IsUnset (codes "html") rows
-  pub no_zone : first_of (codes "zone") rows ≡ None
 
 -- `--json`, or nothing of it
 abbrev pub IsAnswerForm : List Row → AnswerForm → Type 0
@@ -42,16 +42,17 @@ IsAnswerForm rows PlainAnswer = AsksNoReport rows × IsUnset (codes "json") rows
 IsAnswerForm rows JsonAnswer = AsksNoReport rows × IsSet (codes "json") rows
 
 -- the subcommand of this name and the values of its options ask this
-abbrev pub IsAsked : Text × List Row → DeskRequest → Type 0
-IsAsked found (Answer command form) = IsGiven (Some found) command × IsAnswerForm found.1 form
-IsAsked found (Explain skew transit telling) =
-    (found.0 ≡ codes "explain") × IsSkew (first_of (codes "skew-ms") found.1) skew
-    × IsTransit (first_of (codes "transit-ms") found.1) transit × IsTelling found.1 telling
-IsAsked found (ExplainHolder query settings telling) =
-    (found.0 ≡ codes "who") × IsSet (codes "explain") found.1 × IsHolderQuery found.1 query
+abbrev pub IsAsked : Around → Text × List Row → DeskRequest → Type 0
+IsAsked around found (Answer command form) = IsGiven around (Some found) command × IsAnswerForm found.1 form
+IsAsked around found (Explain skew transit telling) =
+    (found.0 ≡ codes "explain") × IsSkew around.heads (first_of (codes "skew-ms") found.1) skew
+    × IsTransit around.heads (first_of (codes "transit-ms") found.1) transit × IsTelling found.1 telling
+IsAsked around found (ExplainHolder query settings telling) =
+    (found.0 ≡ codes "who") × IsSet (codes "explain") found.1 × IsHolderQuery around found.1 query
     × IsSettings (first_of (codes "settings-differ") found.1) settings × IsTelling found.1 telling
-IsAsked found (Join query) = (found.0 ≡ codes "join") × IsJoinQuery found.1 query
+IsAsked around found (Join query) = (found.0 ≡ codes "join") × IsJoinQuery found.1 query
+IsAsked around found Volumes = found.0 ≡ codes "volumes"
 
 -- they ask nothing
-abbrev pub IsNoRequest : Text × List Row → Type 0
-IsNoRequest found = (request : DeskRequest) → IsAsked found request → ⊥
+abbrev pub IsNoRequest : Around → Text × List Row → Type 0
+IsNoRequest around found = (request : DeskRequest) → IsAsked around found request → ⊥

@@ -2,6 +2,7 @@
 use Rattle.std.specs.Prelude.{ℕ, List, [], Some, Bool, true, false, codes}
 use Rattle.clap.specs.Words.{App, Rule, new_app, new_rule, with_rule, with_subcommand}
 use Rattle.clap.specs.declared.builder.ArgAction.TheVariants.{Set, Append, SetTrue}
+use Rattle.clap.specs.declared.builder.range.ValueRange.{ValueRange}
 
 -- an option with a value, which must be given where it is required
 abbrev pub option_rule : List ℕ → Bool → Rule
@@ -11,21 +12,36 @@ option_rule name required = record (new_rule name) { long = Some name; required 
 abbrev pub flag_rule : List ℕ → Rule
 flag_rule name = record (new_rule name) { long = Some name; action = Some SetTrue }
 
--- an option with a value, which may be given again, and must be given where it is required
+-- one value or two
+abbrev pub one_or_two : ValueRange
+one_or_two = record { start_inclusive = 1; end_inclusive = 2 }
+
+-- an option with a value or two, which may be given again, and must be given where it is required
 abbrev pub list_rule : List ℕ → Bool → Rule
-list_rule name required = record (new_rule name) { long = Some name; required = required; action = Some Append }
+list_rule name required =
+    record (new_rule name) { long = Some name; required = required; action = Some Append; range = Some one_or_two }
+
+-- a word by its place
+abbrev pub place_rule : List ℕ → Rule
+place_rule name = record (new_rule name) { action = Some Set }
+
+-- journals from files: and of those that are passed over each is told, or how many there are
+abbrev pub from_files : Bool → App → App
+from_files required app =
+    with_rule (with_rule app (list_rule (codes "journals") required)) (flag_rule (codes "verbose"))
 
 -- the command takes its journals from files too
 abbrev pub with_journals : App → App
-with_journals app = with_rule app (list_rule (codes "journals") false)
+with_journals app = from_files false app
 
 -- from files alone
 abbrev pub over_journals : App → App
-over_journals app = with_rule app (list_rule (codes "journals") true)
+over_journals app = from_files true app
 
--- and its certificates
+-- and its certificates, which may be over these volumes
 abbrev pub with_certificate : App → App
-with_certificate app = with_rule (with_journals app) (option_rule (codes "certificate") false)
+with_certificate app =
+    with_rule (with_rule (with_journals app) (option_rule (codes "certificate") false)) (option_rule (codes "volumes") false)
 
 -- its answer may be one JSON object
 abbrev pub with_json : App → App
@@ -39,7 +55,7 @@ with_telling app =
 -- a certificate over two journals, and the bounds on clocks and answers
 abbrev pub claim_app : List ℕ → App
 claim_app name =
-    with_certificate (with_rule (with_rule (new_app name) (option_rule (codes "skew-ms") true))
+    with_certificate (with_rule (with_rule (new_app name) (option_rule (codes "skew-ms") false))
     (option_rule (codes "transit-ms") false))
 
 abbrev pub audit_app : App
@@ -50,19 +66,19 @@ explain_app = with_telling (claim_app (codes "explain"))
 
 abbrev pub batch_app : App
 batch_app =
-    with_certificate (with_rule (with_rule (with_rule (new_app (codes "batch")) (option_rule (codes "skew-ms") true))
+    with_certificate (with_rule (with_rule (with_rule (new_app (codes "batch")) (option_rule (codes "skew-ms") false))
     (option_rule (codes "workers") true)) (option_rule (codes "transit-ms") false))
 
 -- who is asked of, and what
 abbrev pub asking_app : App
 asking_app =
-    with_rule (with_rule (with_rule (new_app (codes "find")) (option_rule (codes "skew-ms") true))
+    with_rule (with_rule (with_rule (new_app (codes "find")) (option_rule (codes "skew-ms") false))
     (option_rule (codes "holder") true)) (option_rule (codes "prefix") true)
 
 abbrev pub find_app : App
 find_app =
-    with_json (with_journals (with_rule (with_rule (with_rule asking_app (option_rule (codes "from") true))
-    (option_rule (codes "to") true)) (option_rule (codes "transit-ms") false)))
+    with_json (with_rule (with_journals (with_rule (with_rule (with_rule asking_app (option_rule (codes "from") true))
+    (option_rule (codes "to") true)) (option_rule (codes "transit-ms") false))) (option_rule (codes "zone") false))
 
 -- a subcommand has to be named
 abbrev pub bare : App
@@ -78,15 +94,20 @@ judging_app = with_subcommand (with_subcommand bare audit_app.top) batch_app.top
 abbrev pub claims_app : App
 claims_app = with_subcommand judging_app explain_app.top
 
--- which prefix is asked of, and at which moment
+-- which prefix is asked of, and at which moment: by options, or by two words
 abbrev pub moment_app : App
 moment_app =
-    with_rule (with_rule (with_rule (new_app (codes "who")) (option_rule (codes "skew-ms") true))
-    (option_rule (codes "prefix") true)) (option_rule (codes "at") true)
+    with_rule (with_rule (with_rule (with_rule (with_rule (new_app (codes "who")) (option_rule (codes "skew-ms") false))
+    (option_rule (codes "prefix") false)) (option_rule (codes "at") false)) (place_rule (codes "address")))
+    (place_rule (codes "time"))
+
+-- and the moments round it for which the answer must hold
+abbrev pub span_app : App
+span_app = with_rule (with_rule moment_app (option_rule (codes "within") false)) (flag_rule (codes "minute"))
 
 abbrev pub who_app : App
 who_app =
-    with_telling (with_rule (with_journals (with_rule (with_rule moment_app (option_rule (codes "transit-ms") false))
+    with_telling (with_rule (with_journals (with_rule (with_rule span_app (option_rule (codes "transit-ms") false))
     (flag_rule (codes "settings-differ")))) (flag_rule (codes "explain")))
 
 abbrev pub timeline_app : App
@@ -104,5 +125,9 @@ searching_app = with_subcommand (with_subcommand claims_app find_app.top) who_ap
 abbrev pub showing_app : App
 showing_app = with_subcommand (with_subcommand searching_app timeline_app.top) (new_app (codes "clocks")).top
 
+-- which volumes files have
+abbrev pub volumes_app : App
+volumes_app = over_journals (new_app (codes "volumes"))
+
 abbrev pub desk : App
-desk = with_subcommand showing_app join_app.top
+desk = with_subcommand (with_subcommand showing_app join_app.top) volumes_app.top

@@ -3,7 +3,8 @@
 ghost use Rattle.std.specs.Prelude.{◌≡◌, IfOk, codes, false};
 ghost use Rattle.clap.specs.Words.{app_of, rule_of, with_rule};
 ghost use Rattle.clap.specs.declared.builder.command.Command.TheViews.{out-Command};
-ghost use Rattle.desk_args.specs.Words.{option_rule, flag_rule, list_rule, with_journals, over_journals};
+ghost use Rattle.desk_args.specs.Words.{option_rule, flag_rule, list_rule, place_rule};
+ghost use Rattle.desk_args.specs.Words.{from_files, with_journals, over_journals};
 
 use clap::{Arg, ArgAction, Command as ClapCommand};
 use std::alloc::{AllocError, Global};
@@ -54,7 +55,28 @@ pub(crate) fn with_flag<'a>(
     command.arg(flag_option(alloc, name))
 }
 
-/// An option with a value, which may be given again.
+/// A word by its place.
+fn place<'a>(alloc: Global, name: &'a str) -> Arg<'a>
+    ensures rule { rule_of result ≡ place_rule name.entry.now }
+    ensures local { result.global ≡ false }
+{
+    Arg::new(alloc, name).action(ArgAction::Set)
+}
+
+/// A command with one word more, by its place.
+pub(crate) fn with_place<'a>(
+    alloc: Global,
+    command: ClapCommand<'a>,
+    name: &'a str,
+) -> Result<ClapCommand<'a>, AllocError>
+    ensures app { IfOk result (λ c. app_of c ≡ with_rule (app_of command.entry) (place_rule name.entry.now)) }
+    ensures local { (out-Command command.entry).has_globals ≡ false
+        → IfOk result (λ c. (out-Command c).has_globals ≡ false) }
+{
+    command.arg(place(alloc, name))
+}
+
+/// An option with a value or two, which may be given again.
 fn list_option<'a>(alloc: Global, name: &'a str, required: bool) -> Arg<'a>
     ensures rule { rule_of result ≡ list_rule name.entry.now required }
     ensures local { result.global ≡ false }
@@ -62,10 +84,25 @@ fn list_option<'a>(alloc: Global, name: &'a str, required: bool) -> Arg<'a>
     Arg::new(alloc, name)
         .long(name)
         .required(required)
+        .num_args(1..=2)
         .action(ArgAction::Append)
 }
 
-/// A command with `[--journals PATH]..`.
+/// A command with `[--journals PATH [PATH]].. [--verbose]`.
+fn from_files<'a>(
+    alloc: Global,
+    command: ClapCommand<'a>,
+    required: bool,
+) -> Result<ClapCommand<'a>, AllocError>
+    ensures app { IfOk result (λ c. app_of c ≡ from_files required (app_of command.entry)) }
+    ensures local { (out-Command command.entry).has_globals ≡ false
+        → IfOk result (λ c. (out-Command c).has_globals ≡ false) }
+{
+    let command = command.arg(list_option(alloc, "journals", required))?;
+    with_flag(alloc, command, "verbose")
+}
+
+/// A command with `[--journals PATH [PATH]].. [--verbose]`.
 pub(crate) fn with_journals<'a>(
     alloc: Global,
     command: ClapCommand<'a>,
@@ -74,10 +111,10 @@ pub(crate) fn with_journals<'a>(
     ensures local { (out-Command command.entry).has_globals ≡ false
         → IfOk result (λ c. (out-Command c).has_globals ≡ false) }
 {
-    command.arg(list_option(alloc, "journals", false))
+    from_files(alloc, command, false)
 }
 
-/// A command with `--journals PATH..`, of which there is one at least.
+/// A command with `--journals PATH [PATH].. [--verbose]`, of which there is one path at least.
 pub(crate) fn over_journals<'a>(
     alloc: Global,
     command: ClapCommand<'a>,
@@ -86,5 +123,5 @@ pub(crate) fn over_journals<'a>(
     ensures local { (out-Command command.entry).has_globals ≡ false
         → IfOk result (λ c. (out-Command c).has_globals ≡ false) }
 {
-    command.arg(list_option(alloc, "journals", true))
+    from_files(alloc, command, true)
 }

@@ -2,18 +2,22 @@
 
 ghost use Rattle.std.specs.Prelude.{◌≡◌, ◌≢◌, ℕ, List, codes, IfOk, IfSome, IsErrOf, Some, None};
 ghost use Rattle.clap.specs.Words.{first_of, rows_of, found_of};
-ghost use Rattle.desk_args.specs.Given.{IsNumber, IsSkew, IsTransit, IsWorkers, IsGiven, IsNoCommand};
-ghost use Rattle.desk_args.specs.Given.{IsHolder, IsPrefixText, IsMoment, IsQuery};
+ghost use Rattle.desk_args.specs.Surrounding.{around};
+ghost use Rattle.desk_args.specs.Given.{IsNumber, IsWorkers, IsGiven, IsNoCommand};
+ghost use Rattle.desk_args.specs.Given.{IsHolder, IsPrefixText, IsQuery};
 ghost use Rattle.prefix_range.specs.Prefix.{Prefix as PrefixValue};
 ghost use Rattle.plain_search.specs.declared.query.Query.{Query as QueryValue};
 
+use crate::bounds::{skew_given, transit_given};
 use crate::error::UsageError;
 use crate::settings::{SettingsCheck, settings_given};
+use crate::surroundings::Surroundings;
+use crate::when::end_given;
 use crate::who_args::holder_query_given;
 use crate::workers::Workers;
 use clap::ArgMatches;
 use client_id::Duid;
-use lead_time::{Reading, Skew, Transit};
+use lead_time::{Skew, Transit};
 use plain_search::{HolderQuery, Query};
 use prefix_range::{Prefix, read_text};
 use std::alloc::Global;
@@ -64,27 +68,6 @@ fn number_given(options: &ArgMatches, name: &str, most: u64) -> Option<u64>
     number_in(options.get_str(name)?, most)
 }
 
-/// The skew, in milliseconds, of at most a day.
-pub(crate) fn skew_given(options: &ArgMatches) -> Option<Skew>
-    ensures given { IfSome result (IsSkew (first_of (codes "skew-ms") (rows_of (found_of options.now)))) }
-    ensures none { result ≡ None
-        → (skew : ℕ) → IsSkew (first_of (codes "skew-ms") (rows_of (found_of options.now))) skew → ⊥ }
-{
-    Skew::new(number_given(options, "skew-ms", Skew::MAX)?).ok()
-}
-
-/// The transit, in milliseconds, of at most an hour: none where the option isn't given.
-pub(crate) fn transit_given(options: &ArgMatches) -> Option<Transit>
-    ensures given { IfSome result (IsTransit (first_of (codes "transit-ms") (rows_of (found_of options.now)))) }
-    ensures none { result ≡ None
-        → (transit : ℕ) → IsTransit (first_of (codes "transit-ms") (rows_of (found_of options.now))) transit → ⊥ }
-{
-    if options.get_str("transit-ms").is_none() {
-        return Some(Transit::ZERO);
-    }
-    Transit::new(number_given(options, "transit-ms", Transit::MAX)?).ok()
-}
-
 /// Returns how many workers, 1 to 64.
 pub(crate) fn workers_given(options: &ArgMatches) -> Option<Workers>
     ensures given { IfSome result (IsWorkers (first_of (codes "workers") (rows_of (found_of options.now)))) }
@@ -133,27 +116,23 @@ pub(crate) fn prefix_given(options: &ArgMatches) -> Option<Prefix>
     prefix_in(options.get_str("prefix")?)
 }
 
-/// A moment, in milliseconds of true time.
-pub(crate) fn moment_given(options: &ArgMatches, name: &str) -> Option<Reading>
-    ensures given { IfSome result (IsMoment (first_of name.now (rows_of (found_of options.now)))) }
-    ensures none { result ≡ None
-        → (moment : ℕ) → IsMoment (first_of name.now (rows_of (found_of options.now))) moment → ⊥ }
-{
-    Reading::new(number_given(options, name, Reading::MAX)?).ok()
-}
-
 /// Returns what is asked of a search.
-fn query_given(options: &ArgMatches) -> Option<Query>
-    ensures given { IfSome result (IsQuery (rows_of (found_of options.now))) }
-    ensures none { result ≡ None → (query : QueryValue) → IsQuery (rows_of (found_of options.now)) query → ⊥ }
+fn query_given(
+    alloc: Global,
+    options: &ArgMatches,
+    surroundings: &Surroundings,
+) -> Result<Query, UsageError>
+    ensures given { IfOk result (IsQuery (around surroundings.now) (rows_of (found_of options.now))) }
+    ensures refused { IsErrOf result UsageError.Usage → (query : QueryValue)
+        → IsQuery (around surroundings.now) (rows_of (found_of options.now)) query → ⊥ }
 {
-    let skew = skew_given(options)?;
-    let transit = transit_given(options)?;
-    let holder = holder_given(options)?;
-    let prefix = prefix_given(options)?;
-    let from = moment_given(options, "from")?;
-    let to = moment_given(options, "to")?;
-    Some(Query {
+    let skew = skew_given(options, surroundings.heads).ok_or(UsageError::Usage)?;
+    let transit = transit_given(options, surroundings.heads).ok_or(UsageError::Usage)?;
+    let holder = holder_given(options).ok_or(UsageError::Usage)?;
+    let prefix = prefix_given(options).ok_or(UsageError::Usage)?;
+    let from = end_given(alloc, options, surroundings.zone, "from")?;
+    let to = end_given(alloc, options, surroundings.zone, "to")?;
+    Ok(Query {
         holder,
         prefix,
         from,
@@ -163,27 +142,27 @@ fn query_given(options: &ArgMatches) -> Option<Query>
     })
 }
 
-/// The command of this name with these options, but `who`.
-fn command_named(name: &str, options: &ArgMatches) -> Option<Command>
-    ensures given { IfSome result (IsGiven (Some (name.now, rows_of (found_of options.now)))) }
-    ensures none { result ≡ None → name.now ≢ codes "who"
-        → IsNoCommand (Some (name.now, rows_of (found_of options.now))) }
+/// The command of this name with these options, but `who` and `find`.
+fn command_named(name: &str, options: &ArgMatches, surroundings: &Surroundings) -> Option<Command>
+    requires who { name.now ≢ codes "who" }
+    requires find { name.now ≢ codes "find" }
+    ensures given { IfSome result (IsGiven (around surroundings.now) (Some (name.now, rows_of (found_of options.now)))) }
+    ensures none { result ≡ None
+        → IsNoCommand (around surroundings.now) (Some (name.now, rows_of (found_of options.now))) }
 {
     if name == "audit" {
-        let skew = skew_given(options)?;
-        let transit = transit_given(options)?;
+        let skew = skew_given(options, surroundings.heads)?;
+        let transit = transit_given(options, surroundings.heads)?;
         Some(Command::Audit { skew, transit })
     } else if name == "batch" {
-        let skew = skew_given(options)?;
-        let transit = transit_given(options)?;
+        let skew = skew_given(options, surroundings.heads)?;
+        let transit = transit_given(options, surroundings.heads)?;
         let workers = workers_given(options)?;
         Some(Command::Batch {
             skew,
             transit,
             workers,
         })
-    } else if name == "find" {
-        Some(Command::Find(query_given(options)?))
     } else if name == "timeline" {
         Some(Command::Timeline)
     } else if name == "clocks" {
@@ -193,19 +172,56 @@ fn command_named(name: &str, options: &ArgMatches) -> Option<Command>
     }
 }
 
+/// `who`.
+fn held(
+    alloc: Global,
+    options: &ArgMatches,
+    surroundings: &Surroundings,
+) -> Result<Command, UsageError>
+    ensures given { IfOk result
+        (IsGiven (around surroundings.now) (Some (codes "who", rows_of (found_of options.now)))) }
+    ensures refused { IsErrOf result UsageError.Usage
+        → IsNoCommand (around surroundings.now) (Some (codes "who", rows_of (found_of options.now))) }
+{
+    match holder_query_given(alloc, options, surroundings) {
+        Ok(query) => Ok(Command::Who(query, settings_given(options))),
+        Err(error) => Err(error),
+    }
+}
+
+/// `find`.
+fn found(
+    alloc: Global,
+    options: &ArgMatches,
+    surroundings: &Surroundings,
+) -> Result<Command, UsageError>
+    ensures given { IfOk result
+        (IsGiven (around surroundings.now) (Some (codes "find", rows_of (found_of options.now)))) }
+    ensures refused { IsErrOf result UsageError.Usage
+        → IsNoCommand (around surroundings.now) (Some (codes "find", rows_of (found_of options.now))) }
+{
+    let query = query_given(alloc, options, surroundings)?;
+    Ok(Command::Find(query))
+}
+
 /// The command of this name with these options: `Usage` where there is none, or a value is no value; `Memory` where a
 /// growth was refused.
 pub(crate) fn command_given(
     alloc: Global,
     name: &str,
     options: &ArgMatches,
+    surroundings: &Surroundings,
 ) -> Result<Command, UsageError>
-    ensures given { IfOk result (IsGiven (Some (name.now, rows_of (found_of options.now)))) }
-    ensures refused { IsErrOf result UsageError.Usage → IsNoCommand (Some (name.now, rows_of (found_of options.now))) }
+    ensures given { IfOk result
+        (IsGiven (around surroundings.now) (Some (name.now, rows_of (found_of options.now)))) }
+    ensures refused { IsErrOf result UsageError.Usage
+        → IsNoCommand (around surroundings.now) (Some (name.now, rows_of (found_of options.now))) }
 {
     if name == "who" {
-        let query = holder_query_given(alloc, options)?;
-        return Ok(Command::Who(query, settings_given(options)));
+        return held(alloc, options, surroundings);
     }
-    command_named(name, options).ok_or(UsageError::Usage)
+    if name == "find" {
+        return found(alloc, options, surroundings);
+    }
+    command_named(name, options, surroundings).ok_or(UsageError::Usage)
 }

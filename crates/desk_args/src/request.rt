@@ -50,4 +50,6 @@ pub enum DeskRequest<'a> {
     ExplainHolder(HolderQuery, SettingsCheck, ReportOptions<'a>),
     /// Volumes of one side put together as one journal.
     Join(JoinQuery),
+    /// Which volumes files have, and what is missing.
+    Volumes,
 }

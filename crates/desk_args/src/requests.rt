@@ -1,48 +1,27 @@
 //! What the words ask.
 
 ghost use Rattle.std.specs.Prelude.{◌≡◌, ◌↔◌, IsTrue, IfOk, IfSome, IsErrOf, None, Some, codes};
-ghost use Rattle.std.specs.Option.{option_map};
-ghost use Rattle.clap.specs.Words.{first_of, rows_of, found_of};
+ghost use Rattle.clap.specs.Words.{rows_of, found_of};
 ghost use Rattle.desk_args.specs.declared.command.Command.{Command as CommandValue};
 ghost use Rattle.desk_args.specs.declared.request.AnswerForm.{AnswerForm as AnswerFormValue};
 ghost use Rattle.desk_args.specs.declared.request.ReportForm.{ReportForm as ReportFormValue};
 ghost use Rattle.desk_args.specs.declared.request.ReportOptions.{ReportOptions as TellingValue};
+ghost use Rattle.desk_args.specs.Surrounding.{around};
 ghost use Rattle.desk_args.specs.Given.{IsGiven};
 ghost use Rattle.desk_args.specs.Requests.{IsSet, AsksNoReport, IsReportForm, IsTelling};
 ghost use Rattle.desk_args.specs.Requests.{IsAnswerForm, IsAsked, IsNoRequest};
 
-use crate::command::{command_given, skew_given, transit_given};
+use crate::bounds::{skew_given, transit_given};
+use crate::command::command_given;
 use crate::error::UsageError;
 use crate::join_args::join_query_given;
 use crate::request::{AnswerForm, DeskRequest, ReportForm, ReportOptions};
 use crate::settings::settings_given;
+use crate::surroundings::Surroundings;
+use crate::texts::{is_set, text_given};
 use crate::who_args::holder_query_given;
 use clap::ArgMatches;
 use std::alloc::Global;
-
-/// The text of an option, if it is given.
-fn text_given<'a>(options: &ArgMatches<'a>, name: &str) -> Option<&'a str>
-    ensures { option_map (λ s. s.now) result ≡ first_of name.now (rows_of (found_of options.now)) }
-{
-    options.get_str(name)
-}
-
-/// Returns whether a flag's value says that it stands.
-fn says_so(word: Option<&str>) -> bool
-    ensures { IsTrue result ↔ (option_map (λ s. s.now) word.entry ≡ Some (codes "true")) }
-{
-    match word {
-        Some(word) => word == "true",
-        None => false,
-    }
-}
-
-/// Returns whether a flag stands among the words.
-fn is_set(options: &ArgMatches, name: &str) -> bool
-    ensures { IsTrue result ↔ IsSet name.now (rows_of (found_of options.now)) }
-{
-    says_so(text_given(options, name))
-}
 
 /// The form of a report: `--html`, `--json` or none of them.
 fn report_form_given(options: &ArgMatches) -> Option<ReportForm>
@@ -67,21 +46,11 @@ fn telling_given<'a>(options: &ArgMatches<'a>) -> Option<ReportOptions<'a>>
     Some(ReportOptions { form, zone })
 }
 
-/// Returns whether no time zone is named.
-fn has_no_zone(options: &ArgMatches) -> bool
-    ensures { IsTrue result ↔ (first_of (codes "zone") (rows_of (found_of options.now)) ≡ None) }
-{
-    match text_given(options, "zone") {
-        Some(_) => false,
-        None => true,
-    }
-}
-
 /// Returns whether no word asks for a report.
 fn asks_no_report(options: &ArgMatches) -> bool
     ensures { IsTrue result ↔ AsksNoReport (rows_of (found_of options.now)) }
 {
-    !is_set(options, "explain") && !is_set(options, "html") && has_no_zone(options)
+    !is_set(options, "explain") && !is_set(options, "html")
 }
 
 /// The form of an answer: `--json` or nothing of it. `None` where a report is asked for.
@@ -99,12 +68,14 @@ fn answer_form_given(options: &ArgMatches) -> Option<AnswerForm>
 }
 
 /// `explain`.
-fn explained<'a>(options: &ArgMatches<'a>) -> Option<DeskRequest<'a>>
-    ensures given { IfSome result (IsAsked (codes "explain", rows_of (found_of options.now))) }
-    ensures none { result ≡ None → IsNoRequest (codes "explain", rows_of (found_of options.now)) }
+fn explained<'a>(options: &ArgMatches<'a>, surroundings: &Surroundings) -> Option<DeskRequest<'a>>
+    ensures given { IfSome result
+        (IsAsked (around surroundings.now) (codes "explain", rows_of (found_of options.now))) }
+    ensures none { result ≡ None
+        → IsNoRequest (around surroundings.now) (codes "explain", rows_of (found_of options.now)) }
 {
-    let skew = skew_given(options)?;
-    let transit = transit_given(options)?;
+    let skew = skew_given(options, surroundings.heads)?;
+    let transit = transit_given(options, surroundings.heads)?;
     let telling = telling_given(options)?;
     Some(DeskRequest::Explain {
         skew,
@@ -117,20 +88,23 @@ fn explained<'a>(options: &ArgMatches<'a>) -> Option<DeskRequest<'a>>
 fn holder_explained<'a>(
     alloc: Global,
     options: &ArgMatches<'a>,
+    surroundings: &Surroundings,
 ) -> Result<DeskRequest<'a>, UsageError>
     requires { IsSet (codes "explain") (rows_of (found_of options.now)) }
-    ensures given { IfOk result (IsAsked (codes "who", rows_of (found_of options.now))) }
-    ensures refused { IsErrOf result UsageError.Usage → IsNoRequest (codes "who", rows_of (found_of options.now)) }
+    ensures given { IfOk result (IsAsked (around surroundings.now) (codes "who", rows_of (found_of options.now))) }
+    ensures refused { IsErrOf result UsageError.Usage
+        → IsNoRequest (around surroundings.now) (codes "who", rows_of (found_of options.now)) }
 {
-    let query = holder_query_given(alloc, options)?;
+    let query = holder_query_given(alloc, options, surroundings)?;
     let telling = telling_given(options).ok_or(UsageError::Usage)?;
     Ok(DeskRequest::ExplainHolder(query, settings_given(options), telling))
 }
 
 /// `join`.
-fn joined<'a>(options: &ArgMatches<'a>) -> Option<DeskRequest<'a>>
-    ensures given { IfSome result (IsAsked (codes "join", rows_of (found_of options.now))) }
-    ensures none { result ≡ None → IsNoRequest (codes "join", rows_of (found_of options.now)) }
+fn joined<'a>(options: &ArgMatches<'a>, surroundings: &Surroundings) -> Option<DeskRequest<'a>>
+    ensures given { IfSome result (IsAsked (around surroundings.now) (codes "join", rows_of (found_of options.now))) }
+    ensures none { result ≡ None
+        → IsNoRequest (around surroundings.now) (codes "join", rows_of (found_of options.now)) }
 {
     Some(DeskRequest::Join(join_query_given(options)?))
 }
@@ -140,14 +114,15 @@ fn answered<'a>(
     alloc: Global,
     name: &str,
     options: &ArgMatches<'a>,
+    surroundings: &Surroundings,
 ) -> Result<DeskRequest<'a>, UsageError>
-    ensures given { IfOk result (IsAsked (name.now, rows_of (found_of options.now))) }
+    ensures given { IfOk result (IsAsked (around surroundings.now) (name.now, rows_of (found_of options.now))) }
     ensures refused { IsErrOf result UsageError.Usage → (command : CommandValue) (form : AnswerFormValue)
-        → IsGiven (Some (name.now, rows_of (found_of options.now))) command
+        → IsGiven (around surroundings.now) (Some (name.now, rows_of (found_of options.now))) command
         → IsAnswerForm (rows_of (found_of options.now)) form → ⊥ }
 {
     let form = answer_form_given(options).ok_or(UsageError::Usage)?;
-    let command = command_given(alloc, name, options)?;
+    let command = command_given(alloc, name, options, surroundings)?;
     Ok(DeskRequest::Answer(command, form))
 }
 
@@ -164,24 +139,29 @@ pub(crate) fn request_given<'a>(
     alloc: Global,
     name: &str,
     options: &ArgMatches<'a>,
+    surroundings: &Surroundings,
 ) -> Result<DeskRequest<'a>, UsageError>
-    ensures given { IfOk result (IsAsked (name.now, rows_of (found_of options.now))) }
-    ensures refused { IsErrOf result UsageError.Usage → IsNoRequest (name.now, rows_of (found_of options.now)) }
+    ensures given { IfOk result (IsAsked (around surroundings.now) (name.now, rows_of (found_of options.now))) }
+    ensures refused { IsErrOf result UsageError.Usage
+        → IsNoRequest (around surroundings.now) (name.now, rows_of (found_of options.now)) }
 {
     if name == "explain" {
-        return match explained(options) {
+        return match explained(options, surroundings) {
             Some(request) => Ok(request),
             None => Err(UsageError::Usage),
         };
     }
     if name == "join" {
-        return match joined(options) {
+        return match joined(options, surroundings) {
             Some(request) => Ok(request),
             None => Err(UsageError::Usage),
         };
     }
-    if asks_why(name, options) {
-        return holder_explained(alloc, options);
+    if name == "volumes" {
+        return Ok(DeskRequest::Volumes);
     }
-    answered(alloc, name, options)
+    if asks_why(name, options) {
+        return holder_explained(alloc, options, surroundings);
+    }
+    answered(alloc, name, options, surroundings)
 }

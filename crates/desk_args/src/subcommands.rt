@@ -4,31 +4,32 @@ ghost use Rattle.std.specs.Prelude.{◌≡◌, codes, IfOk, true, false};
 ghost use Rattle.clap.specs.Words.{app_of, new_app, with_rule, with_subcommand};
 ghost use Rattle.clap.specs.declared.builder.command.Command.TheViews.{out-Command};
 ghost use Rattle.desk_args.specs.Words.{claim_app, with_telling, audit_app, explain_app, batch_app, asking_app};
-ghost use Rattle.desk_args.specs.Words.{find_app, moment_app, who_app, timeline_app, judging_app, claims_app};
-ghost use Rattle.desk_args.specs.Words.{join_app, searching_app, showing_app, desk, bare};
+ghost use Rattle.desk_args.specs.Words.{find_app, moment_app, span_app, who_app, timeline_app, judging_app, claims_app};
+ghost use Rattle.desk_args.specs.Words.{join_app, volumes_app, searching_app, showing_app, desk, bare};
 ghost use Rattle.desk_args.specs.Words.{option_rule, flag_rule};
 
-use crate::arguments::{over_journals, with_flag, with_journals, with_option};
+use crate::arguments::{over_journals, with_flag, with_journals, with_option, with_place};
 use clap::Command as ClapCommand;
 use std::alloc::{AllocError, Global};
 
-/// `NAME --skew-ms N [--transit-ms N] ..`: a command that believes clocks as far as said.
+/// `NAME [--skew-ms N] [--transit-ms N] ..`: a command that believes clocks as far as said.
 fn bounded_command<'a>(alloc: Global, name: &'a str) -> Result<ClapCommand<'a>, AllocError>
     ensures app { IfOk result (λ c. app_of c ≡ with_rule (with_rule (new_app name.entry.now)
-        (option_rule (codes "skew-ms") true)) (option_rule (codes "transit-ms") false)) }
+        (option_rule (codes "skew-ms") false)) (option_rule (codes "transit-ms") false)) }
     ensures local { IfOk result (λ c. (out-Command c).has_globals ≡ false) }
 {
-    let claim = with_option(alloc, ClapCommand::new(alloc, name), "skew-ms", true)?;
+    let claim = with_option(alloc, ClapCommand::new(alloc, name), "skew-ms", false)?;
     with_option(alloc, claim, "transit-ms", false)
 }
 
-/// `NAME --skew-ms N [--transit-ms N] [--journals PATH].. [--certificate PATH]`: a command over one certificate.
+/// `NAME .. [--journals PATH].. [--certificate PATH] [--volumes SPANS]`: a command over one certificate.
 fn claim_command<'a>(alloc: Global, name: &'a str) -> Result<ClapCommand<'a>, AllocError>
     ensures app { IfOk result (λ c. app_of c ≡ claim_app name.entry.now) }
     ensures local { IfOk result (λ c. (out-Command c).has_globals ≡ false) }
 {
     let claim = with_journals(alloc, bounded_command(alloc, name)?)?;
-    with_option(alloc, claim, "certificate", false)
+    let claim = with_option(alloc, claim, "certificate", false)?;
+    with_option(alloc, claim, "volumes", false)
 }
 
 /// A command whose report is told with `[--zone NAME] [--html] [--json]`.
@@ -61,10 +62,10 @@ fn explain_command<'a>(alloc: Global) -> Result<ClapCommand<'a>, AllocError>
 /// `batch --skew-ms N --workers N ..`.
 fn working_command<'a>(alloc: Global) -> Result<ClapCommand<'a>, AllocError>
     ensures app { IfOk result (λ c. app_of c ≡ with_rule (with_rule (new_app (codes "batch"))
-        (option_rule (codes "skew-ms") true)) (option_rule (codes "workers") true)) }
+        (option_rule (codes "skew-ms") false)) (option_rule (codes "workers") true)) }
     ensures local { IfOk result (λ c. (out-Command c).has_globals ≡ false) }
 {
-    let batch = with_option(alloc, ClapCommand::new(alloc, "batch"), "skew-ms", true)?;
+    let batch = with_option(alloc, ClapCommand::new(alloc, "batch"), "skew-ms", false)?;
     with_option(alloc, batch, "workers", true)
 }
 
@@ -75,7 +76,8 @@ fn batch_command<'a>(alloc: Global) -> Result<ClapCommand<'a>, AllocError>
 {
     let batch = with_option(alloc, working_command(alloc)?, "transit-ms", false)?;
     let batch = with_journals(alloc, batch)?;
-    with_option(alloc, batch, "certificate", false)
+    let batch = with_option(alloc, batch, "certificate", false)?;
+    with_option(alloc, batch, "volumes", false)
 }
 
 /// `find --skew-ms N --holder HEX --prefix P ..`: who is asked of, and what.
@@ -83,7 +85,7 @@ fn asking_command<'a>(alloc: Global) -> Result<ClapCommand<'a>, AllocError>
     ensures app { IfOk result (λ c. app_of c ≡ asking_app) }
     ensures local { IfOk result (λ c. (out-Command c).has_globals ≡ false) }
 {
-    let find = with_option(alloc, ClapCommand::new(alloc, "find"), "skew-ms", true)?;
+    let find = with_option(alloc, ClapCommand::new(alloc, "find"), "skew-ms", false)?;
     let find = with_option(alloc, find, "holder", true)?;
     with_option(alloc, find, "prefix", true)
 }
@@ -98,33 +100,53 @@ fn interval_command<'a>(alloc: Global) -> Result<ClapCommand<'a>, AllocError>
     with_option(alloc, find, "to", true)
 }
 
-/// `find .. --from M --to M [--transit-ms N] [--journals PATH].. [--json]`.
+/// `find .. --from M --to M [--transit-ms N] [--journals PATH].. [--zone NAME] [--json]`.
 fn find_command<'a>(alloc: Global) -> Result<ClapCommand<'a>, AllocError>
     ensures app { IfOk result (λ c. app_of c ≡ find_app) }
     ensures local { IfOk result (λ c. (out-Command c).has_globals ≡ false) }
 {
     let find = with_option(alloc, interval_command(alloc)?, "transit-ms", false)?;
     let find = with_journals(alloc, find)?;
+    let find = with_option(alloc, find, "zone", false)?;
     with_flag(alloc, find, "json")
 }
 
-/// `who --skew-ms N --prefix P --at M ..`: which prefix is asked of, and at which moment.
+/// `who [--skew-ms N] [--prefix P] [--at M] ..`: which prefix is asked of, and at which moment.
+fn named_command<'a>(alloc: Global) -> Result<ClapCommand<'a>, AllocError>
+    ensures app { IfOk result (λ c. app_of c ≡ with_rule (with_rule (with_rule (new_app (codes "who"))
+        (option_rule (codes "skew-ms") false)) (option_rule (codes "prefix") false)) (option_rule (codes "at") false)) }
+    ensures local { IfOk result (λ c. (out-Command c).has_globals ≡ false) }
+{
+    let who = with_option(alloc, ClapCommand::new(alloc, "who"), "skew-ms", false)?;
+    let who = with_option(alloc, who, "prefix", false)?;
+    with_option(alloc, who, "at", false)
+}
+
+/// `who .. [ADDRESS [TIME]]`: the same by two words.
 fn moment_command<'a>(alloc: Global) -> Result<ClapCommand<'a>, AllocError>
     ensures app { IfOk result (λ c. app_of c ≡ moment_app) }
     ensures local { IfOk result (λ c. (out-Command c).has_globals ≡ false) }
 {
-    let who = with_option(alloc, ClapCommand::new(alloc, "who"), "skew-ms", true)?;
-    let who = with_option(alloc, who, "prefix", true)?;
-    with_option(alloc, who, "at", true)
+    let who = with_place(alloc, named_command(alloc)?, "address")?;
+    with_place(alloc, who, "time")
+}
+
+/// `who .. [--within S] [--minute]`: and for which moments round it.
+fn span_command<'a>(alloc: Global) -> Result<ClapCommand<'a>, AllocError>
+    ensures app { IfOk result (λ c. app_of c ≡ span_app) }
+    ensures local { IfOk result (λ c. (out-Command c).has_globals ≡ false) }
+{
+    let who = with_option(alloc, moment_command(alloc)?, "within", false)?;
+    with_flag(alloc, who, "minute")
 }
 
 /// `who .. [--transit-ms N] [--settings-differ] ..`: and by which bounds.
 fn bounds_command<'a>(alloc: Global) -> Result<ClapCommand<'a>, AllocError>
-    ensures app { IfOk result (λ c. app_of c ≡ with_rule (with_rule moment_app
+    ensures app { IfOk result (λ c. app_of c ≡ with_rule (with_rule span_app
         (option_rule (codes "transit-ms") false)) (flag_rule (codes "settings-differ"))) }
     ensures local { IfOk result (λ c. (out-Command c).has_globals ≡ false) }
 {
-    let who = with_option(alloc, moment_command(alloc)?, "transit-ms", false)?;
+    let who = with_option(alloc, span_command(alloc)?, "transit-ms", false)?;
     with_flag(alloc, who, "settings-differ")
 }
 
@@ -221,11 +243,28 @@ fn showing_command<'a>(alloc: Global) -> Result<ClapCommand<'a>, AllocError>
     merging_command(alloc)?.subcommand(ClapCommand::new(alloc, "clocks"))
 }
 
-/// All commands.
-pub(crate) fn desk_command<'a>(alloc: Global) -> Result<ClapCommand<'a>, AllocError>
-    ensures { IfOk result (λ c. app_of c ≡ desk) }
+/// `volumes --journals PATH..`.
+fn volumes_command<'a>(alloc: Global) -> Result<ClapCommand<'a>, AllocError>
+    ensures app { IfOk result (λ c. app_of c ≡ volumes_app) }
+    ensures local { IfOk result (λ c. (out-Command c).has_globals ≡ false) }
+{
+    over_journals(alloc, ClapCommand::new(alloc, "volumes"))
+}
+
+/// Those and the one that puts volumes together.
+fn joining_command<'a>(alloc: Global) -> Result<ClapCommand<'a>, AllocError>
+    ensures { IfOk result (λ c. app_of c ≡ with_subcommand showing_app join_app.top) }
 {
     let showing = showing_command(alloc)?;
     let join = join_command(alloc)?;
     showing.subcommand(join)
+}
+
+/// All commands.
+pub(crate) fn desk_command<'a>(alloc: Global) -> Result<ClapCommand<'a>, AllocError>
+    ensures { IfOk result (λ c. app_of c ≡ desk) }
+{
+    let joining = joining_command(alloc)?;
+    let volumes = volumes_command(alloc)?;
+    joining.subcommand(volumes)
 }

@@ -1,7 +1,7 @@
 //! What options want, in words for a person.
 
 /// Each option that has a value of some form, and that form.
-pub(crate) const WISHES: [(&'static str, &'static str); 9] = [
+pub(crate) const WISHES: [(&'static str, &'static str); 10] = [
     ("skew-ms", "a whole number of milliseconds, 0 to 86400000"),
     ("transit-ms", "a whole number of milliseconds, 0 to 3600000"),
     ("workers", "a whole number, 1 to 64"),
@@ -26,4 +26,8 @@ pub(crate) const WISHES: [(&'static str, &'static str); 9] = [
         "milliseconds since 1970, or for join a volume's number",
     ),
     ("side", "A or B"),
+    (
+        "within",
+        "a whole number of seconds, 1 to 86400, and no --minute beside it",
+    ),
 ];

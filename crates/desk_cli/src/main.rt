@@ -3,21 +3,29 @@
 //! (0), something was refused (1) or a fault kept the desk from answering (2).
 #![tactic(auto)]
 
+mod before;
 mod fault;
+mod given_volumes;
+mod listing;
 mod over_files;
 mod over_input;
+mod spans;
 mod writing;
 mod zones;
 
-use attribution_desk::{DeskRequest, InputSource, Invocation, UsageError, invocation_of};
-use desk_args::{AnswerForm, advice_of};
+use attribution_desk::{Command, DeskRequest, InputSource, Invocation, UsageError};
+use before::{form_in, heads_asked, no_order, order_of, say_note};
+use desk_args::{AnswerForm, MomentSpan, Surroundings, outline_of};
 use fault::DeskFault;
+use given_volumes::volumes_given;
 use over_files::{FilesAsked, octets_of};
 use std::net::Net;
 use std::process::ExitCode;
 use std::sync::Wait;
 use std::thread::Threads;
 use std::{env, io};
+use writing::{form_of, or_fault};
+use zones::zone_named;
 
 /// The words of the command line; `Usage` where one isn't text.
 fn words_given(rt: &HostRuntime) -> Result<Vec<String>, UsageError> {
@@ -38,8 +46,12 @@ fn answered_input(
     rt: &HostRuntime,
     handles: &(impl Threads + Wait + Sync),
     request: &DeskRequest,
+    span: MomentSpan,
 ) -> Result<u8, DeskFault> {
     match request {
+        DeskRequest::Answer(Command::Who(query, settings), form) if span != MomentSpan::Alone => {
+            over_input::held_for_all(rt, handles, query, *settings, span, *form)
+        }
         DeskRequest::Answer(command, AnswerForm::Plain) => over_input::answered(
             rt, handles, command,
         ),
@@ -54,8 +66,8 @@ fn answered_input(
         DeskRequest::ExplainHolder(query, settings, telling) => {
             over_input::holder_explained(rt, handles, query, *settings, telling)
         }
-        // (volumes are put together out of files alone)
-        DeskRequest::Join(_) => Err(DeskFault::Usage(UsageError::Usage)),
+        // (volumes are put together and listed out of files alone)
+        DeskRequest::Join(_) | DeskRequest::Volumes => Err(DeskFault::Usage(UsageError::Usage)),
     }
 }
 
@@ -82,44 +94,82 @@ fn answered_files(
             over_files::holder_explained(rt, handles, query, *settings, telling, asked)
         }
         DeskRequest::Join(query) => over_files::joined(rt, handles, query, asked),
+        DeskRequest::Volumes => listing::listed(rt, handles, asked),
     }
 }
 
-/// Answers what the words order.
+/// A report is on one moment: `Words` where it is asked of more.
+fn expect_one_moment(rt: &HostRuntime, order: &Invocation) -> Result<(), DeskFault> {
+    match (&order.request, order.span) {
+        (DeskRequest::ExplainHolder(_, _, _), MomentSpan::Within(_) | MomentSpan::Minute) => {
+            let said = "error: a report is on one moment: ask without --within and --minute";
+            match String::from_str(rt.alloc(), said) {
+                Ok(said) => Err(DeskFault::Words(said)),
+                Err(_) => Err(DeskFault::memory()),
+            }
+        }
+        _ => Ok(()),
+    }
+}
+
+/// Answers an order.
+fn order_answered(
+    rt: &HostRuntime,
+    handles: &(impl Threads + Wait + Net + Sync),
+    order: &Invocation,
+) -> Result<u8, DeskFault> {
+    expect_one_moment(rt, order)?;
+    let volumes = volumes_given(rt.alloc(), &order.request, order.volumes)?;
+    say_note(rt, order.address);
+    match &order.source {
+        InputSource::Input => answered_input(rt, handles, &order.request, order.span),
+        InputSource::Journals(paths) => {
+            let asked = FilesAsked {
+                paths,
+                certificates: b"",
+                span: order.span,
+                detail: order.detail,
+                volumes,
+            };
+            answered_files(rt, handles, &order.request, &asked)
+        }
+        InputSource::Certified(paths, file) => {
+            let form = form_of(&order.request);
+            let certificates = or_fault(rt, form, octets_of(rt, file))?;
+            let asked = FilesAsked {
+                paths,
+                certificates: &certificates,
+                span: order.span,
+                detail: order.detail,
+                volumes,
+            };
+            answered_files(rt, handles, &order.request, &asked)
+        }
+    }
+}
+
+/// Reads what the words name, judges them, and answers what they order.
 fn answered(
     rt: &HostRuntime,
     handles: &(impl Threads + Wait + Net + Sync),
     words: &[String],
 ) -> Result<u8, DeskFault> {
-    let order = invocation_of(rt.alloc(), words).map_err(DeskFault::Usage)?;
-    match &order.source {
-        InputSource::Input => answered_input(rt, handles, &order.request),
-        InputSource::Journals(paths) => {
-            let asked = FilesAsked {
-                paths,
-                certificates: b"",
+    let outline = match outline_of(rt.alloc(), words) {
+        Ok(outline) => outline,
+        Err(UsageError::Memory) => return Err(DeskFault::memory()),
+        Err(UsageError::Usage) => {
+            let nothing = Surroundings {
+                zone: None,
+                heads: None,
             };
-            answered_files(rt, handles, &order.request, &asked)
+            return Err(no_order(rt, words, &nothing));
         }
-        InputSource::Certified(paths, file) => {
-            let certificates = octets_of(rt, file)?;
-            let asked = FilesAsked {
-                paths,
-                certificates: &certificates,
-            };
-            answered_files(rt, handles, &order.request, &asked)
-        }
-    }
-}
-
-/// Says on standard error why there is no answer; of words that order nothing, what would do too.
-fn tell(rt: &HostRuntime, words: &[String], fault: &DeskFault) {
-    let _ = eprintln!(rt; "{fault}");
-    if let DeskFault::Usage(UsageError::Usage) = fault {
-        if let Ok(advice) = advice_of(rt.alloc(), words) {
-            let _ = eprintln!(rt; "{advice}");
-        }
-    }
+    };
+    let form = form_in(words);
+    let zone = or_fault(rt, form, zone_named(rt, outline.zone))?;
+    let heads = or_fault(rt, form, heads_asked(rt, handles, &outline))?;
+    let order = order_of(rt, words, &zone, heads)?;
+    order_answered(rt, handles, &order)
 }
 
 fn main(rt: HostRuntime) -> ExitCode {
@@ -133,7 +183,7 @@ fn main(rt: HostRuntime) -> ExitCode {
     match answered(&rt, &rt, &words) {
         Ok(status) => ExitCode::from(status),
         Err(fault) => {
-            tell(&rt, &words, &fault);
+            let _ = eprintln!(rt; "{fault}");
             ExitCode::from(2)
         }
     }

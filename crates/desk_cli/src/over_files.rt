@@ -1,14 +1,22 @@
 //! Answering over the journals of files.
 
 use crate::fault::DeskFault;
-use crate::writing::{write_json, write_out};
+use crate::given_volumes::are_in_order;
+use crate::spans::{none_told, shortfall_of};
+use crate::writing::{or_fault, write_both, write_out};
 use crate::zones::{style_of, zone_named};
-use archive_desk::{ArchiveQuestion, CommandOutput, answer, failure};
+use archive_desk::{
+    ArchiveAnswer, ArchiveQuestion, CommandOutput, FilesAnswer, FilesFailure, TimingBounds, answer,
+    failure,
+};
 use archive_files::FilesError;
 use attribution_desk::{Command, UsageError};
-use desk_args::{JoinQuery, ReportOptions, SettingsCheck};
-use desk_reports::{explain_files, holder_in_files};
-use join_desk::join_files;
+use desk_args::{JoinQuery, MomentSpan, NoteDetail, ReportForm, ReportOptions, SettingsCheck};
+use desk_reports::{
+    ReportQuestion, explain_files, failed_told, fault_data, find_data, holder_in_files,
+    judged_data, refused_data, who_data,
+};
+use join_desk::{audit_spans, batch_spans, join_files};
 use journal_paths::{JournalPaths, PathError};
 use lead_time::{Skew, Transit};
 use plain_search::HolderQuery;
@@ -17,12 +25,19 @@ use std::net::Net;
 use std::path::Path;
 use std::sync::Wait;
 use std::thread::Threads;
+use volume_spans::SpanPair;
 
 /// The files that are asked: the paths of journals, and the text of certificates.
 #[derive(Clone, Copy)]
 pub(crate) struct FilesAsked<'a> {
     pub(crate) paths: &'a [&'a str],
     pub(crate) certificates: &'a [u8],
+    /// For which moments round the one asked of the answer of `who` must hold too.
+    pub(crate) span: MomentSpan,
+    /// How much is said of files that are passed over.
+    pub(crate) detail: NoteDetail,
+    /// Over which volumes certificates are judged, where that is asked for.
+    pub(crate) volumes: Option<SpanPair>,
 }
 
 /// What a command asks over files, with the certificates that it judges; `None` where it asks nothing of files.
@@ -46,7 +61,7 @@ fn question_of<'a>(command: &Command, certificates: &'a [u8]) -> Option<ArchiveQ
 }
 
 /// The files that paths name. `Path` where one names nothing or can't be looked at.
-fn files_at<'a>(
+pub(crate) fn files_at<'a>(
     rt: &'a HostRuntime,
     net: &impl Net,
     paths: &[&str],
@@ -71,7 +86,7 @@ fn warn_of_silent(rt: &HostRuntime, files: &JournalPaths) {
 }
 
 /// The files that are asked, with a warning of sockets at which no server answered.
-fn files_asked<'a>(
+pub(crate) fn files_asked<'a>(
     rt: &'a HostRuntime,
     net: &impl Net,
     asked: &FilesAsked,
@@ -81,31 +96,110 @@ fn files_asked<'a>(
     Ok(files)
 }
 
-/// What is told of a question over files, or why these answer nothing.
-fn told_or_why(
+/// Why files answer nothing.
+fn why_not(
     rt: &HostRuntime,
     files: &JournalPaths,
-    told: Result<CommandOutput, FilesError>,
-) -> Result<CommandOutput, DeskFault> {
-    match told {
-        Ok(told) => Ok(told),
-        Err(error) => failure(rt.alloc(), files.paths(), &error).map_err(|_| DeskFault::memory()),
-    }
+    error: &FilesError,
+) -> Result<FilesFailure, DeskFault> {
+    failure(rt.alloc(), files.paths(), error).map_err(|_| DeskFault::memory())
 }
 
-/// What is told of a command over files.
-fn answer_of(
-    rt: &HostRuntime,
+/// What files answer to a command, and the files.
+fn asked_of<'a>(
+    rt: &'a HostRuntime,
     handles: &(impl Threads + Wait + Net + Sync),
     command: &Command,
     asked: &FilesAsked,
-) -> Result<CommandOutput, DeskFault> {
+) -> Result<(JournalPaths<'a>, Result<FilesAnswer, FilesError>), DeskFault> {
     let Some(question) = question_of(command, asked.certificates) else {
         return Err(DeskFault::Usage(UsageError::Usage));
     };
     let files = files_asked(rt, handles, asked)?;
-    let told = answer(handles, rt.alloc(), &files, files.paths(), &question);
-    told_or_why(rt, &files, told)
+    let found = answer(handles, rt.alloc(), &files, files.paths(), &question);
+    Ok((files, found))
+}
+
+/// What is told of an answer.
+fn told_of(
+    rt: &HostRuntime,
+    files: &JournalPaths,
+    answer: &FilesAnswer,
+    detail: NoteDetail,
+) -> Result<CommandOutput, DeskFault> {
+    answer
+        .told(rt.alloc(), files.paths(), detail)
+        .map_err(|_| DeskFault::memory())
+}
+
+/// What is told of certificates over the volumes that are asked for.
+fn audited_over(
+    rt: &HostRuntime,
+    handles: &(impl Threads + Wait + Net + Sync),
+    files: &JournalPaths,
+    command: &Command,
+    spans: &SpanPair,
+    asked: &FilesAsked,
+) -> Result<Result<CommandOutput, FilesError>, DeskFault> {
+    if !are_in_order(spans) {
+        return Err(DeskFault::Usage(UsageError::Usage));
+    }
+    let (alloc, names, texts) = (rt.alloc(), files.paths(), asked.certificates);
+    match command {
+        Command::Audit { skew, transit } => {
+            let bounds = TimingBounds {
+                skew: *skew,
+                transit: *transit,
+            };
+            Ok(audit_spans(
+                handles,
+                alloc,
+                files,
+                names,
+                spans,
+                texts,
+                &bounds,
+                asked.detail,
+            ))
+        }
+        Command::Batch {
+            skew,
+            transit,
+            workers,
+        } => {
+            let bounds = TimingBounds {
+                skew: *skew,
+                transit: *transit,
+            };
+            Ok(batch_spans(
+                handles,
+                alloc,
+                files,
+                names,
+                spans,
+                texts,
+                &bounds,
+                *workers,
+                asked.detail,
+            ))
+        }
+        _ => Err(DeskFault::Usage(UsageError::Usage)),
+    }
+}
+
+/// Judges certificates over the volumes that are asked for.
+fn audited(
+    rt: &HostRuntime,
+    handles: &(impl Threads + Wait + Net + Sync),
+    command: &Command,
+    spans: &SpanPair,
+    asked: &FilesAsked,
+) -> Result<u8, DeskFault> {
+    let files = files_asked(rt, handles, asked)?;
+    match audited_over(rt, handles, &files, command, spans, asked)? {
+        Ok(told) => write_out(rt, &told),
+        Err(error) => write_out(rt, &why_not(rt, &files, &error)?.told(rt.alloc())),
+    }
 }
 
 /// Answers a command.
@@ -115,23 +209,131 @@ pub(crate) fn answered(
     command: &Command,
     asked: &FilesAsked,
 ) -> Result<u8, DeskFault> {
-    let told = answer_of(rt, handles, command, asked)?;
-    write_out(rt, &told)
+    if let Some(spans) = &asked.volumes {
+        return audited(rt, handles, command, spans, asked);
+    }
+    let (files, found) = asked_of(rt, handles, command, asked)?;
+    match found {
+        Ok(found) => write_out(rt, &told_for_all(rt, &files, &found, asked)?),
+        Err(error) => write_out(rt, &why_not(rt, &files, &error)?.told(rt.alloc())),
+    }
+}
+
+/// What is told of an answer that must hold for all of the moments: `none` where it doesn't.
+fn told_for_all(
+    rt: &HostRuntime,
+    files: &JournalPaths,
+    found: &FilesAnswer,
+    asked: &FilesAsked,
+) -> Result<CommandOutput, DeskFault> {
+    let told = told_of(rt, files, found, asked.detail)?;
+    match shortfall_of(rt.alloc(), asked.span, &found.answer) {
+        Ok(None) => Ok(told),
+        Ok(Some(line)) => {
+            none_told(rt.alloc(), &told.notes, &line).map_err(|_| DeskFault::memory())
+        }
+        Err(_) => Err(DeskFault::memory()),
+    }
+}
+
+/// The object of an answer, with what is told of it.
+fn object_of(
+    rt: &HostRuntime,
+    files: &JournalPaths,
+    found: &FilesAnswer,
+    told: &CommandOutput,
+) -> Result<Vec<u8>, DeskFault> {
+    let (alloc, notes) = (rt.alloc(), told.notes.as_slice());
+    let data = match &found.answer {
+        ArchiveAnswer::Who(answer) => who_data(alloc, answer, notes),
+        ArchiveAnswer::Find(answer) => {
+            find_data(alloc, files.paths(), answer, told.status, notes)
+        }
+        ArchiveAnswer::Judged(answer) => {
+            Ok(judged_data(alloc, answer, told.status, notes).map_err(|_| DeskFault::memory())?)
+        }
+        // (a timeline has no object)
+        ArchiveAnswer::Timeline(_) => return Err(DeskFault::Usage(UsageError::Usage)),
+    };
+    data.map_err(DeskFault::Desk)
+}
+
+/// The command's name in an object.
+fn name_of(command: &Command) -> &'static str {
+    match command {
+        Command::Audit { .. } => "audit",
+        Command::Batch { .. } => "batch",
+        Command::Timeline => "timeline",
+        Command::Clocks => "clocks",
+        Command::Find(_) => "find",
+        Command::Who(_, _) => "who",
+    }
+}
+
+/// The object of why files answer nothing, or their fault.
+fn object_without(
+    rt: &HostRuntime,
+    command: &Command,
+    failure: FilesFailure,
+) -> Result<CommandOutput, DeskFault> {
+    let alloc = rt.alloc();
+    let told = match failure {
+        FilesFailure::Refused(line) => refused_data(alloc, name_of(command), &line).map(|text| {
+            CommandOutput {
+                text,
+                status: 1,
+                notes: Vec::new(alloc),
+            }
+        }),
+        FilesFailure::Fault(line) => fault_data(alloc, &line).map(|text| CommandOutput {
+            text,
+            status: 2,
+            notes: line,
+        }),
+    };
+    told.map_err(|_| DeskFault::memory())
 }
 
 /// Answers a command, as one JSON object.
+fn object_written(
+    rt: &HostRuntime,
+    handles: &(impl Threads + Wait + Net + Sync),
+    command: &Command,
+    asked: &FilesAsked,
+) -> Result<u8, DeskFault> {
+    let (files, found) = asked_of(rt, handles, command, asked)?;
+    let found = match found {
+        Ok(found) => found,
+        Err(error) => {
+            let failure = why_not(rt, &files, &error)?;
+            return write_out(rt, &object_without(rt, command, failure)?);
+        }
+    };
+    let told = told_for_all(rt, &files, &found, asked)?;
+    let lack = shortfall_of(rt.alloc(), asked.span, &found.answer).map_err(
+        |_| DeskFault::memory(),
+    )?;
+    let text = match lack {
+        None => object_of(rt, &files, &found, &told)?,
+        Some(_) => refused_data(rt.alloc(), "who", b"none").map_err(|_| DeskFault::memory())?,
+    };
+    write_both(rt, &text, &told.notes)?;
+    Ok(told.status)
+}
+
+/// Answers a command, as one JSON object, whatever keeps it from an answer.
 pub(crate) fn answered_json(
     rt: &HostRuntime,
     handles: &(impl Threads + Wait + Net + Sync),
     command: &Command,
     asked: &FilesAsked,
 ) -> Result<u8, DeskFault> {
-    let told = answer_of(rt, handles, command, asked)?;
-    write_json(rt, command, &told)
+    let written = object_written(rt, handles, command, asked);
+    or_fault(rt, ReportForm::Json, written)
 }
 
 /// A report on the certificate of a file.
-pub(crate) fn explained(
+fn explain_written(
     rt: &HostRuntime,
     handles: &(impl Threads + Wait + Net + Sync),
     skew: Skew,
@@ -141,21 +343,44 @@ pub(crate) fn explained(
 ) -> Result<u8, DeskFault> {
     let zone = zone_named(rt, telling.zone)?;
     let files = files_asked(rt, handles, asked)?;
-    let told = explain_files(
+    let (alloc, names) = (rt.alloc(), files.paths());
+    let style = style_of(telling, &zone, asked.detail);
+    let certificate = asked.certificates;
+    let told = match explain_files(
         handles,
-        rt.alloc(),
+        alloc,
         &files,
-        files.paths(),
-        asked.certificates,
+        names,
+        certificate,
         skew,
         transit,
-        &style_of(telling, &zone),
-    );
-    write_out(rt, &told_or_why(rt, &files, told)?)
+        &style,
+    ) {
+        Ok(told) => told,
+        Err(error) => {
+            let failure = why_not(rt, &files, &error)?;
+            let question = ReportQuestion::Certificate(certificate);
+            failed_told(alloc, question, failure, telling.form).map_err(|_| DeskFault::memory())?
+        }
+    };
+    write_out(rt, &told)
+}
+
+/// A report on the certificate of a file, in the form that is asked for, whatever keeps it from one.
+pub(crate) fn explained(
+    rt: &HostRuntime,
+    handles: &(impl Threads + Wait + Net + Sync),
+    skew: Skew,
+    transit: Transit,
+    telling: &ReportOptions,
+    asked: &FilesAsked,
+) -> Result<u8, DeskFault> {
+    let written = explain_written(rt, handles, skew, transit, telling, asked);
+    or_fault(rt, telling.form, written)
 }
 
 /// Who held a prefix, and a report on that.
-pub(crate) fn holder_explained(
+fn holder_written(
     rt: &HostRuntime,
     handles: &(impl Threads + Wait + Net + Sync),
     query: &HolderQuery,
@@ -165,17 +390,30 @@ pub(crate) fn holder_explained(
 ) -> Result<u8, DeskFault> {
     let zone = zone_named(rt, telling.zone)?;
     let files = files_asked(rt, handles, asked)?;
-    let style = style_of(telling, &zone);
-    let told = holder_in_files(
-        handles,
-        rt.alloc(),
-        &files,
-        files.paths(),
-        query,
-        settings,
-        &style,
-    );
-    write_out(rt, &told_or_why(rt, &files, told)?)
+    let (alloc, names) = (rt.alloc(), files.paths());
+    let style = style_of(telling, &zone, asked.detail);
+    let told = match holder_in_files(handles, alloc, &files, names, query, settings, &style) {
+        Ok(told) => told,
+        Err(error) => {
+            let failure = why_not(rt, &files, &error)?;
+            let question = ReportQuestion::Holder(query);
+            failed_told(alloc, question, failure, telling.form).map_err(|_| DeskFault::memory())?
+        }
+    };
+    write_out(rt, &told)
+}
+
+/// Who held a prefix, and a report on that, in the form that is asked for, whatever keeps it from one.
+pub(crate) fn holder_explained(
+    rt: &HostRuntime,
+    handles: &(impl Threads + Wait + Net + Sync),
+    query: &HolderQuery,
+    settings: SettingsCheck,
+    telling: &ReportOptions,
+    asked: &FilesAsked,
+) -> Result<u8, DeskFault> {
+    let written = holder_written(rt, handles, query, settings, telling, asked);
+    or_fault(rt, telling.form, written)
 }
 
 /// Volumes of a side put together as one journal.
@@ -186,8 +424,10 @@ pub(crate) fn joined(
     asked: &FilesAsked,
 ) -> Result<u8, DeskFault> {
     let files = files_asked(rt, net, asked)?;
-    let told = join_files(rt.alloc(), &files, files.paths(), query);
-    write_out(rt, &told_or_why(rt, &files, told)?)
+    match join_files(rt.alloc(), &files, files.paths(), query, asked.detail) {
+        Ok(told) => write_out(rt, &told),
+        Err(error) => write_out(rt, &why_not(rt, &files, &error)?.told(rt.alloc())),
+    }
 }
 
 /// The octets of a file. `Path` where it can't be read.

@@ -1,7 +1,7 @@
 //! Time zones, by the system's zone files.
 
 use crate::fault::DeskFault;
-use desk_args::ReportOptions;
+use desk_args::{NoteDetail, ReportOptions};
 use desk_reports::ReportStyle;
 use std::alloc::Global;
 use std::fs;
@@ -50,9 +50,14 @@ pub(crate) fn zone_named(
 }
 
 /// How a report is told, by the zone that was found.
-pub(crate) fn style_of<'a>(telling: &ReportOptions, zone: &'a Option<ZoneFile>) -> ReportStyle<'a> {
+pub(crate) fn style_of<'a>(
+    telling: &ReportOptions,
+    zone: &'a Option<ZoneFile>,
+    detail: NoteDetail,
+) -> ReportStyle<'a> {
     ReportStyle {
         form: telling.form,
         zone: zone.as_ref(),
+        detail,
     }
 }

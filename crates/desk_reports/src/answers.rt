@@ -1,13 +1,19 @@
-//! An answer of the desk as JSON.
+//! Answers of the desk as JSON, each of the value that was answered.
 
-use archive_desk::CommandOutput;
-use attribution_desk::Command;
-use report_data::{Object, text_of, time_of};
+use archive_desk::{
+    ArchiveJudgement, EvidenceReply, FindAnswer, HolderReply, JudgedAnswer, WhoAnswer,
+    push_journals,
+};
+use attribution_desk::{DeskError, Finding, SearchAnswer};
+use causal_order::Certificate;
+use holder_answers::HolderAnswer;
+use pair_judgement::{Judgement, judgement_line};
+use report_data::{Object, client_of, text_of, time_of};
 use serde_json::Value;
 use std::alloc::{AllocError, Global};
-use text_fields::number_of;
+use std::path::PathBuf;
 
-/// What the lines of an answer are, in their order.
+/// What an answer has, before it is an object.
 #[derive(Drop)]
 struct AnswerParts {
     /// Lines that say one thing, as `accepted`, `none` or `refused ..`.
@@ -16,9 +22,20 @@ struct AnswerParts {
     from: Value,
     to: Value,
     certificates: Vec<Value>,
-    /// The text of a certificate, as far as it has come.
-    certificate: Vec<u8>,
     access: Vec<Value>,
+}
+
+/// The lines of a text, each of which ends with a line feed.
+fn lines_of(alloc: Global, text: &[u8]) -> Result<Vec<Value>, AllocError> {
+    let mut values = Vec::new(alloc);
+    let text = text.strip_suffix(b"\n").unwrap_or(text);
+    if text.is_empty() {
+        return Ok(values);
+    }
+    for line in text.split(|octet| *octet == b'\n') {
+        values.push(text_of(alloc, line)?)?;
+    }
+    Ok(values)
 }
 
 impl AnswerParts {
@@ -29,115 +46,216 @@ impl AnswerParts {
             from: Value::Null,
             to: Value::Null,
             certificates: Vec::new(alloc),
-            certificate: Vec::new(alloc),
             access: Vec::new(alloc),
         }
     }
 
-    /// Takes a line of a certificate's text.
-    fn take_certificate(&mut self, alloc: Global, line: &[u8]) -> Result<(), AllocError> {
-        self.certificate.extend_from_slice(line)?;
-        self.certificate.push(b'\n')?;
-        if line == b"end".as_slice() {
-            let text = text_of(alloc, &self.certificate)?;
-            self.certificate.clear();
-            self.certificates.push(text)?;
+    /// Adds a line, which ends with a line feed.
+    fn add_line(&mut self, alloc: Global, line: &[u8]) -> Result<(), AllocError> {
+        let line = line.strip_suffix(b"\n").unwrap_or(line);
+        self.lines.push(text_of(alloc, line)?)?;
+        Ok(())
+    }
+
+    fn add_text(&mut self, alloc: Global, certificate: &[u8]) -> Result<(), AllocError> {
+        self.certificates.push(text_of(alloc, certificate)?)?;
+        Ok(())
+    }
+
+    /// Adds the text of a certificate.
+    fn add_certificate(
+        &mut self,
+        alloc: Global,
+        certificate: &Certificate,
+    ) -> Result<(), DeskError> {
+        match certificate::write(alloc, certificate) {
+            Ok(text) => Ok(self.add_text(alloc, &text)?),
+            Err(_) => Err(DeskError::Memory),
+        }
+    }
+
+    /// Adds the line of a ruling.
+    fn add_ruling(&mut self, alloc: Global, ruling: &Judgement) -> Result<(), AllocError> {
+        let line = judgement_line(alloc, ruling)?;
+        self.add_line(alloc, &line)
+    }
+
+    /// Adds what was found.
+    fn add_found(&mut self, alloc: Global, answer: &SearchAnswer) -> Result<(), DeskError> {
+        match answer {
+            SearchAnswer::Refused(ruling) => Ok(self.add_ruling(alloc, ruling)?),
+            SearchAnswer::Found(Finding::Shown(certificate)) => {
+                self.add_certificate(alloc, certificate)
+            }
+            SearchAnswer::Found(Finding::NoneFound | Finding::TooLong) => {
+                Ok(self.add_line(alloc, b"none\n")?)
+            }
+        }
+    }
+
+    /// Adds who held the prefix and when, with the certificate.
+    fn add_held(&mut self, alloc: Global, certificate: &Certificate) -> Result<(), DeskError> {
+        self.holder = client_of(alloc, &certificate.holder)?;
+        self.from = time_of(alloc, certificate.from.milliseconds())?;
+        self.to = time_of(alloc, certificate.to.milliseconds())?;
+        self.add_certificate(alloc, certificate)
+    }
+
+    /// Adds who held the prefix, or that nobody is named.
+    fn add_holder(&mut self, alloc: Global, answer: &HolderAnswer) -> Result<(), DeskError> {
+        match answer {
+            HolderAnswer::Held(certificate) => self.add_held(alloc, certificate),
+            HolderAnswer::Refused(ruling) => Ok(self.add_ruling(alloc, ruling)?),
+            HolderAnswer::NotNamed(_) | HolderAnswer::TooLong(_) => {
+                Ok(self.add_line(alloc, b"none\n")?)
+            }
+        }
+    }
+
+    /// Adds lines of access records, each after its word.
+    fn add_access(&mut self, alloc: Global, access: &[u8]) -> Result<(), AllocError> {
+        let text = access.strip_suffix(b"\n").unwrap_or(access);
+        for line in text.split(|octet| *octet == b'\n') {
+            if let Some(record) = line.strip_prefix(b"access ") {
+                self.access.push(text_of(alloc, record)?)?;
+            }
         }
         Ok(())
     }
 
-    /// Takes the interval of an answer, in milliseconds.
-    fn take_interval(&mut self, alloc: Global, words: &[u8]) -> Result<(), AllocError> {
-        let mut moments = words.split(|octet| *octet == b' ');
-        self.from = moment_of(alloc, moments.next())?;
-        self.to = moment_of(alloc, moments.next())?;
-        Ok(())
-    }
-
-    /// Takes a line.
-    fn take(&mut self, alloc: Global, line: &[u8]) -> Result<(), AllocError> {
-        if !self.certificate.is_empty() || line == b"pd-certificate 1".as_slice() {
-            return self.take_certificate(alloc, line);
-        }
-        if let Some(holder) = line.strip_prefix(b"holder ") {
-            self.holder = text_of(alloc, holder)?;
-        } else if let Some(words) = line.strip_prefix(b"interval ") {
-            self.take_interval(alloc, words)?;
-        } else if let Some(record) = line.strip_prefix(b"access ") {
-            self.access.push(text_of(alloc, record)?)?;
-        } else if !line.starts_with(b"from ") {
-            self.lines.push(text_of(alloc, line)?)?;
-        }
-        Ok(())
+    /// The object, and a line feed.
+    fn into_text(
+        self,
+        alloc: Global,
+        command: &'static str,
+        status: u8,
+        notes: &[u8],
+    ) -> Result<Vec<u8>, AllocError> {
+        let notes = lines_of(alloc, notes)?;
+        let line = Object::answer(alloc)
+            .with("command", command)
+            .with("status", status)
+            .with("lines", Value::Array(self.lines))
+            .with("holder", self.holder)
+            .with("from", self.from)
+            .with("to", self.to)
+            .with("certificates", Value::Array(self.certificates))
+            .with("access", Value::Array(self.access))
+            .with("notes", Value::Array(notes))
+            .into_line()?;
+        Ok(line.into_bytes())
     }
 }
 
-/// A moment in digits, in milliseconds: null where it is none.
-fn moment_of(alloc: Global, digits: Option<&[u8]>) -> Result<Value, AllocError> {
-    let Some(digits) = digits else {
-        return Ok(Value::Null);
-    };
-    match number_of(digits) {
-        Some(milliseconds) => time_of(alloc, milliseconds),
-        None => Ok(Value::Null),
-    }
+/// Writes who held a prefix as one JSON object, and a line feed. `Memory` where a growth was refused.
+pub fn holder_data(alloc: Global, answer: &HolderAnswer) -> Result<Vec<u8>, DeskError> {
+    let mut parts = AnswerParts::new(alloc);
+    parts.add_holder(alloc, answer)?;
+    let text = parts.into_text(alloc, "who", answer.status(), answer.note())?;
+    Ok(text)
 }
 
-/// The lines of a text, each of which ends with a line feed.
-fn lines_of(alloc: Global, text: &[u8]) -> Result<Value, AllocError> {
-    let mut values = Vec::new(alloc);
-    let text = text.strip_suffix(b"\n").unwrap_or(text);
-    if text.is_empty() {
-        return Ok(Value::Array(values));
-    }
-    for line in text.split(|octet| *octet == b'\n') {
-        values.push(text_of(alloc, line)?)?;
-    }
-    Ok(Value::Array(values))
-}
-
-fn name_of(command: &Command) -> &'static str {
-    match command {
-        Command::Audit { .. } => "audit",
-        Command::Batch { .. } => "batch",
-        Command::Timeline => "timeline",
-        Command::Clocks => "clocks",
-        Command::Find(_) => "find",
-        Command::Who(_, _) => "who",
-    }
-}
-
-/// Writes what is told of a command as one JSON object, and a line feed: the lines that say one thing, who held the
-/// prefix and when, the certificates, the access records, and the notes. `AllocError` where a growth was refused.
-pub fn answer_data(
+/// Writes what was found of the evidence of an interval as one JSON object, with the lines of standard error. `Memory`
+/// where a growth was refused.
+pub fn found_data(
     alloc: Global,
-    command: &Command,
-    told: &CommandOutput,
+    answer: &SearchAnswer,
+    notes: &[u8],
+) -> Result<Vec<u8>, DeskError> {
+    let mut parts = AnswerParts::new(alloc);
+    parts.add_found(alloc, answer)?;
+    let text = parts.into_text(alloc, "find", answer.status(), notes)?;
+    Ok(text)
+}
+
+/// Writes a ruling on a certificate as one JSON object, with the lines of standard error. `AllocError` where a growth
+/// was refused.
+pub fn ruling_data(alloc: Global, ruling: &Judgement, notes: &[u8]) -> Result<Vec<u8>, AllocError> {
+    let mut parts = AnswerParts::new(alloc);
+    parts.add_ruling(alloc, ruling)?;
+    parts.into_text(alloc, "audit", pair_judgement::status_of(ruling), notes)
+}
+
+/// Writes what files answer to who held a prefix as one JSON object, with the lines of standard error. `Memory` where a
+/// growth was refused.
+pub fn who_data(alloc: Global, answer: &WhoAnswer, notes: &[u8]) -> Result<Vec<u8>, DeskError> {
+    let mut parts = AnswerParts::new(alloc);
+    match &answer.reply {
+        HolderReply::Answered { answer, .. } => parts.add_holder(alloc, answer)?,
+        HolderReply::Lacking(_, _) => parts.add_line(alloc, b"none\n")?,
+    }
+    parts.add_access(alloc, &answer.access)?;
+    let text = parts.into_text(alloc, "who", answer.reply.status(), notes)?;
+    Ok(text)
+}
+
+/// Adds what files answer of a stretch, behind the line that names the two files.
+fn add_stretch(
+    parts: &mut AnswerParts,
+    alloc: Global,
+    names: &[PathBuf],
+    reply: &EvidenceReply,
+) -> Result<(), DeskError> {
+    match reply {
+        EvidenceReply::Answered { pair, answer, .. } => {
+            let mut files = Vec::new(alloc);
+            push_journals(&mut files, names, pair)?;
+            parts.add_line(alloc, &files)?;
+            parts.add_found(alloc, answer)
+        }
+        EvidenceReply::Lacking(_, _) => Ok(parts.add_line(alloc, b"none\n")?),
+    }
+}
+
+/// Writes what files answer of the evidence of an interval as one JSON object, with the status and the lines of
+/// standard error. `Memory` where a growth was refused.
+pub fn find_data(
+    alloc: Global,
+    names: &[PathBuf],
+    answer: &FindAnswer,
+    status: u8,
+    notes: &[u8],
+) -> Result<Vec<u8>, DeskError> {
+    let mut parts = AnswerParts::new(alloc);
+    for stretch in answer.stretches.as_slice() {
+        add_stretch(&mut parts, alloc, names, &stretch.reply)?;
+    }
+    let text = parts.into_text(alloc, "find", status, notes)?;
+    Ok(text)
+}
+
+fn add_judged(
+    parts: &mut AnswerParts,
+    alloc: Global,
+    judged: &ArchiveJudgement,
+) -> Result<(), AllocError> {
+    let mut line = Vec::new(alloc);
+    judged.push_line(alloc, &mut line)?;
+    parts.add_line(alloc, &line)
+}
+
+/// Writes what files answer to certificates as one JSON object, with the status and the lines of standard error.
+/// `AllocError` where a growth was refused.
+pub fn judged_data(
+    alloc: Global,
+    answer: &JudgedAnswer,
+    status: u8,
+    notes: &[u8],
 ) -> Result<Vec<u8>, AllocError> {
     let mut parts = AnswerParts::new(alloc);
-    let text = told.text.strip_suffix(b"\n").unwrap_or(&told.text);
-    for line in text.split(|octet| *octet == b'\n') {
-        parts.take(alloc, line)?;
+    for judged in answer.judged.as_slice() {
+        add_judged(&mut parts, alloc, judged)?;
     }
-    let AnswerParts {
-        lines,
-        holder,
-        from,
-        to,
-        certificates,
-        certificate: _certificate,
-        access,
-    } = parts;
-    let line = Object::new(alloc)
-        .with("command", name_of(command))
-        .with("status", told.status)
-        .with("lines", Value::Array(lines))
-        .with("holder", holder)
-        .with("from", from)
-        .with("to", to)
-        .with("certificates", Value::Array(certificates))
-        .with("access", Value::Array(access))
-        .with_made("notes", lines_of(alloc, &told.notes))
-        .into_line()?;
-    Ok(line.into_bytes())
+    parts.into_text(alloc, "audit", status, notes)
+}
+
+/// Writes a line that refuses files as one JSON object on a command. `AllocError` where a growth was refused.
+pub fn refused_data(
+    alloc: Global,
+    command: &'static str,
+    line: &[u8],
+) -> Result<Vec<u8>, AllocError> {
+    let mut parts = AnswerParts::new(alloc);
+    parts.add_line(alloc, line)?;
+    parts.into_text(alloc, command, 1, b"")
 }

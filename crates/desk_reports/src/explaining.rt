@@ -3,6 +3,7 @@
 ghost use Rattle.std.specs.Prelude.{◌≡◌, IfOk, IfErr, None};
 ghost use Rattle.std.specs.Result.{ForOk};
 ghost use Rattle.journal_text.specs.Closed.{IsClosed};
+ghost use Rattle.attribution_desk.specs.Case.{IsCaseOf};
 ghost use Rattle.desk_reports.specs.Explaining.{IsFullExplanation, IsExplained, IsExplainedOfRead};
 
 use attribution::Verdict;
@@ -56,6 +57,27 @@ fn explain_indexed<'a>(
     })
 }
 
+/// As [`explain_journals`], over a case of the primary's journal and the secondary's that is built already. `Memory`
+/// where a growth was refused.
+pub fn explain_case<'a>(
+    alloc: Global,
+    case: &IndexedPair,
+    primary: &Journal,
+    secondary: &Journal,
+    claim: &'a Certificate,
+    skew: Skew,
+    transit: Transit,
+) -> Result<Explanation<'a>, DeskError>
+    requires { IsCaseOf primary.now secondary.now skew case.now }
+    ensures explained { IfOk result (IsExplained primary.now secondary.now skew transit claim.entry.now) }
+    ensures refused { IfErr result (λ e. e ≡ DeskError.Memory) }
+{
+    match case {
+        IndexedPair::Open(index) => explain_indexed(alloc, index, claim, skew, transit),
+        IndexedPair::Refused(ruling) => Ok(bare(*ruling)),
+    }
+}
+
 /// The ruling on a certificate over the primary's journal and the secondary's, and what it rests on: what stands
 /// against the two journals; else the verdict, and all that the certificate shows. `Memory` where a growth was refused.
 pub fn explain_journals<'a>(
@@ -73,10 +95,7 @@ pub fn explain_journals<'a>(
     ensures refused { IfErr result (λ e. e ≡ DeskError.Memory) }
 {
     let case = IndexedPair::of(rt, alloc, primary, secondary, skew)?;
-    match &case {
-        IndexedPair::Open(index) => explain_indexed(alloc, index, claim, skew, transit),
-        IndexedPair::Refused(ruling) => Ok(bare(*ruling)),
-    }
+    explain_case(alloc, &case, primary, secondary, claim, skew, transit)
 }
 
 /// The ruling on what two texts are as journals and on what a third was read to, and what it rests on: the first of the

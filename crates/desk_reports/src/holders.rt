@@ -1,138 +1,43 @@
 //! Who held a prefix, and why; or why nobody is named.
 
-ghost use Rattle.std.specs.Prelude.{◌≡◌, IfOk, IfErr, map};
+ghost use Rattle.std.specs.Prelude.{◌≡◌, IfOk, map};
 ghost use Rattle.std.specs.Result.{ForOk};
 ghost use Rattle.journal_text.specs.Closed.{IsClosed};
 ghost use Rattle.report_document.specs.Telling.{told_of};
-ghost use Rattle.desk_reports.specs.NoHolders.{IsNotNamed, IsNoHolder, IsNoHolderOf, no_holder_told};
+ghost use Rattle.desk_reports.specs.NoHolders.{no_holder_told};
 
-use crate::explaining::explain_read;
+use crate::explaining::explain_case;
 use crate::telling::{ReportStyle, ReportSubject, page_told, written};
 use crate::why_data::why_data;
 use archive_desk::CommandOutput;
 use attribution::Verdict;
-use attribution_desk::{DeskError, IndexedPair, ReadPair, Search, SearchAnswer, search_pair};
+use attribution_desk::{DeskError, IndexedPair, ReadPair};
 use binding_rules::Role;
-use candidate_leases::{
-    CandidateLease, NoHolderReason, VolumeEnds, candidate_leases, no_holder_reason,
-};
+use candidate_leases::VolumeEnds;
+use causal_order::Certificate;
 use desk_args::{ReportForm, SettingsCheck};
+use holder_answers::{HolderAnswer, holder_answer_in};
 use journal_lines::Journal;
-use line_index::LineIndex;
-use pair_judgement::{Judgement, objection};
+use pair_judgement::Judgement;
 use plain_search::HolderQuery;
-use report_document::{Block, refusal_blocks, why_blocks};
+use report_document::{Block, Explanation, refusal_blocks, why_blocks};
 use report_render::{RenderedText, passages_of, text_of};
 use std::alloc::{AllocError, Global};
 use std::thread::Threads;
-
-/// The certificate's text in an answer that names a holder: what stands behind its first three lines.
-fn certificate_in(line: &[u8]) -> &[u8] {
-    let mut rest = line;
-    for _ in 0..3 {
-        match rest.iter().position(|octet| *octet == b'\n') {
-            Some(at) => rest = &rest[at + 1..],
-            None => return rest,
-        }
-    }
-    rest
-}
-
-/// Why a search names nobody.
-#[derive(Drop)]
-pub enum NoHolder {
-    /// This stands against the two journals, or against asking this of them.
-    Refused(Judgement),
-    /// Nobody is shown to have had the prefix: why, with the delegations near the moment.
-    NotNamed {
-        why: NoHolderReason,
-        leases: Vec<CandidateLease>,
-    },
-}
-
-/// Why nobody is named over an index of two journals.
-fn reasons_by(
-    alloc: Global,
-    index: &LineIndex,
-    query: &HolderQuery,
-    ends: VolumeEnds,
-) -> Result<NoHolder, DeskError>
-    ensures why { IfOk result (IsNotNamed index.now.journals query.now ends) }
-    ensures refused { IfErr result (λ e. e ≡ DeskError.Memory) }
-{
-    let leases = candidate_leases(alloc, index, query)?;
-    let why = no_holder_reason(index, &leases, query, ends);
-    Ok(NoHolder::NotNamed { why, leases })
-}
-
-/// Why nobody is named over two journals: what stands against them or against the question, or else the reason.
-fn reasons_over(
-    rt: &(impl Threads + Sync),
-    alloc: Global,
-    primary: &Journal,
-    secondary: &Journal,
-    query: &HolderQuery,
-    settings: SettingsCheck,
-    ends: VolumeEnds,
-) -> Result<NoHolder, DeskError>
-    requires primary_closed { IsClosed primary.now.lines }
-    requires secondary_closed { IsClosed secondary.now.lines }
-    ensures why { IfOk result (IsNoHolder primary.now secondary.now query.now settings ends) }
-    ensures refused { IfErr result (λ e. e ≡ DeskError.Memory) }
-{
-    let case = IndexedPair::of(rt, alloc, primary, secondary, query.skew)?;
-    let index = match &case {
-        IndexedPair::Open(index) => index,
-        IndexedPair::Refused(ruling) => return Ok(NoHolder::Refused(*ruling)),
-    };
-    if let SettingsCheck::MustAgree = settings
-        && let Some(ruling) = objection(primary, secondary, query.skew, query.transit)
-    {
-        return Ok(NoHolder::Refused(ruling));
-    }
-    reasons_by(alloc, index, query, ends)
-}
-
-/// Why nobody is named over two texts as journals.
-fn reasons_of(
-    rt: &(impl Threads + Sync),
-    alloc: Global,
-    pair: &ReadPair,
-    query: &HolderQuery,
-    settings: SettingsCheck,
-    ends: VolumeEnds,
-) -> Result<NoHolder, DeskError>
-    requires primary_closed { ForOk pair.now.primary (λ journal. IsClosed journal.lines) }
-    requires secondary_closed { ForOk pair.now.secondary (λ journal. IsClosed journal.lines) }
-    ensures why { IfOk result (IsNoHolderOf pair.now.primary pair.now.secondary query.now settings ends) }
-    ensures refused { IfErr result (λ e. e ≡ DeskError.Memory) }
-{
-    match (&pair.primary, &pair.secondary) {
-        (Ok(primary), Ok(secondary)) => {
-            reasons_over(rt, alloc, primary, secondary, query, settings, ends)
-        }
-        (Err(fault), _) => Ok(NoHolder::Refused(Judgement::Verdict(Verdict::Journal(
-            Role::Primary,
-            *fault,
-        )))),
-        (Ok(_), Err(fault)) => Ok(NoHolder::Refused(Judgement::Verdict(Verdict::Journal(
-            Role::Secondary,
-            *fault,
-        )))),
-    }
-}
 
 /// What is told of why nobody is named.
 fn told_reasons(
     alloc: Global,
     query: &HolderQuery,
-    reasons: &NoHolder,
+    answer: &HolderAnswer,
 ) -> Result<Vec<Block>, AllocError>
-    ensures { IfOk result (λ blocks. map told_of blocks.items ≡ no_holder_told query.now reasons.now) }
+    ensures { IfOk result (λ blocks. map told_of blocks.items ≡ no_holder_told query.now answer.now) }
 {
-    match reasons {
-        NoHolder::Refused(ruling) => refusal_blocks(alloc, query, ruling),
-        NoHolder::NotNamed { why, leases } => why_blocks(alloc, query, why, leases),
+    match answer {
+        HolderAnswer::Held(_) => Ok(Vec::new(alloc)),
+        HolderAnswer::Refused(ruling) => refusal_blocks(alloc, query, ruling),
+        HolderAnswer::NotNamed(none) => why_blocks(alloc, query, &none.why, &none.leases),
+        HolderAnswer::TooLong(none) => why_blocks(alloc, query, &none.why, &none.leases),
     }
 }
 
@@ -140,29 +45,29 @@ fn told_reasons(
 fn spelled_reasons(
     alloc: Global,
     query: &HolderQuery,
-    line: Vec<u8>,
-    reasons: &NoHolder,
+    answer: &HolderAnswer,
     style: &ReportStyle,
-) -> Result<RenderedText, AllocError> {
-    let blocks = told_reasons(alloc, query, reasons)?;
+) -> Result<RenderedText, DeskError> {
+    let line = answer.text(alloc)?;
+    let blocks = told_reasons(alloc, query, answer)?;
     let passages = passages_of(alloc, &blocks, style.zone)?;
     Ok(RenderedText { line, passages })
 }
 
-/// A report on a search that names nobody, in the form that is asked for.
+/// A report on an answer that names nobody, in the form that is asked for.
 fn why_written(
     alloc: Global,
     pair: &ReadPair,
     query: &HolderQuery,
-    line: Vec<u8>,
-    reasons: &NoHolder,
+    answer: &HolderAnswer,
     style: &ReportStyle,
 ) -> Result<Vec<u8>, DeskError> {
     if style.form == ReportForm::Json {
-        let data = why_data(alloc, query, &line, reasons)?;
+        let line = answer.text(alloc)?;
+        let data = why_data(alloc, query, &line, answer)?;
         return Ok(data);
     }
-    let spelling = spelled_reasons(alloc, query, line, reasons, style)?;
+    let spelling = spelled_reasons(alloc, query, answer, style)?;
     if style.form == ReportForm::Page {
         let subject = ReportSubject {
             pair,
@@ -176,28 +81,80 @@ fn why_written(
     Ok(text)
 }
 
-/// A report on a search that names nobody.
+/// A report on an answer that names nobody.
 fn why_told(
-    rt: &(impl Threads + Sync),
     alloc: Global,
     pair: &ReadPair,
     query: &HolderQuery,
-    settings: SettingsCheck,
-    ends: VolumeEnds,
-    found: SearchAnswer,
+    answer: &HolderAnswer,
     style: &ReportStyle,
-) -> Result<CommandOutput, DeskError>
-    requires primary_closed { ForOk pair.now.primary (λ journal. IsClosed journal.lines) }
-    requires secondary_closed { ForOk pair.now.secondary (λ journal. IsClosed journal.lines) }
-{
-    let SearchAnswer { line, status, note } = found;
-    let reasons = reasons_of(rt, alloc, pair, query, settings, ends)?;
-    let text = why_written(alloc, pair, query, line, &reasons, style)?;
+) -> Result<CommandOutput, DeskError> {
+    let text = why_written(alloc, pair, query, answer, style)?;
+    let mut notes = Vec::new(alloc);
+    notes.extend_from_slice(answer.note())?;
     Ok(CommandOutput {
         text,
-        status,
-        notes: note,
+        status: answer.status(),
+        notes,
     })
+}
+
+/// A report on the certificate that names a holder.
+fn held_told(
+    alloc: Global,
+    pair: &ReadPair,
+    query: &HolderQuery,
+    certificate: &Certificate,
+    explanation: &Explanation,
+    style: &ReportStyle,
+) -> Result<CommandOutput, DeskError> {
+    let Ok(written_certificate) = certificate::write(alloc, certificate) else {
+        return Err(DeskError::Memory);
+    };
+    let subject = ReportSubject {
+        pair,
+        certificate: &written_certificate,
+        skew: query.skew,
+        transit: query.transit,
+    };
+    let text = written(alloc, explanation, &subject, style)?;
+    Ok(CommandOutput {
+        text,
+        status: 0,
+        notes: Vec::new(alloc),
+    })
+}
+
+/// The answer over two journals, whose lines are indexed once, and a report on it.
+fn told_over(
+    rt: &(impl Threads + Sync),
+    alloc: Global,
+    pair: &ReadPair,
+    primary: &Journal,
+    secondary: &Journal,
+    query: &HolderQuery,
+    settings: SettingsCheck,
+    ends: VolumeEnds,
+    style: &ReportStyle,
+) -> Result<CommandOutput, DeskError>
+    requires primary_closed { IsClosed primary.now.lines }
+    requires secondary_closed { IsClosed secondary.now.lines }
+{
+    let case = IndexedPair::of(rt, alloc, primary, secondary, query.skew)?;
+    let answer = holder_answer_in(alloc, &case, primary, secondary, query, settings, ends)?;
+    let HolderAnswer::Held(certificate) = &answer else {
+        return why_told(alloc, pair, query, &answer, style);
+    };
+    let explanation = explain_case(
+        alloc,
+        &case,
+        primary,
+        secondary,
+        certificate,
+        query.skew,
+        query.transit,
+    )?;
+    held_told(alloc, pair, query, certificate, &explanation, style)
 }
 
 /// What a search for a holder answers over two texts as journals, and a report on it: what the certificate shows, or
@@ -214,31 +171,15 @@ pub fn holder_told(
     requires primary_closed { ForOk pair.now.primary (λ journal. IsClosed journal.lines) }
     requires secondary_closed { ForOk pair.now.secondary (λ journal. IsClosed journal.lines) }
 {
-    let found = search_pair(rt, alloc, pair, &Search::Who(*query, settings))?;
-    if found.status != 0 {
-        return why_told(rt, alloc, pair, query, settings, ends, found, style);
-    }
-    let certificate = certificate_in(&found.line);
-    let claim = certificate::read(alloc, certificate);
-    let explanation = explain_read(
-        rt,
-        alloc,
-        &pair.primary,
-        &pair.secondary,
-        &claim,
-        query.skew,
-        query.transit,
-    )?;
-    let subject = ReportSubject {
-        pair,
-        certificate,
-        skew: query.skew,
-        transit: query.transit,
+    let (side, fault) = match (&pair.primary, &pair.secondary) {
+        (Ok(primary), Ok(secondary)) => {
+            return told_over(
+                rt, alloc, pair, primary, secondary, query, settings, ends, style,
+            );
+        }
+        (Err(fault), _) => (Role::Primary, *fault),
+        (Ok(_), Err(fault)) => (Role::Secondary, *fault),
     };
-    let text = written(alloc, &explanation, &subject, style)?;
-    Ok(CommandOutput {
-        text,
-        status: found.status,
-        notes: found.note,
-    })
+    let refused = HolderAnswer::Refused(Judgement::Verdict(Verdict::Journal(side, fault)));
+    why_told(alloc, pair, query, &refused, style)
 }

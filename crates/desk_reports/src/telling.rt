@@ -5,12 +5,12 @@ ghost use Rattle.journal_text.specs.Closed.{IsClosed};
 
 use crate::explaining::explain_read;
 use archive_desk::CommandOutput;
-use attribution_desk::{DeskError, ReadPair};
-use desk_args::ReportForm;
+use attribution_desk::{DeskError, ReadPair, warnings_on};
+use desk_args::{NoteDetail, ReportForm};
 use journal_lines::{Journal, JournalFault};
 use journal_text::write;
 use lead_time::{Skew, Transit};
-use pair_judgement::{status_of, warnings};
+use pair_judgement::status_of;
 use report_data::data_of;
 use report_document::{Explanation, document_of};
 use report_render::{
@@ -26,6 +26,8 @@ pub struct ReportStyle<'a> {
     pub form: ReportForm,
     /// The zone in whose local time moments are told too.
     pub zone: Option<&'a ZoneFile>,
+    /// How much is said of files that are passed over.
+    pub detail: NoteDetail,
 }
 
 /// The program that a page names.
@@ -113,20 +115,6 @@ pub fn written<'a>(
     }
 }
 
-/// The warnings on what two texts are as journals; none where one isn't.
-fn warnings_on(
-    alloc: Global,
-    pair: &ReadPair,
-    skew: Skew,
-    transit: Transit,
-) -> Result<Vec<u8>, AllocError> {
-    match (&pair.primary, &pair.secondary) {
-        (Ok(primary), Ok(secondary)) => warnings(alloc, primary, secondary, skew, transit),
-        (Ok(_), Err(_)) => Ok(Vec::new(alloc)),
-        (Err(_), _) => Ok(Vec::new(alloc)),
-    }
-}
-
 /// The report on a certificate's text over two texts as journals, with clocks within this skew of true time and answers
 /// that reach their clients within this transit; status 0 where the certificate is accepted. `Memory` where a growth
 /// was refused.
@@ -159,7 +147,7 @@ pub fn explain_told(
         transit,
     };
     let text = written(alloc, &explanation, &subject, style)?;
-    let notes = warnings_on(alloc, pair, skew, transit)?;
+    let notes = warnings_on(alloc, &pair.primary, &pair.secondary, skew, transit)?;
     Ok(CommandOutput {
         text,
         status: status_of(&explanation.ruling),

@@ -1,247 +1,32 @@
 //! Why nobody is named, as JSON.
 
-use crate::holders::NoHolder;
-use attribution::Lasting;
-use binding_rules::Role;
-use candidate_leases::{
-    AtMoment, CandidateLease, NoHolderReason, begun_by, ends_by, lasts_from, may_begin,
-};
-use evidence_report::LineReading;
-use lead_time::Reading;
+use crate::lease_data::leases_of;
+use crate::reason_data::reason_of;
+use holder_answers::HolderAnswer;
 use plain_search::HolderQuery;
-use report_data::{
-    Object, association_of, client_of, line_of, prefix_of, side_of, text_of, time_of,
-};
+use report_data::{Object, prefix_of, text_of, time_of};
 use serde_json::Value;
 use std::alloc::{AllocError, Global};
 
-/// Why nobody is named, with what is told of it so far.
-fn reason(alloc: Global, name: &'static str) -> Object {
-    Object::new(alloc).with("reason", name)
+/// What was asked, and the line that answers it, without its line feed.
+fn answered(alloc: Global, query: &HolderQuery, line: &[u8]) -> Object {
+    let answer = line.strip_suffix(b"\n").unwrap_or(line);
+    Object::answer(alloc)
+        .with_made("answer", text_of(alloc, answer))
+        .with_made("prefix", prefix_of(alloc, &query.prefix))
+        .with_made("at", time_of(alloc, query.at.milliseconds()))
+        .with("skew_ms", query.skew.milliseconds())
+        .with("transit_ms", query.transit.milliseconds())
 }
 
-/// A reason by a side's journal: the least that its clock must have shown, and what it showed last, in milliseconds.
-fn ended(
-    alloc: Global,
-    name: &'static str,
-    side: Role,
-    needed: u64,
-    shown: (&'static str, u64),
-) -> Result<Value, AllocError> {
-    reason(alloc, name)
-        .with("side", side_of(side))
-        .with_made("needed", time_of(alloc, needed))
-        .with_made(shown.0, time_of(alloc, shown.1))
-        .into_value()
-}
-
-/// A reason by two lines.
-fn several(alloc: Global, first: &LineReading, other: &LineReading) -> Result<Value, AllocError> {
-    let mut lines = Vec::new(alloc);
-    lines.push(line_of(alloc, first.at)?)?;
-    lines.push(line_of(alloc, other.at)?)?;
-    reason(alloc, "several")
-        .with("lines", Value::Array(lines))
-        .into_value()
-}
-
-fn why_of(alloc: Global, why: &NoHolderReason) -> Result<Value, AllocError> {
-    match why {
-        NoHolderReason::OutsidePools => reason(alloc, "outside_pools").into_value(),
-        NoHolderReason::BeforeFirstVolume { primary, secondary } => {
-            reason(alloc, "before_first_volume")
-                .with_made("journal_a", time_of(alloc, primary.milliseconds()))
-                .with_made("journal_b", time_of(alloc, secondary.milliseconds()))
-                .into_value()
-        }
-        NoHolderReason::BeforeOpen { side, needed } => {
-            reason(alloc, "before_open")
-                .with("side", side_of(*side))
-                .with_made("needed", time_of(alloc, *needed))
-                .into_value()
-        }
-        NoHolderReason::AfterLastLine { side, needed, last } => {
-            ended(
-                alloc,
-                "after_last_line",
-                *side,
-                *needed,
-                ("last", last.milliseconds()),
-            )
-        }
-        NoHolderReason::PastEnd {
-            side,
-            needed,
-            closed,
-        } => ended(
-            alloc,
-            "past_end",
-            *side,
-            *needed,
-            ("closed", closed.milliseconds()),
-        ),
-        NoHolderReason::SeveralCustomers { unit_length } => {
-            reason(alloc, "several_customers")
-                .with("unit_length", *unit_length)
-                .into_value()
-        }
-        NoHolderReason::Several { first, other } => several(alloc, first, other),
-        NoHolderReason::Carried { line } => {
-            reason(alloc, "carried")
-                .with_made("line", line_of(alloc, line.at))
-                .into_value()
-        },
-        NoHolderReason::NotShown => reason(alloc, "not_shown").into_value(),
-        NoHolderReason::Nobody => reason(alloc, "nobody").into_value(),
-    }
-}
-
-fn moment_or_null(alloc: Global, moment: Option<u64>) -> Result<Value, AllocError> {
-    match moment {
-        Some(moment) => time_of(alloc, moment),
-        None => Ok(Value::Null),
-    }
-}
-
-/// What a lease was at the moment asked of, with what is told of it so far.
-fn state(alloc: Global, name: &'static str) -> Object {
-    Object::new(alloc).with("is", name)
-}
-
-/// A lease that was given back, by its release.
-fn given_back(
-    alloc: Global,
-    name: &'static str,
-    release: &LineReading,
-) -> Result<Value, AllocError> {
-    state(alloc, name)
-        .with_made("release", line_of(alloc, release.at))
-        .into_value()
-}
-
-/// A lease of which a moment is shown that lies so many milliseconds past the moment asked of, or before it.
-fn falls_short(
-    alloc: Global,
-    name: &'static str,
-    moment: (&'static str, u64),
-    short: u64,
-) -> Result<Value, AllocError> {
-    state(alloc, name)
-        .with_made(moment.0, time_of(alloc, moment.1))
-        .with("short_ms", short)
-        .into_value()
-}
-
-/// A lease that may have been given back behind a close line.
-fn later(alloc: Global, side: Role, needed: u64, closed: Reading) -> Result<Value, AllocError> {
-    state(alloc, "later_volumes")
-        .with("side", side_of(side))
-        .with_made("needed", time_of(alloc, needed))
-        .with_made("closed", time_of(alloc, closed.milliseconds()))
-        .into_value()
-}
-
-fn state_of(alloc: Global, found: &AtMoment, at: Reading) -> Result<Value, AllocError> {
-    let at = at.milliseconds();
-    match found {
-        AtMoment::NotBegun => state(alloc, "not_begun").into_value(),
-        AtMoment::Ended(end) => {
-            state(alloc, "ended")
-                .with_made("by", time_of(alloc, *end))
-                .into_value()
-        }
-        AtMoment::GivenBack(release) => given_back(alloc, "given_back", release),
-        AtMoment::Carried => state(alloc, "carried").into_value(),
-        AtMoment::Beginning(begun) => {
-            let short = begun.saturating_sub(at);
-            falls_short(alloc, "beginning", ("begun_by", *begun), short)
-        }
-        AtMoment::Ending(end) => {
-            let short = (at + 1).saturating_sub(*end);
-            falls_short(alloc, "ending", ("lasts_to", *end), short)
-        }
-        AtMoment::MayBeGivenBack(release) => given_back(alloc, "may_be_given_back", release),
-        AtMoment::EarlierVolumes { side, needed } => {
-            state(alloc, "earlier_volumes")
-                .with("side", side_of(*side))
-                .with_made("needed", time_of(alloc, *needed))
-                .into_value()
-        }
-        AtMoment::LaterVolumes {
-            side,
-            needed,
-            closed,
-        } => later(alloc, *side, *needed, *closed),
-        AtMoment::Shown => state(alloc, "shown").into_value(),
-    }
-}
-
-/// From when to when a lease can be shown; null where it is carried.
-fn shown_of(
-    alloc: Global,
-    lease: &CandidateLease,
-    query: &HolderQuery,
-) -> Result<Value, AllocError> {
-    let Lasting::For(valid) = lease.delegation.lasting else {
-        return Ok(Value::Null);
-    };
-    let reading = lease.line.reading;
-    let from = begun_by(reading, query.skew, query.transit);
-    Object::new(alloc)
-        .with_made("from", time_of(alloc, from))
-        .with_made(
-            "to",
-            moment_or_null(alloc, lasts_from(reading, valid, query.skew)),
-        )
-        .into_value()
-}
-
-/// From when to when it may have been.
-fn possible_of(
-    alloc: Global,
-    lease: &CandidateLease,
-    query: &HolderQuery,
-) -> Result<Value, AllocError> {
-    let lasting = &lease.delegation.lasting;
-    let reading = lease.line.reading;
-    let from = match lasting {
-        Lasting::For(_) => Some(may_begin(reading, query.skew)),
-        Lasting::Until(_) => None,
-    };
-    let to = ends_by(reading, lasting, query.skew, query.transit);
-    Object::new(alloc)
-        .with_made("from", moment_or_null(alloc, from))
-        .with_made("to", moment_or_null(alloc, to))
-        .into_value()
-}
-
-fn lease_of(
-    alloc: Global,
-    lease: &CandidateLease,
-    query: &HolderQuery,
-) -> Result<Value, AllocError> {
-    Object::new(alloc)
-        .with_made("line", line_of(alloc, lease.line.at))
-        .with_made("reading", time_of(alloc, lease.line.reading.milliseconds()))
-        .with_made("client", client_of(alloc, &lease.delegation.client))
-        .with_made("iaid", association_of(alloc, lease.delegation.iaid))
-        .with_made("prefix", prefix_of(alloc, &lease.delegation.prefix))
-        .with_made("shown", shown_of(alloc, lease, query))
-        .with_made("possible", possible_of(alloc, lease, query))
-        .with_made("at_the_moment", state_of(alloc, &lease.state, query.at))
-        .into_value()
-}
-
-fn leases_of(
-    alloc: Global,
-    leases: &[CandidateLease],
-    query: &HolderQuery,
-) -> Result<Value, AllocError> {
-    let mut values = Vec::new(alloc);
-    for lease in leases {
-        values.push(lease_of(alloc, lease, query)?)?;
-    }
-    Ok(Value::Array(values))
+/// Writes a line that says that nobody is named, without a reason, as one JSON object and a line feed. `AllocError`
+/// where a growth was refused.
+pub fn line_data(alloc: Global, query: &HolderQuery, line: &[u8]) -> Result<Vec<u8>, AllocError> {
+    let text = answered(alloc, query, line)
+        .with("why", Value::Null)
+        .with("leases", Value::Null)
+        .into_line()?;
+    Ok(text.into_bytes())
 }
 
 /// Writes why nobody is named as one JSON object, and a line feed. `AllocError` where a growth was refused.
@@ -249,21 +34,15 @@ pub fn why_data(
     alloc: Global,
     query: &HolderQuery,
     line: &[u8],
-    reasons: &NoHolder,
+    answer: &HolderAnswer,
 ) -> Result<Vec<u8>, AllocError> {
-    let answer = line.strip_suffix(b"\n").unwrap_or(line);
-    let (why, leases) = match reasons {
-        NoHolder::NotNamed { why, leases } => (why_of(alloc, why), leases_of(alloc, leases, query)),
-        NoHolder::Refused(_) => (Ok(Value::Null), Ok(Value::Null)),
+    let none = match answer {
+        HolderAnswer::NotNamed(none) | HolderAnswer::TooLong(none) => none,
+        HolderAnswer::Held(_) | HolderAnswer::Refused(_) => return line_data(alloc, query, line),
     };
-    let line = Object::new(alloc)
-        .with_made("answer", text_of(alloc, answer))
-        .with_made("prefix", prefix_of(alloc, &query.prefix))
-        .with_made("at", time_of(alloc, query.at.milliseconds()))
-        .with("skew_ms", query.skew.milliseconds())
-        .with("transit_ms", query.transit.milliseconds())
-        .with_made("why", why)
-        .with_made("leases", leases)
+    let text = answered(alloc, query, line)
+        .with_made("why", reason_of(alloc, &none.why))
+        .with_made("leases", leases_of(alloc, &none.leases, query))
         .into_line()?;
-    Ok(line.into_bytes())
+    Ok(text.into_bytes())
 }

@@ -14,9 +14,10 @@ use Rattle.volume_join.specs.declared.error.JoinError.{JoinError}
 use Rattle.volume_join.specs.Joining.{Joining, one, with_next, IsContinuation, HasRoom, IsRefused, IsRuleRefusal}
 use Rattle.join_desk.specs.declared.outcome.JoinOutcome.{JoinOutcome}
 use Rattle.join_desk.specs.declared.outcome.JoinOutcome.TheVariants.{Joined, Refused}
-use Rattle.join_desk.specs.declared.outcome.JoinRefusal.{JoinRefusal}
+use Rattle.volume_spans.specs.declared.refusal.JoinRefusal.{JoinRefusal}
 use Rattle.join_desk.proofs.Rows.{behind_first}
-use Rattle.join_desk.specs.Joined.{journal_of, IsRefusalAt, IsReadBefore, IsLeftOut, IsOutcomeFrom, IsOutcome}
+use Rattle.volume_spans.specs.Refusals.{IsRefusalAt}
+use Rattle.join_desk.specs.Joined.{journal_of, IsReadBefore, IsLeftOut, IsOutcomeFrom, IsOutcome}
 
 module _ (had : ℕ → List ℕ → Type 0) (j : Joining) (count before : ℕ) (f : FiledVolume) (fs : List FiledVolume) (v : VolumeSoFar)
     (copy : IsReadBefore had fs f v) where

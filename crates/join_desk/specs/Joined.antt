@@ -7,26 +7,15 @@ use Rattle.order_book.specs.Replayed.{state_of, IsLegal}
 use Rattle.archive_files.specs.Showing.{IsCopyOf}
 use Rattle.archive_files.specs.Torn.{IsUntornCopyOf}
 use Rattle.volume_join.specs.declared.error.JoinError.{JoinError}
-use Rattle.volume_join.specs.declared.error.JoinError.TheVariants.{OtherVolume, NotClosed, Rule, Head, TooLong, Memory}
 use Rattle.volume_join.specs.Joined.{behind_head}
 use Rattle.volume_join.specs.Joining.{Joining, one, with_next, IsContinuation, HasRoom, IsRefused, IsRuleRefusal}
+use Rattle.volume_spans.specs.declared.refusal.JoinRefusal.{JoinRefusal}
+use Rattle.volume_spans.specs.Refusals.{IsRefusalAt}
 use Rattle.join_desk.specs.declared.outcome.JoinOutcome.{JoinOutcome}
 use Rattle.join_desk.specs.declared.outcome.JoinOutcome.TheVariants.{Joined, Refused}
-use Rattle.join_desk.specs.declared.outcome.JoinRefusal.{JoinRefusal}
-use Rattle.join_desk.specs.declared.outcome.JoinRefusal.TheVariants.{NotClosed as NotClosedFile, Rule as RuleFile}
-use Rattle.join_desk.specs.declared.outcome.JoinRefusal.TheVariants.{Head as HeadFile, TooLong as TooLongFile}
 
 abbrev pub journal_of : Joining → Journal
 journal_of j = record { role = j.last.role; head = j.head; lines = j.lines }
-
--- a refusal of the volume in a file, behind that in the file before it, or of one that stands alone
-abbrev pub IsRefusalAt : (before file : ℕ) → JoinError → JoinRefusal → Type 0
-IsRefusalAt before file NotClosed r = r ≡ NotClosedFile before
-IsRefusalAt before file (Rule line rule) r = r ≡ RuleFile file line rule
-IsRefusalAt before file (Head line) r = r ≡ HeadFile file line
-IsRefusalAt before file TooLong r = r ≡ TooLongFile file
-IsRefusalAt before file OtherVolume r = ⊥
-IsRefusalAt before file Memory r = ⊥
 
 -- a copy of a volume that its file had: where further ones follow it, it isn't torn
 abbrev pub IsReadBefore : (had : ℕ → List ℕ → Type 0) → (later : List FiledVolume) → FiledVolume → VolumeSoFar → Type 0

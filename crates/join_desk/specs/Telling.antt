@@ -21,8 +21,8 @@ use Rattle.join_desk.specs.declared.choosing.VolumeChoice.{VolumeChoice}
 use Rattle.join_desk.specs.declared.choosing.VolumeChoice.TheVariants.{Chosen, NoVolume, Missing}
 use Rattle.join_desk.specs.declared.outcome.JoinOutcome.{JoinOutcome}
 use Rattle.join_desk.specs.declared.outcome.JoinOutcome.TheVariants.{Joined, Refused}
-use Rattle.join_desk.specs.declared.outcome.JoinRefusal.{JoinRefusal}
-use Rattle.join_desk.specs.declared.outcome.JoinRefusal.TheVariants.{NotClosed, Rule, Head, TooLong}
+use Rattle.volume_spans.specs.declared.refusal.JoinRefusal.{JoinRefusal}
+use Rattle.volume_spans.specs.declared.refusal.JoinRefusal.TheVariants.{NotClosed, Rule, Head, TooLong}
 use Rattle.join_desk.specs.Choosing.{IsChoice}
 use Rattle.join_desk.specs.Joined.{IsOutcome}
 use Rattle.join_desk.specs.Text.{text_of}

@@ -9,7 +9,7 @@ use crate::telling::{missing_told, no_volume_told, outcome_told};
 use archive_desk::{CommandOutput, expect_read, passed_over};
 use archive_files::{FilesError, JournalFiles, SettingsScope, catalogue_of};
 use binding_rules::Role;
-use desk_args::JoinQuery;
+use desk_args::{JoinQuery, NoteDetail};
 use journal_archive::{Archive, FiledVolume};
 use std::alloc::Global;
 use std::path::PathBuf;
@@ -75,12 +75,13 @@ pub fn join_files<F: JournalFiles>(
     files: &F,
     names: &[PathBuf],
     query: &JoinQuery,
+    detail: NoteDetail,
 ) -> Result<CommandOutput, FilesError>
     ensures { IfOk result (IsJoinTold (F.had files.now) (F.files files.now) names.now query.now) }
 {
     let catalogue = catalogue_of(alloc, files, SettingsScope::OfEach)?;
     expect_read(names, &catalogue.passed_over)?;
-    let passed = passed_over(alloc, names, &catalogue.passed_over)?;
+    let passed = passed_over(alloc, names, &catalogue.passed_over, detail)?;
     let volumes = shelf_of(query.side, &catalogue.archive);
     let choice = choice_of(alloc, volumes, query.from, query.to)?;
     let told = choice_told(alloc, files, names, passed, query.side, &choice)?;

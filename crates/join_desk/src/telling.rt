@@ -7,7 +7,7 @@ ghost use Rattle.join_desk.specs.Telling.{no_volume_line};
 ghost use Rattle.join_desk.specs.Telling.{missing_line, number_word};
 ghost use Rattle.join_desk.specs.Telling.{refusal_words, refusal_line, IsNoneTold, IsLackTold, IsOutcomeTold};
 
-use crate::outcome::{JoinOutcome, JoinRefusal};
+use crate::outcome::JoinOutcome;
 use crate::text::text_of;
 use archive_desk::{CommandOutput, name_of};
 use binding_rules::Role;
@@ -15,6 +15,7 @@ use journal_archive::FiledVolume;
 use std::alloc::{AllocError, Global};
 use std::path::PathBuf;
 use text_fields::push_number;
+use volume_spans::JoinRefusal;
 
 /// Appends a blank and the name of a file.
 fn push_file(out: &mut Vec<u8>, names: &[PathBuf], file: usize) -> Result<(), AllocError>
@@ -168,7 +169,7 @@ pub(crate) fn missing_told(
 }
 
 /// What is told where volumes aren't one journal: standard output says why, and nothing else is said.
-fn refusal_told(
+pub(crate) fn refusal_told(
     alloc: Global,
     names: &[PathBuf],
     refusal: &JoinRefusal,

@@ -1,7 +1,7 @@
 //! Files of journals at paths of the operating system.
 //!
-//! `JournalPaths` are the files that paths name, of a directory those in it and none deeper, for `archive_files` to
-//! read, whole or at their edges. Where a server runs over a directory it's asked how much of the volume that it writes
+//! `JournalPaths` are the files that paths name, of a directory those in it and none deeper, but for those that a server
+//! keeps beside its volumes, for `archive_files` to read, whole or at their edges. Where a server runs over a directory it's asked how much of the volume that it writes
 //! is on its disk, and of that volume no more is read. Beside `A-0000012.journal` the text `A-0000012.access` may have
 //! access records. What the system answers has no meaning in a contract.
 //!
@@ -70,13 +70,28 @@ fn is_no_file(rt: &HostRuntime, path: Path<'_>) -> bool {
 /// What the name of a file of access records ends with, behind a stop.
 const ACCESS: &str = "access";
 
-/// Adds the files of a directory by their names, but those of access records, and none deeper.
+/// What the names of files with keys end with, behind a stop.
+const KEY: &str = "key";
+
+/// The names of further files that a server keeps in its directory: of both its clocks, and of its settings.
+const KEPT: [&'static str; 2] = ["clock", "settings.toml"];
+
+/// Returns whether a file is one that a server keeps beside its volumes, by its name.
+fn is_kept(path: Path<'_>) -> bool {
+    let by_ending = path.extension() == Some(ACCESS) || path.extension() == Some(KEY);
+    let by_name = match path.file_name() {
+        Some(name) => name == KEPT[0] || name == KEPT[1],
+        None => false,
+    };
+    by_ending || by_name
+}
+
+/// Adds the files of a directory by their names, but those that a server keeps beside its volumes, and none deeper.
 fn add_files_in(rt: &HostRuntime, paths: &mut Vec<PathBuf>, folder: Path<'_>) -> io::Result<()> {
     let mut inside = Vec::new(rt.alloc());
     for entry in fs::read_dir(rt, folder)? {
         let path = folder.join(rt.alloc(), entry?.file_name())?;
-        let has_records = path.as_path().extension() == Some(ACCESS);
-        if !has_records && !is_no_file(rt, path.as_path()) {
+        if !is_kept(path.as_path()) && !is_no_file(rt, path.as_path()) {
             inside.push(path)?;
         }
     }

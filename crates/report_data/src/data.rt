@@ -16,7 +16,7 @@ use std::alloc::{AllocError, Global};
 
 fn question_of(alloc: Global, certificate: &Certificate) -> Result<Value, AllocError> {
     Object::new(alloc)
-        .with_made("client", client_of(alloc, &certificate.holder))
+        .with_made("holder", client_of(alloc, &certificate.holder))
         .with_made("prefix", prefix_of(alloc, &certificate.prefix))
         .with_made("from", time_of(alloc, certificate.from.milliseconds()))
         .with_made("to", time_of(alloc, certificate.to.milliseconds()))
@@ -102,10 +102,22 @@ pub fn data_of(
     explanation: &Explanation<'_>,
     certificate: &[u8],
 ) -> Result<String, AllocError> {
-    Object::new(alloc)
+    Object::answer(alloc)
         .with_made("verdict", verdict_of(alloc, explanation))
         .with_made("failure", failure_of(alloc, &explanation.failure))
         .with_made("report", shown_of(alloc, &explanation.report))
+        .with_made("certificate", text_of(alloc, certificate))
+        .into_line()
+}
+
+/// Writes a line that rules on a certificate's text before any journal is looked at, as JSON: as [`data_of`] does, with
+/// nothing that it rests on. `AllocError` where a growth was refused.
+pub fn verdict_data(alloc: Global, line: &[u8], certificate: &[u8]) -> Result<String, AllocError> {
+    let verdict = line.strip_suffix(b"\n").unwrap_or(line);
+    Object::answer(alloc)
+        .with_made("verdict", text_of(alloc, verdict))
+        .with("failure", Value::Null)
+        .with("report", Value::Null)
         .with_made("certificate", text_of(alloc, certificate))
         .into_line()
 }

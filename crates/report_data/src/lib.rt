@@ -17,6 +17,6 @@ mod object;
 mod pieces;
 mod values;
 
-pub use data::data_of;
+pub use data::{data_of, verdict_data};
 pub use object::Object;
 pub use values::{association_of, client_of, line_of, prefix_of, side_of, text_of, time_of};

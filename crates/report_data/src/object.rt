@@ -1,12 +1,15 @@
 //! Objects, field by field.
 
-ghost use Rattle.std.specs.Prelude.{◌≡◌, Err, IfOk, IsOkAnd, MatchResult};
+ghost use Rattle.std.specs.Prelude.{◌≡◌, Err, IfOk, IsOkAnd, MatchResult, string_bytes};
 ghost use Rattle.serde_json.specs.Data.{object, no_members, put as with_member};
 ghost use Rattle.serde_json.specs.View.{view, members_view};
-ghost use Rattle.report_data.specs.Fields.{HasField};
+ghost use Rattle.report_data.specs.Fields.{HasField, IsLineOf};
 
 use serde_json::{Map, ToValue, Value, put};
 use std::alloc::{AllocError, Global};
+
+/// The edition of the form in which answers are written as objects.
+const FORMAT: u8 = 1;
 
 /// The fields of an object.
 type Fields = Map<String, Value>;
@@ -49,6 +52,11 @@ impl Object {
         }
     }
 
+    /// An object that says by which edition of the objects' form it is written, and nothing else yet.
+    pub fn answer(alloc: Global) -> Object {
+        Object::new(alloc).with("format", FORMAT)
+    }
+
     /// The object with this value at a name, in the place of what was there.
     pub fn with<V: ToValue>(self, name: &str, value: V) -> Object
         ensures { IfOk result.fields (λ f. IsOkAnd self.fields
@@ -83,8 +91,12 @@ impl Object {
         }
     }
 
-    /// The object as a text, and a line feed. `AllocError` where a growth was refused.
-    pub fn into_line(self) -> Result<String, AllocError> {
+    /// The object as a text, which a reader makes the same object of, and a line feed. `AllocError` where a growth was
+    /// refused.
+    pub fn into_line(self) -> Result<String, AllocError>
+        ensures { IfOk result (λ line. IsOkAnd self.fields
+            (λ f. IsLineOf (object (members_view f.entries)) (string_bytes line))) }
+    {
         let alloc = self.alloc;
         let value = self.into_value()?;
         let mut text = value.to_string(alloc)?;

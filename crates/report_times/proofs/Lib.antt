@@ -1,1 +1,2 @@
 pub mod MailDates
+pub mod LocalTimes

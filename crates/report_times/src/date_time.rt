@@ -1,6 +1,6 @@
 //! Dates with a time and an offset.
 
-ghost use Rattle.std.specs.Prelude.{◌≡◌, ◌≤◌, ◌++◌, ℕ, None, IfOk, IfSome, OnOk, IsTrue};
+ghost use Rattle.std.specs.Prelude.{◌≡◌, ◌≤◌, ◌++◌, ℕ, None, IfOk, IfSome, OnOk};
 ghost use Rattle.report_times.specs.DateTimes.{front_of, decimals_of, offset_in, whole_offset, normal_form};
 ghost use Rattle.report_times.specs.DateTimes.{IsDateTime, IsLocalTime};
 
@@ -82,14 +82,12 @@ pub(crate) fn date_time(alloc: Global, text: &[u8]) -> Result<Option<Reading>, A
     Ok(read_time(&normal))
 }
 
-/// Returns whether the text lacks nothing but an offset. `AllocError` where a growth was refused.
-pub(crate) fn lacks_offset(alloc: Global, text: &[u8]) -> Result<bool, AllocError>
-    ensures { IfOk result (λ yes. IsTrue yes → (m : ℕ) × IsLocalTime text.now m) }
+/// The moment of a date with a time and no offset, were it one of UTC. `AllocError` where a growth was refused.
+pub(crate) fn local_time(alloc: Global, text: &[u8]) -> Result<Option<Reading>, AllocError>
+    ensures given { IfOk result (λ o. IfSome o (IsLocalTime text.now)) }
+    ensures none { IfOk result (λ o. o ≡ None → (m : ℕ) → m ≤ 281474976710656 → IsLocalTime text.now m → ⊥) }
 {
     let mut normal = normal_form(alloc, text)?;
     normal.push(b'Z')?;
-    match read_time(&normal) {
-        Some(_) => Ok(true),
-        None => Ok(false),
-    }
+    Ok(read_time(&normal))
 }

@@ -1,5 +1,6 @@
 //! Why a text is no moment.
 
+use lead_time::Reading;
 use std::alloc::AllocError;
 use thiserror::Error;
 
@@ -15,6 +16,12 @@ pub enum ReportTimeError {
     /// It is a date and a time without an offset from UTC.
     #[error("it has no offset from UTC")]
     NoOffset,
+    /// It is a date and a time without an offset from UTC, which clocks of the zone show at these two moments.
+    #[error("clocks of the zone show it twice")]
+    Twice(Reading, Reading),
+    /// It is a date and a time without an offset from UTC, which clocks of the zone never show.
+    #[error("clocks of the zone never show it")]
+    Never,
     /// It is none of what is read.
     #[error("it is no time")]
     NoTime,

@@ -5,7 +5,7 @@ ghost use Rattle.report_times.specs.MailDates.{IsMailDate};
 ghost use Rattle.report_times.specs.ReportTimes.{IsCountedOrDated, IsReportTime, IsNoReportTime, IsWhyNot};
 ghost use Rattle.report_times.specs.declared.error.ReportTimeError.TheVariants.{Memory};
 
-use crate::date_time::{date_time, lacks_offset};
+use crate::date_time::{date_time, local_time};
 use crate::error::ReportTimeError;
 use crate::mail_date::{MailDate, mail_date};
 use crate::unix_time::{either, unix_time};
@@ -22,9 +22,9 @@ fn why_not(alloc: Global, text: &[u8]) -> ReportTimeError
     if let MailDate::NamedZone = mail_date(text) {
         return ReportTimeError::ZoneName;
     }
-    match lacks_offset(alloc, text) {
-        Ok(true) => ReportTimeError::NoOffset,
-        Ok(false) => ReportTimeError::NoTime,
+    match local_time(alloc, text) {
+        Ok(Some(_)) => ReportTimeError::NoOffset,
+        Ok(None) => ReportTimeError::NoTime,
         Err(_) => ReportTimeError::Memory,
     }
 }
@@ -52,10 +52,8 @@ fn counted_or_dated(text: &[u8]) -> Option<Reading>
     }
 }
 
-/// The moment that a text spells, to the millisecond: a date with a time and an offset, a mail's date, or a number of
-/// seconds or milliseconds since 1970. What was left out of decimals lies within that millisecond. Each refusal says
-/// why; `Memory` where a growth was refused.
-pub fn read_report_time(alloc: Global, text: &[u8]) -> Result<Reading, ReportTimeError>
+/// The moment that a text spells by itself. Each refusal says why; `Memory` where a growth was refused.
+pub(crate) fn told_time(alloc: Global, text: &[u8]) -> Result<Reading, ReportTimeError>
     ensures given { IfOk result (IsReportTime text.now) }
     ensures none { IfErr result (λ error. error ≢ Memory → IsNoReportTime text.now) }
     ensures why { IfErr result (IsWhyNot text.now) }

@@ -11,8 +11,10 @@
 
 mod error;
 mod local;
+mod shown;
 mod zone;
 
 pub use error::ZoneError;
 pub use local::push_local;
+pub use shown::ShownMoments;
 pub use zone::ZoneFile;

@@ -85,7 +85,7 @@ class Misfortunes:
         (path / "noise").write_bytes(bytes(range(256)) * 64)
         (path / "begun").write_bytes(b"pd-journal 2 A 77\n1 12")
         (path / "torn").write_bytes(b"pd-journal 2 B 78\nno line\n")
-        words = [f"passed over {path / name}: " for name in ("dangles", "empty", "noise", "begun", "torn")]
+        words = ["passed over 5 files that are no volumes: --verbose says which, and why\n"]
         yield from self.stays_right("strange files", [*self.archive.paths, path], words)
 
     def many_files(self):
@@ -93,7 +93,7 @@ class Misfortunes:
         for number in range(MANY_FILES):
             (path / f"{number:05}").write_bytes(b"%d\n" % number)
         begun = time.monotonic()
-        yield from self.stays_right("many files", [*self.archive.paths, path], [f"passed over {path / '00000'}: "])
+        yield from self.stays_right("many files", [*self.archive.paths, path], [f"passed over {MANY_FILES} files that are no volumes: --verbose says which, and why\n"])
         if time.monotonic() > begun + LONGEST:
             yield f"{MANY_FILES} files took {time.monotonic() - begun:.0f} s"
 

@@ -60,6 +60,11 @@ class Command:
         """Whether an answer is the one without a refusal as far as it was written."""
         return self.wanted.out.startswith(answer.out)
 
+    def is_told(self, answer):
+        """Whether an answer is the fault that standard error names, as the object or the page that was asked for."""
+        named = NAMED.search(answer.err)
+        return {"--json", "--html"} & set(self.words) and named and named[0].encode() in answer.out
+
     def wrong(self, answer, refusal):
         """What is wrong with an answer, if anything is."""
         if answer.status is None:
@@ -73,7 +78,7 @@ class Command:
             return "another answer though nothing failed"
         if answer.status == FAULT and NAMED.search(answer.err):
             is_part = refusal.target == "stdout" and self.is_part(answer)
-            return None if is_part or not answer.out else "a fault behind an answer"
+            return None if is_part or not answer.out or self.is_told(answer) else "a fault behind an answer"
         if answer.status == FAULT and refusal.target == "stderr":
             return None
         if refusal.how.startswith("end") and self.is_honest(answer):

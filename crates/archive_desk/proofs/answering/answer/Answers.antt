@@ -1,4 +1,4 @@
-use Rattle.std.proofs.Common.{◌∙◌, ◌++◌, ap, subst, refl, List}
+use Rattle.std.proofs.Common.{subst, refl, List}
 use Rattle.archive_files.specs.declared.settings_check.SettingsScope.{SettingsScope}
 use Rattle.archive_files.specs.Ties.{AreTied}
 use Rattle.archive_files.specs.declared.cataloguing.SkippedFile.{SkippedFile}
@@ -14,10 +14,6 @@ returns g c = record {
       c.agreement_of.ensures c.in_ok-catalogue.ensures.tied;
   read = subst (λ (ps : List SkippedFile). AllRead c.args.names.now ps) c.deref.ensures.value
       c.in_ok-expect_read.ensures.read;
-  answer = c.in_ok-told.told;
-  is_answer = c.in_ok-told.ensures;
-  text = refl;
-  status = refl;
-  passed = c.in_ok-notes.notes.items;
-  notes = c.in_ok-extend_from_slice.ensures.items ∙ ap (λ n. c.in_ok-notes.notes.items ++ n) c.deref-3.ensures.value;
+  passed = refl;
+  is_answer = c.in_ok-answer.ensures;
 }

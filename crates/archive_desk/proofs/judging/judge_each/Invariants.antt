@@ -7,4 +7,4 @@ abbrev pub invariant-loop-place : goal.invariant-loop-place
 invariant-loop-place g l =
     (texts_waiting l.waiting ≡ texts_waiting l.fn.waiting)
     × AreWaiting (g.F.JournalFiles.had l.files) l.archive l.bounds.skew l.bounds.transit l.waiting
-    × AreWarnings (g.F.JournalFiles.had l.files) l.names l.bounds.skew l.bounds.transit l.warnings.items
+    × AreWarnings (g.F.JournalFiles.had l.files) l.bounds.skew l.bounds.transit l.warnings.items

@@ -1,4 +1,3 @@
-use Rattle.std.proofs.Common.{refl}
 use Rattle.attribution_desk.proofs.HeldTexts.{held_spelled}
 use Rattle.attribution_desk.proofs.holding.held_text.Goals as goal
 
@@ -8,7 +7,7 @@ returns-clause-text c = record {
   from_is = c.in_ok-from.ensures;
   to = c.in_ok-to.to.items;
   to_is = c.in_ok-to.ensures;
-  spelled = held_spelled c.args.certificate.now _ _ _ _ c.args.text.now c.args.text.now _ _ _ c.new-out.ensures.items
-      c.in_ok-add_held.ensures c.deref.ensures.value c.deref-2.ensures.value refl c.requires
-      c.in_ok-extend_from_slice.ensures.items;
+  spelled = held_spelled c.args.certificate.now _ _ _ _ c.in-Ok.text.items _ _ _ _ c.new-out.ensures.items
+      c.in_ok-add_held.ensures c.deref.ensures.value c.deref-2.ensures.value c.deref-3.ensures.value
+      c.in-Ok.ensures.text c.in_ok-extend_from_slice.ensures.items;
 }

@@ -1,28 +1,22 @@
-use Rattle.std.specs.Prelude.{◌≡◌, IfOk, IfSome}
-use Rattle.std.proofs.Common.{subst, sym}
-use Rattle.desk_args.specs.declared.command.Command.{Command}
-use Rattle.attribution_desk.specs.Answer.{IsDeskAnswer}
-use Rattle.attribution_desk.specs.Batch.{IsBatch}
-use Rattle.attribution_desk.specs.Headline.{IsTrueOfTexts, AreTrueInEveryRun, SaysTrue}
-use Rattle.attribution_desk.proofs.Headline.{answer_true, batch_true, true_of_written}
+use Rattle.attribution_desk.proofs.WrittenAnswers.{audit_says_true, batch_says_true, find_says_true, who_says_true}
 use Rattle.attribution_desk.proofs.running.run.Goals as goal
 
 pub returns-in-Audit-clause-headline : goal.returns-in-Audit-clause-headline
 returns-in-Audit-clause-headline g c =
-    let skew = c.in-Audit.skew in
-    let transit = c.in-Audit.transit in
-    subst (λ (command : Command). IfOk c.audit_input.result (λ outcome. outcome.status ≡ 0
-    → IfSome (g.R.Read.remaining c.args.reader.now.device) (SaysTrue command))) (sym c.in-Audit.is)
-    (true_of_written (λ input. IsDeskAnswer input skew transit) (λ input. IsTrueOfTexts input skew transit)
-    (λ input text status h none. answer_true c.accepted_texts_are_true.ensures input text skew transit status h none) _
-    _ _ c.audit_input.result c.audit_input.ensures.written)
+    audit_says_true c.accepted_texts_are_true.ensures _ _ _ c.audit_input.result _ c.in-Audit.skew c.in-Audit.transit
+    c.in-Audit.is c.audit_input.ensures.written
 
 pub returns-in-Batch-clause-headline : goal.returns-in-Batch-clause-headline
 returns-in-Batch-clause-headline g c =
-    let skew = c.in-Batch.skew in
-    let transit = c.in-Batch.transit in
-    subst (λ (command : Command). IfOk c.batch_input.result (λ outcome. outcome.status ≡ 0
-    → IfSome (g.R.Read.remaining c.args.reader.now.device) (SaysTrue command))) (sym c.in-Batch.is)
-    (true_of_written (λ input. IsBatch input skew transit) (λ input. AreTrueInEveryRun input skew transit)
-    (λ input text status h none. batch_true c.accepted_texts_are_true.ensures input text skew transit status h none) _
-    _ _ c.batch_input.result c.batch_input.ensures.written)
+    batch_says_true c.accepted_texts_are_true.ensures _ _ _ c.batch_input.result _ c.in-Batch.skew c.in-Batch.transit
+    c.in-Batch.workers c.in-Batch.is c.batch_input.ensures.written
+
+pub returns-in-Find-clause-headline : goal.returns-in-Find-clause-headline
+returns-in-Find-clause-headline g c =
+    find_says_true c.accepted_texts_are_true.ensures _ _ _ c.search_input.result _ c.certificates_are_spelled.ensures
+    c.in-Find.query c.in-Find.is c.search_input.ensures.written
+
+pub returns-in-Who-clause-headline : goal.returns-in-Who-clause-headline
+returns-in-Who-clause-headline g c =
+    who_says_true c.accepted_texts_are_true.ensures _ _ _ c.search_input-in-Who.result _ c.certificates_are_spelled.ensures
+    c.in-Who.query c.in-Who.settings c.in-Who.is c.search_input-in-Who.ensures.written

@@ -1,4 +1,4 @@
-use Rattle.std.proofs.Common.{◌≡◌, ◌∙◌, sym, rules, Option, ℕ, subst, codes}
+use Rattle.std.proofs.Common.{rules, Option, ℕ, subst, codes}
 use Rattle.clap.specs.Words.{first_of, rows_of, found_of}
 use Rattle.desk_args.specs.Joins.{AreInOrder}
 use Rattle.desk_args.proofs.Joins.{one_volume}

@@ -2,6 +2,7 @@ use Rattle.std.proofs.Common.{◌≡◌, ◌∙◌, sym, ap, subst, true, [], Li
 use Rattle.std.specs.Prelude.{IfOk}
 use Rattle.clap.specs.Words.{App, Row, Text, takes, fault_of, is_simple, is_simple_and_free, subcommand_of}
 use Rattle.desk_args.specs.Words.{desk}
+use Rattle.desk_args.specs.Surrounding.{around}
 use Rattle.desk_args.specs.Orders.{IsOrdered, IsNoOrder}
 use Rattle.desk_args.proofs.orders.invocation_of.Goals as goal
 
@@ -14,7 +15,7 @@ pub returns-in-Ok-try_get_matches_from-clause-given : goal.returns-in-Ok-try_get
 returns-in-Ok-try_get_matches_from-clause-given c =
     let rows = (c.in-Ok-try_get_matches_from.ensures.matches (ap is_simple c.in-Ok.ensures)).1
     ∙ ap (λ (a : App). subcommand_of a (map string_bytes c.args.words.now)) c.in-Ok.ensures in
-    subst (λ (o : Option (Text × List Row)). IfOk c.order_found.result (IsOrdered o)) rows c.order_found.ensures.given
+    subst (λ (o : Option (Text × List Row)). IfOk c.order_found.result (IsOrdered (around c.args.surroundings.now) o)) rows c.order_found.ensures.given
 
 pub returns-in-Ok-try_get_matches_from-clause-accepted : goal.returns-in-Ok-try_get_matches_from-clause-accepted
 returns-in-Ok-try_get_matches_from-clause-accepted c =
@@ -26,7 +27,7 @@ pub returns-in-Ok-try_get_matches_from-clause-refused : goal.returns-in-Ok-try_g
 returns-in-Ok-try_get_matches_from-clause-refused c usage taken =
     let rows = (c.in-Ok-try_get_matches_from.ensures.matches (ap is_simple c.in-Ok.ensures)).1
     ∙ ap (λ (a : App). subcommand_of a (map string_bytes c.args.words.now)) c.in-Ok.ensures in
-    subst IsNoOrder rows (c.order_found.ensures.refused usage)
+    subst (λ (o : Option (Text × List Row)). IsNoOrder (around c.args.surroundings.now) o) rows (c.order_found.ensures.refused usage)
 
 pub returns-in-Err-clause-refused : goal.returns-in-Err-clause-refused
 returns-in-Err-clause-refused c usage taken =

@@ -1,0 +1,5 @@
+pub mod Reach
+pub mod Answers
+pub mod Starting
+pub mod Widening
+pub mod Laws

@@ -1,0 +1,2 @@
+pub mod CutLacks
+pub mod Alone
