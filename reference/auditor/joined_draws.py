@@ -16,7 +16,7 @@ from .reason_draws import beside, longer, shorter, take_length
 from .reports import explanation
 from .rules import MOST_SKEW
 from .schema import fault_of
-from .spans import answers_of
+from .spans import answers_of, several_of
 from .volumes import place_of
 from .words import MOST_READING, SIDES, client_word, prefix_word
 
@@ -323,7 +323,7 @@ def told_of(said):
 def report_of(said, asked, its):
     """The report on the certificate that the desk found, which has to be accepted and to name this client at the moment."""
     text = (its.told.get("certificate") or "").encode()
-    report = explanation(Evidence(*said.texts), text, asked.skew, asked.transit)
+    report = explanation(Evidence(*said.texts), text, asked.skew, asked.transit, several_of(said.volumes))
     if report["verdict"] != "accepted":
         return report
     question = report["report"]["question"]

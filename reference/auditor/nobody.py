@@ -106,7 +106,7 @@ def refusal_of(evidence, asked, settings_differ):
 
 
 def nobody_over(answer, asked):
-    """The object of an answer that says nothing of leases: `refused V1 ..` or the like, or what is lacking."""
+    """The object of an answer that says nothing of leases: `refused V1 ..` or the like, or what is lacking; over no volumes, or one of each side."""
     return {
         "format": FORMAT,
         "answer": answer,
@@ -116,6 +116,7 @@ def nobody_over(answer, asked):
         "transit_ms": asked.transit,
         "why": None,
         "leases": None,
+        "volumes": None,
     }
 
 

@@ -8,8 +8,12 @@ import tempfile
 from typing import NamedTuple
 
 from .join_draws import Directory
+from .joined_draws import own_volumes, volumes_of
 from .journals import Grant, UnitLine
+from .leases import Asked
 from .records import access_lines
+from .spans import answers_of, several_of
+from .words import prefix_word
 
 ASKED_OF_EACH = 6
 IDENTIFIERS = ("-", "-", "empty", "65746830", "00", "ff" * 40, "00000009" + "6e656172")
@@ -74,6 +78,8 @@ class Answer(NamedTuple):
     written: str
     found: list
     wanted: list
+    # Whether it is over several volumes of a side.
+    is_over_several: bool = False
 
 
 def drawn(seed, index):
@@ -87,34 +93,41 @@ def drawn(seed, index):
     return files, questions(rng, directory)
 
 
-def prefix_text(prefix):
-    digits = f"{prefix.address:032x}"
-    return ":".join(digits[at : at + 4] for at in range(0, 32, 4)) + f"/{prefix.length}"
-
-
 def questions(rng, directory):
     """Who had the prefix of a grant, some time behind it."""
     settings = directory.run.settings
     late = settings.skew + settings.transit
     entries = [entry for volume in directory.volumes for entry in volume.entries]
     grants = [entry for entry in entries if isinstance(entry.event, Grant)]
-    given = ["--skew-ms", str(settings.skew), "--transit-ms", str(settings.transit)]
     for entry in rng.sample(grants, min(len(grants), ASKED_OF_EACH)):
         moment = entry.reading + late + rng.randrange(max(1, 1000 * entry.event.valid - 2 * late))
-        yield [*given, "--prefix", prefix_text(entry.event.prefix), "--at", f"{moment}ms"]
+        yield Asked(entry.event.prefix, moment, settings.skew, settings.transit)
 
 
-def ask(desk, files, words):
+def words_of(asked):
+    words = ["--skew-ms", str(asked.skew), "--transit-ms", str(asked.transit)]
+    return [*words, "--prefix", prefix_word(asked.prefix), "--at", f"{asked.moment}ms"]
+
+
+def ask(desk, files, asked):
     """Asks who had a prefix over the files of this folder."""
+    words = words_of(asked)
     command = [desk, "who", *words, "--journals", "."]
     done = subprocess.run(command, capture_output=True, stdin=subprocess.DEVNULL, check=False, text=True)
-    rows = done.stdout.splitlines()
+    rows, complaint = done.stdout.splitlines(), done.stderr.splitlines()
     if done.returncode != 0 or "end" not in rows:
         return Answer(words, done.stdout, [], None)
-    journals = next(row for row in done.stderr.splitlines() if row.startswith("journals ")).split(" ")[1:]
     place = rows.index("end")
+    found, volumes = rows[place + 1 :], volumes_of(complaint, own_volumes(complaint))
+    may = [said.volumes for said in answers_of(["."], asked, False) if said.holder]
+    if volumes not in may:
+        # Nothing that the second says is over these volumes.
+        return Answer(words, done.stdout, [volumes, *found], may)
+    if several_of(volumes):
+        return Answer(words, done.stdout, found, [], is_over_several=True)
+    journals = next(row for row in complaint if row.startswith("journals ")).split(" ")[1:]
     wanted = access_lines(rows[:place], [name.removeprefix("./") for name in journals], files)
-    return Answer(words, done.stdout, rows[place + 1 :], wanted)
+    return Answer(words, done.stdout, found, wanted)
 
 
 def compare(desk, seed, index):
@@ -125,7 +138,7 @@ def compare(desk, seed, index):
         for name, octets in files.items():
             (folder / name).write_bytes(octets)
         os.chdir(folder)
-        return [ask(desk, files, words) for words in asked], files
+        return [ask(desk, files, each) for each in asked], files
     finally:
         os.chdir(before)
         shutil.rmtree(folder)

@@ -163,15 +163,15 @@ def named_by(why):
     return why.chain if hasattr(why, "chain") else [*why.first, *why.second]
 
 
-def explanation(evidence, text, skew, transit):
-    """What `explain --json` tells of two journals and a certificate's text."""
+def explanation(evidence, text, skew, transit, volumes=None):
+    """What `explain --json` tells of two journals and a certificate's text; over volumes that are more than one of each side."""
     verdict = evidence.verdict(text, skew, transit)
     failure = report = None
     if is_of_condition(verdict):
         audit = Audit(evidence.pair, read_certificate(text), skew, transit)
         failure = Failures(audit).of(verdict)
         report = Report(audit).whole()
-    return {"format": FORMAT, "verdict": verdict, "failure": failure, "certificate": decoded(text), "report": report}
+    return {"format": FORMAT, "verdict": verdict, "failure": failure, "certificate": decoded(text), "report": report, "volumes": volumes}
 
 
 def decoded(text):

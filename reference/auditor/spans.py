@@ -150,6 +150,9 @@ def borne_out(lines, serial):
 
 def closed_text(side, number, lines):
     """The text of a journal of these lines, closed behind the last one."""
+    if not lines:
+        # (the words don't say what is said of a copy whose first line the other doesn't bear out)
+        raise Fault(f"Shown {side}{number}: the other volume bears out no line of it")
     rows = [b"%d %d %s\n" % (line.number, line.reading, line.words) for line in lines]
     if not is_closed(lines):
         rows.append(b"%d %d close\n" % (len(rows) + 1, lines[-1].reading))
@@ -238,6 +241,7 @@ class Question:
         told, lengths = nobody_named(evidence, self.asked, self.settings_differ, written)
         last = tuple(numbers[-1] for numbers in spans.values())
         is_cut = [text.count(b"\n") for text in texts] != [text.count(b"\n") for text in whole(journals)]
+        told["volumes"] = several_of(volumes_word(spans))
         said = Said(told, None, texts, volumes_word(spans), tuple(lengths), last, is_cut)
         if told["answer"] != "none":
             return Step(said)
@@ -275,6 +279,11 @@ def volumes_word(spans):
     """The volumes of an answer, as standard error has them."""
     words = [f"{side}{span[0]}" + (f"-{span[-1]}" if len(span) > 1 else "") for side, span in spans.items()]
     return f"volumes {' '.join(words)}"
+
+
+def several_of(volumes):
+    """The same as objects have them, `A40-48 B39-47`; None where they are one of each side."""
+    return volumes.removeprefix("volumes ") if "-" in volumes else None
 
 
 def answers_of(paths, asked, settings_differ):

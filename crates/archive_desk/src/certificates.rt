@@ -41,8 +41,9 @@ fn judged_of(
     Ok(all)
 }
 
-/// Judges certificates.
-fn judged_over<F: JournalFiles>(
+/// Judges certificates, each over the pair of volumes that shows where its interval begins, by so many workers.
+/// `Changed` or `Faulty` where a file isn't what the archive knows of it, `Memory` where a growth was refused.
+pub fn judged_over<F: JournalFiles>(
     rt: &(impl Threads + Wait + Sync),
     alloc: Global,
     files: &F,

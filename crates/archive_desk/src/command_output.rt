@@ -20,7 +20,7 @@ pub struct CommandOutput {
 
 impl CommandOutput {
     /// This alone is told: on standard error.
-    pub(crate) fn noting(alloc: Global, notes: Vec<u8>) -> CommandOutput
+    pub fn noting(alloc: Global, notes: Vec<u8>) -> CommandOutput
         ensures { said_of result ≡ noted_first notes.items }
     {
         CommandOutput {

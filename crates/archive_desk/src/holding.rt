@@ -74,9 +74,10 @@ fn access_beside<F: AccessTexts>(
     Ok(said)
 }
 
-/// The same over the journals of spans: of more volumes than one of a side nothing is said, since their lines are
-/// numbered otherwise than in their files.
-fn access_over<F: AccessTexts>(
+/// What the access records beside the last volumes of spans say of the grants that a certificate names: of more volumes
+/// than one of a side nothing, since their lines are numbered otherwise than in their files. `Memory` where a growth was
+/// refused.
+pub fn access_over<F: AccessTexts>(
     alloc: Global,
     files: &F,
     pair: &VolumePair,

@@ -45,7 +45,7 @@ impl ArchiveJudgement {
     }
 
     /// What is noted of it: the two files, or why a side lacks them.
-    fn noted(
+    pub fn noted(
         &self,
         alloc: Global,
         names: &[PathBuf],

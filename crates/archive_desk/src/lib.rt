@@ -34,11 +34,11 @@ mod waiting;
 
 pub use answering::{ArchiveAnswer, ArchiveQuestion, FilesAnswer, answer};
 pub use asking::{ends_of, expect_lines};
-pub use certificates::JudgedAnswer;
+pub use certificates::{JudgedAnswer, judged_over};
 pub use command_output::CommandOutput;
 pub use coverage_gaps::{TimingBounds, gap_line, push_gap_name};
 pub use failing::{FilesFailure, failure};
-pub use holding::{HolderReply, WhoAnswer};
+pub use holding::{HolderReply, WhoAnswer, access_over};
 pub use judged_telling::warned_all;
 pub use judging::{ArchiveJudgement, PairWarnings};
 pub use names::{name_of, push_journals, push_volumes};

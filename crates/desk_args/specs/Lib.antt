@@ -2,6 +2,7 @@ pub mod Words
 pub mod Surrounding
 pub mod Given
 pub mod Joins
+pub mod Copies
 pub mod Requests
 pub mod Sources
 pub mod Asides

@@ -47,10 +47,21 @@ with_certificate app =
 abbrev pub with_json : App → App
 with_json app = with_rule app (flag_rule (codes "json"))
 
+-- which case a page is of, and who asked
+abbrev pub with_case : App → App
+with_case app = with_rule (with_rule app (option_rule (codes "case") false)) (option_rule (codes "asked-by") false)
+
+-- and when it was made
+abbrev pub with_facts : App → App
+with_facts app = with_rule (with_case app) (option_rule (codes "made") false)
+
+-- and the time zone
+abbrev pub with_zone : App → App
+with_zone app = with_rule (with_facts app) (option_rule (codes "zone") false)
+
 -- how a report is told
 abbrev pub with_telling : App → App
-with_telling app =
-    with_json (with_rule (with_rule app (option_rule (codes "zone") false)) (flag_rule (codes "html")))
+with_telling app = with_json (with_rule (with_zone app) (flag_rule (codes "html")))
 
 -- a certificate over two journals, and the bounds on clocks and answers
 abbrev pub claim_app : List ℕ → App
@@ -119,6 +130,16 @@ join_app =
     with_rule (with_rule (with_rule (over_journals (new_app (codes "join"))) (option_rule (codes "side") true))
     (option_rule (codes "from") false)) (option_rule (codes "to") false)
 
+-- the text of these, from which volume to which, up to which line
+abbrev pub side_copy_app : App
+side_copy_app =
+    with_rule (with_rule (over_journals (new_app (codes "copy"))) (option_rule (codes "side") true))
+    (option_rule (codes "from") true)
+
+abbrev pub copy_app : App
+copy_app =
+    with_rule (with_rule side_copy_app (option_rule (codes "to") false)) (option_rule (codes "lines") true)
+
 abbrev pub searching_app : App
 searching_app = with_subcommand (with_subcommand claims_app find_app.top) who_app.top
 
@@ -130,4 +151,4 @@ abbrev pub volumes_app : App
 volumes_app = over_journals (new_app (codes "volumes"))
 
 abbrev pub desk : App
-desk = with_subcommand (with_subcommand showing_app join_app.top) volumes_app.top
+desk = with_subcommand (with_subcommand (with_subcommand showing_app join_app.top) copy_app.top) volumes_app.top

@@ -4,6 +4,7 @@ use crate::address_advice::advice_on_address;
 use crate::asides::span_given;
 use crate::bounds::{skew_given, transit_given};
 use crate::command::{holder_given, prefix_given, workers_given};
+use crate::copy_args::line_count_given;
 use crate::error::UsageError;
 use crate::join_args::{side_given, volume_given};
 use crate::subcommands::desk_command;
@@ -66,11 +67,12 @@ fn is_fit_for_find(
     }
 }
 
-/// Returns whether an option of `join` is as wanted.
+/// Returns whether an option of `join` or `copy` is as wanted.
 fn is_fit_for_join(option: &str, options: &ArgMatches) -> bool {
     match option {
         "side" => side_given(options).is_some(),
         "from" | "to" => volume_given(options, option).is_some(),
+        "lines" => line_count_given(options).is_some(),
         _ => true,
     }
 }
@@ -90,7 +92,7 @@ fn is_fit(
         _ => match command {
             "who" => is_fit_for_who(alloc, option, options, surroundings),
             "find" => is_fit_for_find(alloc, option, options, surroundings),
-            "join" => Ok(is_fit_for_join(option, options)),
+            "join" | "copy" => Ok(is_fit_for_join(option, options)),
             _ => Ok(true),
         },
     }

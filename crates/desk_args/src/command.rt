@@ -61,7 +61,7 @@ pub(crate) fn number_in(text: &str, most: u64) -> Option<u64>
 }
 
 /// The number that an option has, of at most so much.
-fn number_given(options: &ArgMatches, name: &str, most: u64) -> Option<u64>
+pub(crate) fn number_given(options: &ArgMatches, name: &str, most: u64) -> Option<u64>
     ensures given { IfSome result (IsNumber most (first_of name.now (rows_of (found_of options.now)))) }
     ensures none { result ≡ None → (n : ℕ) → IsNumber most (first_of name.now (rows_of (found_of options.now))) n → ⊥ }
 {

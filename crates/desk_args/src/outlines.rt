@@ -1,7 +1,6 @@
 //! What the words name that has to be read before they are judged.
 
-ghost use Rattle.std.specs.Prelude.{◌≡◌, ◌↔◌, ◌≢◌, IsTrue, IfOk, Some, None, codes, map, string_bytes};
-ghost use Rattle.std.specs.Option.{option_map};
+ghost use Rattle.std.specs.Prelude.{◌≡◌, ◌↔◌, ◌≢◌, IsTrue, IfOk, None, codes, map, string_bytes};
 ghost use Rattle.clap.specs.Words.{subcommand_of, subcommand_rows_of, first_of, rows_of, found_of};
 ghost use Rattle.desk_args.specs.Words.{desk};
 ghost use Rattle.desk_args.specs.Outlines.{IsBounded, AreBoundsFrom, IsOutline, IsOutlined};
@@ -10,7 +9,7 @@ use crate::error::UsageError;
 use crate::orders::usage_error;
 use crate::sources::{InputSource, source_given};
 use crate::subcommands::desk_command;
-use crate::texts::text_given;
+use crate::texts::{is_some, text_given};
 use clap::ArgMatches;
 use std::alloc::Global;
 
@@ -37,16 +36,6 @@ fn is_bounded(name: &str) -> bool
     ensures { IsTrue result ↔ IsBounded name.now }
 {
     name == "who" || name == "find" || name == "audit" || name == "batch" || name == "explain"
-}
-
-/// Returns whether a text is given.
-fn is_some(text: Option<&str>) -> bool
-    ensures { IsTrue result ↔ (option_map (λ s. s.now) text.entry ≢ None) }
-{
-    match text {
-        Some(_) => true,
-        None => false,
-    }
 }
 
 /// Returns whether an option is given.

@@ -1,6 +1,7 @@
 //! What is asked of the desk, and in which form it is answered.
 
 use crate::command::Command;
+use crate::copy_args::CopyQuery;
 use crate::join_args::JoinQuery;
 use crate::settings::SettingsCheck;
 use lead_time::{Skew, Transit};
@@ -26,12 +27,24 @@ pub enum ReportForm {
     Json,
 }
 
+/// What a page says of its case, beside the answer: as it was given.
+#[derive(Clone, Copy, Debug)]
+pub struct ReportFacts<'a> {
+    /// Which case it is of.
+    pub case: Option<&'a str>,
+    /// Who asked.
+    pub asked_by: Option<&'a str>,
+    /// When the page was made.
+    pub made: Option<&'a str>,
+}
+
 /// How a report is told.
 #[derive(Clone, Copy, Debug)]
 pub struct ReportOptions<'a> {
     pub form: ReportForm,
     /// The time zone in which moments are told beside UTC, by its name, as `Europe/Paris`.
     pub zone: Option<&'a str>,
+    pub facts: ReportFacts<'a>,
 }
 
 /// What is asked of the desk.
@@ -50,6 +63,8 @@ pub enum DeskRequest<'a> {
     ExplainHolder(HolderQuery, SettingsCheck, ReportOptions<'a>),
     /// Volumes of one side put together as one journal.
     Join(JoinQuery),
+    /// The text of volumes of one side up to a line.
+    Copy(CopyQuery),
     /// Which volumes files have, and what is missing.
     Volumes,
 }

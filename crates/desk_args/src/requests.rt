@@ -8,17 +8,18 @@ ghost use Rattle.desk_args.specs.declared.request.ReportForm.{ReportForm as Repo
 ghost use Rattle.desk_args.specs.declared.request.ReportOptions.{ReportOptions as TellingValue};
 ghost use Rattle.desk_args.specs.Surrounding.{around};
 ghost use Rattle.desk_args.specs.Given.{IsGiven};
-ghost use Rattle.desk_args.specs.Requests.{IsSet, AsksNoReport, IsReportForm, IsTelling};
+ghost use Rattle.desk_args.specs.Requests.{IsSet, AsksNoReport, HasNoFacts, IsReportForm, AreFacts, IsTelling};
 ghost use Rattle.desk_args.specs.Requests.{IsAnswerForm, IsAsked, IsNoRequest};
 
 use crate::bounds::{skew_given, transit_given};
 use crate::command::command_given;
+use crate::copy_args::copy_query_given;
 use crate::error::UsageError;
 use crate::join_args::join_query_given;
-use crate::request::{AnswerForm, DeskRequest, ReportForm, ReportOptions};
+use crate::request::{AnswerForm, DeskRequest, ReportFacts, ReportForm, ReportOptions};
 use crate::settings::settings_given;
 use crate::surroundings::Surroundings;
-use crate::texts::{is_set, text_given};
+use crate::texts::{is_set, is_some, text_given};
 use crate::who_args::holder_query_given;
 use clap::ArgMatches;
 use std::alloc::Global;
@@ -36,6 +37,17 @@ fn report_form_given(options: &ArgMatches) -> Option<ReportForm>
     }
 }
 
+/// What a page says of its case.
+fn facts_given<'a>(options: &ArgMatches<'a>) -> ReportFacts<'a>
+    ensures { AreFacts (rows_of (found_of options.now)) result }
+{
+    ReportFacts {
+        case: text_given(options, "case"),
+        asked_by: text_given(options, "asked-by"),
+        made: text_given(options, "made"),
+    }
+}
+
 /// How a report is told.
 fn telling_given<'a>(options: &ArgMatches<'a>) -> Option<ReportOptions<'a>>
     ensures given { IfSome result (IsTelling (rows_of (found_of options.now))) }
@@ -43,14 +55,25 @@ fn telling_given<'a>(options: &ArgMatches<'a>) -> Option<ReportOptions<'a>>
 {
     let form = report_form_given(options)?;
     let zone = text_given(options, "zone");
-    Some(ReportOptions { form, zone })
+    let facts = facts_given(options);
+    Some(ReportOptions { form, zone, facts })
+}
+
+/// Returns whether no word says anything of a page's case.
+fn has_no_facts(options: &ArgMatches) -> bool
+    ensures { IsTrue result ↔ HasNoFacts (rows_of (found_of options.now)) }
+{
+    let case = text_given(options, "case");
+    let asked_by = text_given(options, "asked-by");
+    let made = text_given(options, "made");
+    !is_some(case) && !is_some(asked_by) && !is_some(made)
 }
 
 /// Returns whether no word asks for a report.
 fn asks_no_report(options: &ArgMatches) -> bool
     ensures { IsTrue result ↔ AsksNoReport (rows_of (found_of options.now)) }
 {
-    !is_set(options, "explain") && !is_set(options, "html")
+    !is_set(options, "explain") && !is_set(options, "html") && has_no_facts(options)
 }
 
 /// The form of an answer: `--json` or nothing of it. `None` where a report is asked for.
@@ -109,6 +132,15 @@ fn joined<'a>(options: &ArgMatches<'a>, surroundings: &Surroundings) -> Option<D
     Some(DeskRequest::Join(join_query_given(options)?))
 }
 
+/// `copy`.
+fn copied<'a>(options: &ArgMatches<'a>, surroundings: &Surroundings) -> Option<DeskRequest<'a>>
+    ensures given { IfSome result (IsAsked (around surroundings.now) (codes "copy", rows_of (found_of options.now))) }
+    ensures none { result ≡ None
+        → IsNoRequest (around surroundings.now) (codes "copy", rows_of (found_of options.now)) }
+{
+    Some(DeskRequest::Copy(copy_query_given(options)?))
+}
+
 /// A command, and the form of its answer.
 fn answered<'a>(
     alloc: Global,
@@ -153,6 +185,12 @@ pub(crate) fn request_given<'a>(
     }
     if name == "join" {
         return match joined(options, surroundings) {
+            Some(request) => Ok(request),
+            None => Err(UsageError::Usage),
+        };
+    }
+    if name == "copy" {
+        return match copied(options, surroundings) {
             Some(request) => Ok(request),
             None => Err(UsageError::Usage),
         };

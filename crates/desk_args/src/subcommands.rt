@@ -3,9 +3,9 @@
 ghost use Rattle.std.specs.Prelude.{◌≡◌, codes, IfOk, true, false};
 ghost use Rattle.clap.specs.Words.{app_of, new_app, with_rule, with_subcommand};
 ghost use Rattle.clap.specs.declared.builder.command.Command.TheViews.{out-Command};
-ghost use Rattle.desk_args.specs.Words.{claim_app, with_telling, audit_app, explain_app, batch_app, asking_app};
+ghost use Rattle.desk_args.specs.Words.{claim_app, with_case, with_facts, with_zone, with_telling, audit_app, explain_app, batch_app, asking_app};
 ghost use Rattle.desk_args.specs.Words.{find_app, moment_app, span_app, who_app, timeline_app, judging_app, claims_app};
-ghost use Rattle.desk_args.specs.Words.{join_app, volumes_app, searching_app, showing_app, desk, bare};
+ghost use Rattle.desk_args.specs.Words.{join_app, side_copy_app, copy_app, volumes_app, searching_app, showing_app, desk, bare};
 ghost use Rattle.desk_args.specs.Words.{option_rule, flag_rule};
 
 use crate::arguments::{over_journals, with_flag, with_journals, with_option, with_place};
@@ -32,14 +32,41 @@ fn claim_command<'a>(alloc: Global, name: &'a str) -> Result<ClapCommand<'a>, Al
     with_option(alloc, claim, "volumes", false)
 }
 
-/// A command whose report is told with `[--zone NAME] [--html] [--json]`.
+/// A command whose page says `[--case TEXT] [--asked-by TEXT]`.
+fn with_case<'a>(alloc: Global, command: ClapCommand<'a>) -> Result<ClapCommand<'a>, AllocError>
+    ensures app { IfOk result (λ c. app_of c ≡ with_case (app_of command.entry)) }
+    ensures local { (out-Command command.entry).has_globals ≡ false
+        → IfOk result (λ c. (out-Command c).has_globals ≡ false) }
+{
+    let told = with_option(alloc, command, "case", false)?;
+    with_option(alloc, told, "asked-by", false)
+}
+
+/// A command whose page says `.. [--made TIME]` too.
+fn with_facts<'a>(alloc: Global, command: ClapCommand<'a>) -> Result<ClapCommand<'a>, AllocError>
+    ensures app { IfOk result (λ c. app_of c ≡ with_facts (app_of command.entry)) }
+    ensures local { (out-Command command.entry).has_globals ≡ false
+        → IfOk result (λ c. (out-Command c).has_globals ≡ false) }
+{
+    with_option(alloc, with_case(alloc, command)?, "made", false)
+}
+
+/// The same whose moments are told with `.. [--zone NAME]`.
+fn with_zone<'a>(alloc: Global, command: ClapCommand<'a>) -> Result<ClapCommand<'a>, AllocError>
+    ensures app { IfOk result (λ c. app_of c ≡ with_zone (app_of command.entry)) }
+    ensures local { (out-Command command.entry).has_globals ≡ false
+        → IfOk result (λ c. (out-Command c).has_globals ≡ false) }
+{
+    with_option(alloc, with_facts(alloc, command)?, "zone", false)
+}
+
+/// A command whose report is told with `.. [--html] [--json]`.
 fn with_telling<'a>(alloc: Global, command: ClapCommand<'a>) -> Result<ClapCommand<'a>, AllocError>
     ensures app { IfOk result (λ c. app_of c ≡ with_telling (app_of command.entry)) }
     ensures local { (out-Command command.entry).has_globals ≡ false
         → IfOk result (λ c. (out-Command c).has_globals ≡ false) }
 {
-    let told = with_option(alloc, command, "zone", false)?;
-    let told = with_flag(alloc, told, "html")?;
+    let told = with_flag(alloc, with_zone(alloc, command)?, "html")?;
     with_flag(alloc, told, "json")
 }
 
@@ -51,7 +78,7 @@ fn audit_command<'a>(alloc: Global) -> Result<ClapCommand<'a>, AllocError>
     with_flag(alloc, claim_command(alloc, "audit")?, "json")
 }
 
-/// `explain .. [--zone NAME] [--html] [--json]`.
+/// `explain .. [--case TEXT] [--asked-by TEXT] [--made TIME] [--zone NAME] [--html] [--json]`.
 fn explain_command<'a>(alloc: Global) -> Result<ClapCommand<'a>, AllocError>
     ensures app { IfOk result (λ c. app_of c ≡ explain_app) }
     ensures local { IfOk result (λ c. (out-Command c).has_globals ≡ false) }
@@ -178,6 +205,25 @@ fn join_command<'a>(alloc: Global) -> Result<ClapCommand<'a>, AllocError>
     with_option(alloc, join, "to", false)
 }
 
+/// `copy --journals PATH.. --side A|B --from N ..`.
+fn side_copy_command<'a>(alloc: Global) -> Result<ClapCommand<'a>, AllocError>
+    ensures app { IfOk result (λ c. app_of c ≡ side_copy_app) }
+    ensures local { IfOk result (λ c. (out-Command c).has_globals ≡ false) }
+{
+    let copy = over_journals(alloc, ClapCommand::new(alloc, "copy"))?;
+    let copy = with_option(alloc, copy, "side", true)?;
+    with_option(alloc, copy, "from", true)
+}
+
+/// `copy .. [--to N] --lines N`.
+fn copy_command<'a>(alloc: Global) -> Result<ClapCommand<'a>, AllocError>
+    ensures app { IfOk result (λ c. app_of c ≡ copy_app) }
+    ensures local { IfOk result (λ c. (out-Command c).has_globals ≡ false) }
+{
+    let copy = with_option(alloc, side_copy_command(alloc)?, "to", false)?;
+    with_option(alloc, copy, "lines", true)
+}
+
 /// The desk, which does nothing without a command.
 fn bare_command<'a>(alloc: Global) -> ClapCommand<'a>
     ensures { app_of result ≡ bare }
@@ -260,11 +306,20 @@ fn joining_command<'a>(alloc: Global) -> Result<ClapCommand<'a>, AllocError>
     showing.subcommand(join)
 }
 
+/// Those and the one that copies.
+fn copying_command<'a>(alloc: Global) -> Result<ClapCommand<'a>, AllocError>
+    ensures { IfOk result (λ c. app_of c ≡ with_subcommand (with_subcommand showing_app join_app.top) copy_app.top) }
+{
+    let joining = joining_command(alloc)?;
+    let copy = copy_command(alloc)?;
+    joining.subcommand(copy)
+}
+
 /// All commands.
 pub(crate) fn desk_command<'a>(alloc: Global) -> Result<ClapCommand<'a>, AllocError>
     ensures { IfOk result (λ c. app_of c ≡ desk) }
 {
-    let joining = joining_command(alloc)?;
+    let copying = copying_command(alloc)?;
     let volumes = volumes_command(alloc)?;
-    joining.subcommand(volumes)
+    copying.subcommand(volumes)
 }

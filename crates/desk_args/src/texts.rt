@@ -1,6 +1,6 @@
 //! Texts of options.
 
-ghost use Rattle.std.specs.Prelude.{◌≡◌, ◌↔◌, IsTrue, Some, codes};
+ghost use Rattle.std.specs.Prelude.{◌≡◌, ◌≢◌, ◌↔◌, IsTrue, Some, None, codes};
 ghost use Rattle.std.specs.Option.{option_map};
 ghost use Rattle.clap.specs.Words.{first_of, rows_of, found_of};
 ghost use Rattle.desk_args.specs.Given.{one_of_two, address_text, time_text};
@@ -13,6 +13,16 @@ pub(crate) fn text_given<'a>(options: &ArgMatches<'a>, name: &str) -> Option<&'a
     ensures { option_map (λ s. s.now) result ≡ first_of name.now (rows_of (found_of options.now)) }
 {
     options.get_str(name)
+}
+
+/// Returns whether a text is given.
+pub(crate) fn is_some(text: Option<&str>) -> bool
+    ensures { IsTrue result ↔ (option_map (λ s. s.now) text.entry ≢ None) }
+{
+    match text {
+        Some(_) => true,
+        None => false,
+    }
 }
 
 /// Returns whether a flag's value says that it stands.

@@ -1,7 +1,7 @@
 //! What options want, in words for a person.
 
 /// Each option that has a value of some form, and that form.
-pub(crate) const WISHES: [(&'static str, &'static str); 10] = [
+pub(crate) const WISHES: [(&'static str, &'static str); 11] = [
     ("skew-ms", "a whole number of milliseconds, 0 to 86400000"),
     ("transit-ms", "a whole number of milliseconds, 0 to 3600000"),
     ("workers", "a whole number, 1 to 64"),
@@ -19,13 +19,14 @@ pub(crate) const WISHES: [(&'static str, &'static str); 10] = [
     ),
     (
         "from",
-        "milliseconds since 1970, or for join a volume's number",
+        "milliseconds since 1970, or for join and copy a volume's number",
     ),
     (
         "to",
-        "milliseconds since 1970, or for join a volume's number",
+        "milliseconds since 1970, or for join and copy a volume's number",
     ),
     ("side", "A or B"),
+    ("lines", "a whole number of lines, 1 to 281474976710656"),
     (
         "within",
         "a whole number of seconds, 1 to 86400, and no --minute beside it",

@@ -3,8 +3,7 @@
 ghost use Rattle.std.specs.Prelude.{◌≤◌, ◌↔◌, IsTrue};
 
 use crate::fault::DeskFault;
-use attribution_desk::{Command, DeskRequest};
-use desk_args::AnswerForm;
+use attribution_desk::{Command, DeskRequest, InputSource, Invocation};
 use std::alloc::Global;
 use text_fields::number_of;
 use volume_spans::{SpanPair, VolumeSpan};
@@ -62,24 +61,25 @@ fn unfit(alloc: Global, text: &str) -> DeskFault {
 fn misplaced(alloc: Global) -> DeskFault {
     match String::from_str(
         alloc,
-        "error: --volumes goes with audit and batch, without --json",
+        "error: --volumes goes with audit, batch and explain, over --journals",
     ) {
         Ok(said) => DeskFault::Words(said),
         Err(_) => DeskFault::memory(),
     }
 }
 
-/// The volumes that a text names, for a request. `Words` where it names none, or the request isn't to judge.
+/// The volumes that an order names. `Words` where its text names none, or it isn't to judge certificates over files.
 pub(crate) fn volumes_given(
     alloc: Global,
-    request: &DeskRequest,
-    text: Option<&str>,
+    order: &Invocation,
 ) -> Result<Option<SpanPair>, DeskFault> {
-    let Some(text) = text else {
+    let Some(text) = order.volumes else {
         return Ok(None);
     };
-    match request {
-        DeskRequest::Answer(Command::Audit { .. } | Command::Batch { .. }, AnswerForm::Plain) => {}
+    match (&order.request, &order.source) {
+        (_, InputSource::Input) => return Err(misplaced(alloc)),
+        (DeskRequest::Answer(Command::Audit { .. } | Command::Batch { .. }, _), _) => {}
+        (DeskRequest::Explain { .. }, _) => {}
         _ => return Err(misplaced(alloc)),
     }
     match spans_in(text.as_bytes()) {

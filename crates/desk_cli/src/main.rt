@@ -4,8 +4,12 @@
 #![tactic(auto)]
 
 mod before;
+mod copying;
 mod fault;
+mod finding;
+mod given_facts;
 mod given_volumes;
+mod judging;
 mod listing;
 mod over_files;
 mod over_input;
@@ -17,6 +21,7 @@ use attribution_desk::{Command, DeskRequest, InputSource, Invocation, UsageError
 use before::{form_in, heads_asked, no_order, order_of, say_note};
 use desk_args::{AnswerForm, MomentSpan, Surroundings, outline_of};
 use fault::DeskFault;
+use given_facts::expect_facts;
 use given_volumes::volumes_given;
 use over_files::{FilesAsked, octets_of};
 use std::net::Net;
@@ -25,6 +30,7 @@ use std::sync::Wait;
 use std::thread::Threads;
 use std::{env, io};
 use writing::{form_of, or_fault};
+use zone_times::ZoneFile;
 use zones::zone_named;
 
 /// The words of the command line; `Usage` where one isn't text.
@@ -67,7 +73,9 @@ fn answered_input(
             over_input::holder_explained(rt, handles, query, *settings, telling)
         }
         // (volumes are put together and listed out of files alone)
-        DeskRequest::Join(_) | DeskRequest::Volumes => Err(DeskFault::Usage(UsageError::Usage)),
+        DeskRequest::Join(_) | DeskRequest::Copy(_) | DeskRequest::Volumes => Err(DeskFault::Usage(
+            UsageError::Usage,
+        )),
     }
 }
 
@@ -94,6 +102,7 @@ fn answered_files(
             over_files::holder_explained(rt, handles, query, *settings, telling, asked)
         }
         DeskRequest::Join(query) => over_files::joined(rt, handles, query, asked),
+        DeskRequest::Copy(query) => copying::copied(rt, handles, query, asked),
         DeskRequest::Volumes => listing::listed(rt, handles, asked),
     }
 }
@@ -112,14 +121,16 @@ fn expect_one_moment(rt: &HostRuntime, order: &Invocation) -> Result<(), DeskFau
     }
 }
 
-/// Answers an order.
+/// Answers an order, with the zone that it names.
 fn order_answered(
     rt: &HostRuntime,
     handles: &(impl Threads + Wait + Net + Sync),
     order: &Invocation,
+    zone: Option<&ZoneFile>,
 ) -> Result<u8, DeskFault> {
     expect_one_moment(rt, order)?;
-    let volumes = volumes_given(rt.alloc(), &order.request, order.volumes)?;
+    expect_facts(rt.alloc(), &order.request, zone)?;
+    let volumes = volumes_given(rt.alloc(), order)?;
     say_note(rt, order.address);
     match &order.source {
         InputSource::Input => answered_input(rt, handles, &order.request, order.span),
@@ -169,7 +180,7 @@ fn answered(
     let zone = or_fault(rt, form, zone_named(rt, outline.zone))?;
     let heads = or_fault(rt, form, heads_asked(rt, handles, &outline))?;
     let order = order_of(rt, words, &zone, heads)?;
-    order_answered(rt, handles, &order)
+    order_answered(rt, handles, &order, zone.as_ref())
 }
 
 fn main(rt: HostRuntime) -> ExitCode {

@@ -1,7 +1,9 @@
 //! Answering over the journals of files.
 
 use crate::fault::DeskFault;
+use crate::finding::{found, found_json};
 use crate::given_volumes::are_in_order;
+use crate::judging::{judged, judged_json};
 use crate::spans::{none_told, shortfall_of};
 use crate::writing::{or_fault, write_both, write_out};
 use crate::zones::{style_of, zone_named};
@@ -13,10 +15,10 @@ use archive_files::FilesError;
 use attribution_desk::{Command, UsageError};
 use desk_args::{JoinQuery, MomentSpan, NoteDetail, ReportForm, ReportOptions, SettingsCheck};
 use desk_reports::{
-    ReportQuestion, explain_files, failed_told, fault_data, find_data, holder_in_files,
-    judged_data, refused_data, who_data,
+    ReportQuestion, ReportStyle, explain_files, explain_spans, failed_told, fault_data,
+    holder_in_files, refused_data, who_data,
 };
-use join_desk::{audit_spans, batch_spans, join_files};
+use join_desk::join_files;
 use journal_paths::{JournalPaths, PathError};
 use lead_time::{Skew, Transit};
 use plain_search::HolderQuery;
@@ -40,23 +42,13 @@ pub(crate) struct FilesAsked<'a> {
     pub(crate) volumes: Option<SpanPair>,
 }
 
-/// What a command asks over files, with the certificates that it judges; `None` where it asks nothing of files.
-fn question_of<'a>(command: &Command, certificates: &'a [u8]) -> Option<ArchiveQuestion<'a>> {
+/// What a command asks over files, but to judge certificates; `None` where it asks nothing of files.
+fn question_of<'a>(command: &Command) -> Option<ArchiveQuestion<'a>> {
     match command {
         Command::Who(query, settings) => Some(ArchiveQuestion::Who(*query, *settings)),
-        Command::Find(query) => Some(ArchiveQuestion::Find(*query)),
         Command::Timeline => Some(ArchiveQuestion::Timeline),
-        Command::Audit { skew, transit } => Some(ArchiveQuestion::Audit(
-            certificates,
-            *skew,
-            *transit,
-        )),
-        Command::Batch {
-            skew,
-            transit,
-            workers,
-        } => Some(ArchiveQuestion::Batch(certificates, *skew, *transit, *workers)),
-        Command::Clocks => None,
+        // (certificates are judged elsewhere, and evidence is found elsewhere)
+        Command::Find(_) | Command::Audit { .. } | Command::Batch { .. } | Command::Clocks => None,
     }
 }
 
@@ -97,7 +89,7 @@ pub(crate) fn files_asked<'a>(
 }
 
 /// Why files answer nothing.
-fn why_not(
+pub(crate) fn why_not(
     rt: &HostRuntime,
     files: &JournalPaths,
     error: &FilesError,
@@ -112,7 +104,7 @@ fn asked_of<'a>(
     command: &Command,
     asked: &FilesAsked,
 ) -> Result<(JournalPaths<'a>, Result<FilesAnswer, FilesError>), DeskFault> {
-    let Some(question) = question_of(command, asked.certificates) else {
+    let Some(question) = question_of(command) else {
         return Err(DeskFault::Usage(UsageError::Usage));
     };
     let files = files_asked(rt, handles, asked)?;
@@ -132,74 +124,9 @@ fn told_of(
         .map_err(|_| DeskFault::memory())
 }
 
-/// What is told of certificates over the volumes that are asked for.
-fn audited_over(
-    rt: &HostRuntime,
-    handles: &(impl Threads + Wait + Net + Sync),
-    files: &JournalPaths,
-    command: &Command,
-    spans: &SpanPair,
-    asked: &FilesAsked,
-) -> Result<Result<CommandOutput, FilesError>, DeskFault> {
-    if !are_in_order(spans) {
-        return Err(DeskFault::Usage(UsageError::Usage));
-    }
-    let (alloc, names, texts) = (rt.alloc(), files.paths(), asked.certificates);
-    match command {
-        Command::Audit { skew, transit } => {
-            let bounds = TimingBounds {
-                skew: *skew,
-                transit: *transit,
-            };
-            Ok(audit_spans(
-                handles,
-                alloc,
-                files,
-                names,
-                spans,
-                texts,
-                &bounds,
-                asked.detail,
-            ))
-        }
-        Command::Batch {
-            skew,
-            transit,
-            workers,
-        } => {
-            let bounds = TimingBounds {
-                skew: *skew,
-                transit: *transit,
-            };
-            Ok(batch_spans(
-                handles,
-                alloc,
-                files,
-                names,
-                spans,
-                texts,
-                &bounds,
-                *workers,
-                asked.detail,
-            ))
-        }
-        _ => Err(DeskFault::Usage(UsageError::Usage)),
-    }
-}
-
-/// Judges certificates over the volumes that are asked for.
-fn audited(
-    rt: &HostRuntime,
-    handles: &(impl Threads + Wait + Net + Sync),
-    command: &Command,
-    spans: &SpanPair,
-    asked: &FilesAsked,
-) -> Result<u8, DeskFault> {
-    let files = files_asked(rt, handles, asked)?;
-    match audited_over(rt, handles, &files, command, spans, asked)? {
-        Ok(told) => write_out(rt, &told),
-        Err(error) => write_out(rt, &why_not(rt, &files, &error)?.told(rt.alloc())),
-    }
+/// Returns whether a command judges certificates.
+fn judges(command: &Command) -> bool {
+    matches!(command, Command::Audit { .. } | Command::Batch { .. })
 }
 
 /// Answers a command.
@@ -209,8 +136,11 @@ pub(crate) fn answered(
     command: &Command,
     asked: &FilesAsked,
 ) -> Result<u8, DeskFault> {
-    if let Some(spans) = &asked.volumes {
-        return audited(rt, handles, command, spans, asked);
+    if judges(command) {
+        return judged(rt, handles, command, asked);
+    }
+    if let Command::Find(query) = command {
+        return found(rt, handles, query, asked);
     }
     let (files, found) = asked_of(rt, handles, command, asked)?;
     match found {
@@ -246,14 +176,9 @@ fn object_of(
     let (alloc, notes) = (rt.alloc(), told.notes.as_slice());
     let data = match &found.answer {
         ArchiveAnswer::Who(answer) => who_data(alloc, answer, notes),
-        ArchiveAnswer::Find(answer) => {
-            find_data(alloc, files.paths(), answer, told.status, notes)
-        }
-        ArchiveAnswer::Judged(answer) => {
-            Ok(judged_data(alloc, answer, told.status, notes).map_err(|_| DeskFault::memory())?)
-        }
-        // (a timeline has no object)
-        ArchiveAnswer::Timeline(_) => return Err(DeskFault::Usage(UsageError::Usage)),
+        // (a timeline has no object; those of evidence and of certificates are made elsewhere)
+        ArchiveAnswer::Find(_) | ArchiveAnswer::Judged(_) | ArchiveAnswer::Timeline(_) =>
+            return Err(DeskFault::Usage(UsageError::Usage)),
     };
     data.map_err(DeskFault::Desk)
 }
@@ -271,7 +196,7 @@ fn name_of(command: &Command) -> &'static str {
 }
 
 /// The object of why files answer nothing, or their fault.
-fn object_without(
+pub(crate) fn object_without(
     rt: &HostRuntime,
     command: &Command,
     failure: FilesFailure,
@@ -328,39 +253,57 @@ pub(crate) fn answered_json(
     command: &Command,
     asked: &FilesAsked,
 ) -> Result<u8, DeskFault> {
-    let written = object_written(rt, handles, command, asked);
+    let written = match command {
+        Command::Audit { .. } | Command::Batch { .. } => judged_json(rt, handles, command, asked),
+        Command::Find(query) => found_json(rt, handles, query, asked),
+        _ => object_written(rt, handles, command, asked),
+    };
     or_fault(rt, ReportForm::Json, written)
+}
+
+/// What is reported on the certificate of a file: over the volumes that are asked for, or over those that show it.
+fn explained_over(
+    rt: &HostRuntime,
+    handles: &(impl Threads + Wait + Net + Sync),
+    files: &JournalPaths,
+    bounds: &TimingBounds,
+    style: &ReportStyle,
+    asked: &FilesAsked,
+) -> Result<Result<CommandOutput, FilesError>, DeskFault> {
+    let (alloc, names, certificate) = (rt.alloc(), files.paths(), asked.certificates);
+    match &asked.volumes {
+        None => Ok(explain_files(handles, alloc, files, names, certificate, bounds, style)),
+        Some(spans) if are_in_order(spans) => Ok(explain_spans(
+            handles,
+            alloc,
+            files,
+            names,
+            spans,
+            certificate,
+            bounds,
+            style,
+        )),
+        Some(_) => Err(DeskFault::Usage(UsageError::Usage)),
+    }
 }
 
 /// A report on the certificate of a file.
 fn explain_written(
     rt: &HostRuntime,
     handles: &(impl Threads + Wait + Net + Sync),
-    skew: Skew,
-    transit: Transit,
+    bounds: &TimingBounds,
     telling: &ReportOptions,
     asked: &FilesAsked,
 ) -> Result<u8, DeskFault> {
     let zone = zone_named(rt, telling.zone)?;
     let files = files_asked(rt, handles, asked)?;
-    let (alloc, names) = (rt.alloc(), files.paths());
     let style = style_of(telling, &zone, asked.detail);
-    let certificate = asked.certificates;
-    let told = match explain_files(
-        handles,
-        alloc,
-        &files,
-        names,
-        certificate,
-        skew,
-        transit,
-        &style,
-    ) {
+    let told = match explained_over(rt, handles, &files, bounds, &style, asked)? {
         Ok(told) => told,
         Err(error) => {
             let failure = why_not(rt, &files, &error)?;
-            let question = ReportQuestion::Certificate(certificate);
-            failed_told(alloc, question, failure, telling.form).map_err(|_| DeskFault::memory())?
+            let question = ReportQuestion::Certificate(asked.certificates);
+            failed_told(rt.alloc(), question, failure, style.form).map_err(|_| DeskFault::memory())?
         }
     };
     write_out(rt, &told)
@@ -375,7 +318,8 @@ pub(crate) fn explained(
     telling: &ReportOptions,
     asked: &FilesAsked,
 ) -> Result<u8, DeskFault> {
-    let written = explain_written(rt, handles, skew, transit, telling, asked);
+    let bounds = TimingBounds { skew, transit };
+    let written = explain_written(rt, handles, &bounds, telling, asked);
     or_fault(rt, telling.form, written)
 }
 
@@ -397,7 +341,7 @@ fn holder_written(
         Err(error) => {
             let failure = why_not(rt, &files, &error)?;
             let question = ReportQuestion::Holder(query);
-            failed_told(alloc, question, failure, telling.form).map_err(|_| DeskFault::memory())?
+            failed_told(alloc, question, failure, style.form).map_err(|_| DeskFault::memory())?
         }
     };
     write_out(rt, &told)

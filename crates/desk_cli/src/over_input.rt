@@ -8,13 +8,15 @@ use crate::fault::DeskFault;
 use crate::spans::{none_told, shortfall};
 use crate::writing::{or_fault, write_both, write_out};
 use crate::zones::{style_of, zone_named};
+use archive_desk::{CommandOutput, TimingBounds};
 use attribution_desk::{
     Command, DeskError, Intake, PairIntake, ReadInput, ReadPair, Search, UsageError, Watched,
     judge_parsed, run, search_pair, take_all, warnings_on,
 };
 use desk_args::{AnswerForm, MomentSpan, NoteDetail, ReportForm, ReportOptions, SettingsCheck};
 use desk_reports::{
-    VolumeEnds, explain_told, found_data, holder_data, holder_told, refused_data, ruling_data,
+    ReportSource, ReportStyle, VolumeEnds, explain_told, found_data, holder_data, holder_told,
+    refused_data, ruling_data,
 };
 use holder_answers::holder_answer;
 use journal_text::{text_gives_what_it_spells, written_is_closed};
@@ -214,6 +216,27 @@ pub(crate) fn answered_json(
     or_fault(rt, ReportForm::Json, written)
 }
 
+/// What is reported on a certificate's text over two texts as journals.
+fn explained_over(
+    rt: &HostRuntime,
+    threads: &(impl Threads + Wait + Sync),
+    pair: &ReadPair,
+    certificate: &[u8],
+    bounds: &TimingBounds,
+    style: &ReportStyle,
+) -> Result<CommandOutput, DeskError>
+    requires primary_closed { ForOk pair.now.primary (λ journal. IsClosed journal.lines) }
+    requires secondary_closed { ForOk pair.now.secondary (λ journal. IsClosed journal.lines) }
+{
+    let source = ReportSource {
+        pair,
+        volumes: None,
+        access: b"",
+        settings: SettingsCheck::MustAgree,
+    };
+    explain_told(threads, rt.alloc(), &source, certificate, bounds, style)
+}
+
 /// A report on a certificate.
 fn explain_written(
     rt: &HostRuntime,
@@ -228,15 +251,9 @@ fn explain_written(
         primary: input.primary,
         secondary: input.secondary,
     };
-    let told = explain_told(
-        threads,
-        rt.alloc(),
-        &pair,
-        &input.rest,
-        skew,
-        transit,
-        &style_of(telling, &zone, NoteDetail::Brief),
-    );
+    let style = style_of(telling, &zone, NoteDetail::Brief);
+    let bounds = TimingBounds { skew, transit };
+    let told = explained_over(rt, threads, &pair, &input.rest, &bounds, &style);
     write_out(rt, &told.map_err(DeskFault::Desk)?)
 }
 
@@ -251,15 +268,13 @@ fn holder_written(
     let zone = zone_named(rt, telling.zone)?;
     let pair = pair_of(rt, threads).map_err(DeskFault::Desk)?;
     let style = style_of(telling, &zone, NoteDetail::Brief);
-    let told = holder_told(
-        threads,
-        rt.alloc(),
-        &pair,
-        query,
+    let source = ReportSource {
+        pair: &pair,
+        volumes: None,
+        access: b"",
         settings,
-        VolumeEnds::CLOSED,
-        &style,
-    );
+    };
+    let told = holder_told(threads, rt.alloc(), &source, query, settings, &style);
     write_out(rt, &told.map_err(DeskFault::Desk)?)
 }
 

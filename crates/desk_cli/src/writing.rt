@@ -29,7 +29,7 @@ pub(crate) fn form_of(request: &DeskRequest) -> ReportForm {
         DeskRequest::Answer(_, AnswerForm::Json) => ReportForm::Json,
         DeskRequest::Explain { telling, .. } => telling.form,
         DeskRequest::ExplainHolder(_, _, telling) => telling.form,
-        DeskRequest::Join(_) | DeskRequest::Volumes => ReportForm::Plain,
+        DeskRequest::Join(_) | DeskRequest::Copy(_) | DeskRequest::Volumes => ReportForm::Plain,
     }
 }
 

@@ -2,7 +2,7 @@
 
 use crate::fault::DeskFault;
 use desk_args::{NoteDetail, ReportOptions};
-use desk_reports::ReportStyle;
+use desk_reports::{ReportStyle, StatedFacts};
 use std::alloc::Global;
 use std::fs;
 use std::path::Path;
@@ -51,7 +51,7 @@ pub(crate) fn zone_named(
 
 /// How a report is told, by the zone that was found.
 pub(crate) fn style_of<'a>(
-    telling: &ReportOptions,
+    telling: &'a ReportOptions<'a>,
     zone: &'a Option<ZoneFile>,
     detail: NoteDetail,
 ) -> ReportStyle<'a> {
@@ -59,5 +59,10 @@ pub(crate) fn style_of<'a>(
         form: telling.form,
         zone: zone.as_ref(),
         detail,
+        facts: StatedFacts {
+            case: telling.facts.case,
+            asked_by: telling.facts.asked_by,
+            made: telling.facts.made,
+        },
     }
 }

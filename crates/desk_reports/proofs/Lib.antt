@@ -1,2 +1,5 @@
+mod Accepted
 mod Opened
+mod OverFileLaws
+mod PageTexts
 mod Spans

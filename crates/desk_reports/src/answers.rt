@@ -1,12 +1,17 @@
 //! Answers of the desk as JSON, each of the value that was answered.
 
+use crate::volumes::volumes_value;
 use archive_desk::{
-    ArchiveJudgement, EvidenceReply, FindAnswer, HolderReply, JudgedAnswer, WhoAnswer,
-    push_journals,
+    ArchiveJudgement, EvidenceReply, HolderReply, WhoAnswer, push_journals, push_volumes,
 };
 use attribution_desk::{DeskError, Finding, SearchAnswer};
 use causal_order::Certificate;
 use holder_answers::HolderAnswer;
+use joined_evidence::{SpanEvidence, SpannedEvidence, SpannedStretch};
+use joined_rulings::{
+    CertificateRuling, GivenAudit, GivenReply, GivenRulings, SpannedAudit, missing_told,
+    refusal_told,
+};
 use pair_judgement::{Judgement, judgement_line};
 use report_data::{Object, client_of, text_of, time_of};
 use serde_json::Value;
@@ -23,6 +28,8 @@ struct AnswerParts {
     to: Value,
     certificates: Vec<Value>,
     access: Vec<Value>,
+    /// Over which volumes the answer is, where they are more than one of a side.
+    volumes: Value,
 }
 
 /// The lines of a text, each of which ends with a line feed.
@@ -47,6 +54,7 @@ impl AnswerParts {
             to: Value::Null,
             certificates: Vec::new(alloc),
             access: Vec::new(alloc),
+            volumes: Value::Null,
         }
     }
 
@@ -142,6 +150,7 @@ impl AnswerParts {
             .with("certificates", Value::Array(self.certificates))
             .with("access", Value::Array(self.access))
             .with("notes", Value::Array(notes))
+            .with("volumes", self.volumes)
             .into_line()?;
         Ok(line.into_bytes())
     }
@@ -181,7 +190,10 @@ pub fn ruling_data(alloc: Global, ruling: &Judgement, notes: &[u8]) -> Result<Ve
 pub fn who_data(alloc: Global, answer: &WhoAnswer, notes: &[u8]) -> Result<Vec<u8>, DeskError> {
     let mut parts = AnswerParts::new(alloc);
     match &answer.reply {
-        HolderReply::Answered { answer, .. } => parts.add_holder(alloc, answer)?,
+        HolderReply::Answered { answer, spans, .. } => {
+            parts.volumes = volumes_value(alloc, Some(spans))?;
+            parts.add_holder(alloc, answer)?;
+        }
         HolderReply::Lacking(_, _) => parts.add_line(alloc, b"none\n")?,
     }
     parts.add_access(alloc, &answer.access)?;
@@ -189,7 +201,7 @@ pub fn who_data(alloc: Global, answer: &WhoAnswer, notes: &[u8]) -> Result<Vec<u
     Ok(text)
 }
 
-/// Adds what files answer of a stretch, behind the line that names the two files.
+/// Adds what a pair of volumes answers of a stretch, behind the line that names the two files.
 fn add_stretch(
     parts: &mut AnswerParts,
     alloc: Global,
@@ -207,18 +219,56 @@ fn add_stretch(
     }
 }
 
+/// Adds what is found of a stretch over spans, behind the lines that name the two last files and the volumes.
+fn add_spanned(
+    parts: &mut AnswerParts,
+    alloc: Global,
+    names: &[PathBuf],
+    evidence: &SpanEvidence,
+) -> Result<(), DeskError> {
+    let mut files = Vec::new(alloc);
+    push_journals(&mut files, names, &evidence.pair)?;
+    parts.add_line(alloc, &files)?;
+    let mut volumes = Vec::new(alloc);
+    push_volumes(&mut volumes, &evidence.spans)?;
+    parts.add_line(alloc, &volumes)?;
+    parts.add_certificate(alloc, &evidence.certificate)
+}
+
+/// Adds what files answer of a stretch.
+fn add_evidence(
+    parts: &mut AnswerParts,
+    alloc: Global,
+    names: &[PathBuf],
+    stretch: &SpannedStretch,
+) -> Result<(), DeskError> {
+    match stretch {
+        SpannedStretch::Own(found) => add_stretch(parts, alloc, names, &found.reply),
+        SpannedStretch::Joined(evidence, _) => add_spanned(parts, alloc, names, evidence),
+    }
+}
+
+/// The volumes of an answer that is one stretch.
+fn evidence_volumes(alloc: Global, stretches: &[SpannedStretch]) -> Result<Value, AllocError> {
+    match stretches {
+        [SpannedStretch::Joined(evidence, _)] => volumes_value(alloc, Some(&evidence.spans)),
+        _ => Ok(Value::Null),
+    }
+}
+
 /// Writes what files answer of the evidence of an interval as one JSON object, with the status and the lines of
 /// standard error. `Memory` where a growth was refused.
 pub fn find_data(
     alloc: Global,
     names: &[PathBuf],
-    answer: &FindAnswer,
+    answer: &SpannedEvidence,
     status: u8,
     notes: &[u8],
 ) -> Result<Vec<u8>, DeskError> {
     let mut parts = AnswerParts::new(alloc);
+    parts.volumes = evidence_volumes(alloc, &answer.stretches)?;
     for stretch in answer.stretches.as_slice() {
-        add_stretch(&mut parts, alloc, names, &stretch.reply)?;
+        add_evidence(&mut parts, alloc, names, stretch)?;
     }
     let text = parts.into_text(alloc, "find", status, notes)?;
     Ok(text)
@@ -234,17 +284,69 @@ fn add_judged(
     parts.add_line(alloc, &line)
 }
 
-/// Writes what files answer to certificates as one JSON object, with the status and the lines of standard error.
-/// `AllocError` where a growth was refused.
-pub fn judged_data(
+/// Adds how a certificate was ruled on.
+fn add_ruling(
+    parts: &mut AnswerParts,
     alloc: Global,
-    answer: &JudgedAnswer,
+    ruling: &CertificateRuling,
+) -> Result<(), AllocError> {
+    match ruling {
+        CertificateRuling::Own(judged) => add_judged(parts, alloc, judged),
+        CertificateRuling::Joined(joined) => {
+            parts.volumes = volumes_value(alloc, Some(&joined.spans))?;
+            parts.add_line(alloc, b"accepted\n")
+        }
+    }
+}
+
+/// Writes what files answer to a certificate as one JSON object, with the status and the lines of standard error.
+/// `AllocError` where a growth was refused.
+pub fn audit_data(
+    alloc: Global,
+    audit: &SpannedAudit,
     status: u8,
     notes: &[u8],
 ) -> Result<Vec<u8>, AllocError> {
     let mut parts = AnswerParts::new(alloc);
-    for judged in answer.judged.as_slice() {
-        add_judged(&mut parts, alloc, judged)?;
+    for ruling in audit.rulings.as_slice() {
+        add_ruling(&mut parts, alloc, ruling)?;
+    }
+    parts.into_text(alloc, "audit", status, notes)
+}
+
+/// Adds rulings over given volumes.
+fn add_given(
+    parts: &mut AnswerParts,
+    alloc: Global,
+    given: &GivenRulings,
+) -> Result<(), AllocError> {
+    parts.volumes = volumes_value(alloc, Some(&given.spans))?;
+    for ruling in given.rulings.as_slice() {
+        parts.add_ruling(alloc, ruling)?;
+    }
+    Ok(())
+}
+
+/// Writes what given volumes answer to a certificate as one JSON object, with the status and the lines of standard
+/// error. `AllocError` where a growth was refused.
+pub fn given_audit_data(
+    alloc: Global,
+    names: &[PathBuf],
+    audit: &GivenAudit,
+    status: u8,
+    notes: &[u8],
+) -> Result<Vec<u8>, AllocError> {
+    let mut parts = AnswerParts::new(alloc);
+    match &audit.reply {
+        GivenReply::Ruled(given) => add_given(&mut parts, alloc, given)?,
+        GivenReply::Missing(side, number) => {
+            let told = missing_told(alloc, Vec::new(alloc), *side, *number)?;
+            parts.add_line(alloc, &told.text)?;
+        }
+        GivenReply::Refused(refusal) => {
+            let told = refusal_told(alloc, names, refusal)?;
+            parts.add_line(alloc, &told.text)?;
+        }
     }
     parts.into_text(alloc, "audit", status, notes)
 }

@@ -1,29 +1,48 @@
 //! Who held a prefix, and why; or why nobody is named.
 
 ghost use Rattle.std.specs.Prelude.{◌≡◌, IfOk, map};
+ghost use Rattle.certificate.specs.Spelling.{certificate_text};
+ghost use Rattle.journal_lines.specs.declared.line.Journal.{Journal as JournalValue};
 ghost use Rattle.std.specs.Result.{ForOk};
 ghost use Rattle.journal_text.specs.Closed.{IsClosed};
+ghost use Rattle.attribution_desk.specs.Case.{IsCaseOf};
 ghost use Rattle.report_document.specs.Telling.{told_of};
+ghost use Rattle.desk_reports.specs.Explaining.{IsExplained};
 ghost use Rattle.desk_reports.specs.NoHolders.{no_holder_told};
+ghost use Rattle.desk_reports.specs.Told.{bounds_of, IsWhySpelled, IsWhySentences, IsWhyPage, IsWhyPageBy, IsWhyIn, IsWhyTold};
+ghost use Rattle.desk_reports.specs.Told.{IsHeldTold, IsReplyOver, IsReplyOf, IsHolderOver, IsHolderTold, IsUnreadTold};
 
-use crate::explaining::explain_case;
-use crate::telling::{ReportStyle, ReportSubject, page_told, written};
+use crate::explaining::{explain_case, explain_journals};
+use crate::pages::{ReportSubject, page_told};
+use crate::style::{ReportSource, ReportStyle};
+use crate::telling::written;
+use crate::unanswered::sentences_page;
 use crate::why_data::why_data;
-use archive_desk::CommandOutput;
+use archive_desk::{CommandOutput, TimingBounds};
 use attribution::Verdict;
-use attribution_desk::{DeskError, IndexedPair, ReadPair};
+use attribution_desk::{DeskError, IndexedPair};
 use binding_rules::Role;
 use candidate_leases::VolumeEnds;
 use causal_order::Certificate;
 use desk_args::{ReportForm, SettingsCheck};
 use holder_answers::{HolderAnswer, holder_answer_in};
-use journal_lines::Journal;
+use journal_lines::{Journal, JournalFault};
 use pair_judgement::Judgement;
 use plain_search::HolderQuery;
 use report_document::{Block, Explanation, refusal_blocks, why_blocks};
 use report_render::{RenderedText, passages_of, text_of};
 use std::alloc::{AllocError, Global};
 use std::thread::Threads;
+
+/// The bounds that a question is asked with.
+fn bounds_of(query: &HolderQuery) -> TimingBounds
+    ensures { result ≡ bounds_of query.now }
+{
+    TimingBounds {
+        skew: query.skew,
+        transit: query.transit,
+    }
+}
 
 /// What is told of why nobody is named.
 fn told_reasons(
@@ -47,49 +66,123 @@ fn spelled_reasons(
     query: &HolderQuery,
     answer: &HolderAnswer,
     style: &ReportStyle,
-) -> Result<RenderedText, DeskError> {
+) -> Result<RenderedText, DeskError>
+    ensures { IfOk result (IsWhySpelled query.now answer.now style.now) }
+{
     let line = answer.text(alloc)?;
     let blocks = told_reasons(alloc, query, answer)?;
     let passages = passages_of(alloc, &blocks, style.zone)?;
     Ok(RenderedText { line, passages })
 }
 
-/// A report on an answer that names nobody, in the form that is asked for.
-fn why_written(
+/// Why nobody is named, as sentences.
+fn why_sentences(
     alloc: Global,
-    pair: &ReadPair,
     query: &HolderQuery,
     answer: &HolderAnswer,
     style: &ReportStyle,
-) -> Result<Vec<u8>, DeskError> {
-    if style.form == ReportForm::Json {
-        let line = answer.text(alloc)?;
-        let data = why_data(alloc, query, &line, answer)?;
-        return Ok(data);
-    }
+) -> Result<Vec<u8>, DeskError>
+    ensures { IfOk result (λ text. IsWhySentences query.now answer.now style.now text.items) }
+{
     let spelling = spelled_reasons(alloc, query, answer, style)?;
-    if style.form == ReportForm::Page {
-        let subject = ReportSubject {
-            pair,
-            certificate: b"",
-            skew: query.skew,
-            transit: query.transit,
-        };
-        return page_told(alloc, &spelling, b"", &subject);
-    }
     let text = text_of(alloc, &spelling)?;
     Ok(text)
 }
 
-/// A report on an answer that names nobody.
-fn why_told(
+/// The same as one page.
+fn why_page<'a>(
     alloc: Global,
-    pair: &ReadPair,
+    source: &'a ReportSource<'a>,
+    query: &'a HolderQuery,
+    answer: &HolderAnswer,
+    style: &'a ReportStyle<'a>,
+) -> Result<Vec<u8>, DeskError>
+    ensures { IfOk result (λ text. IsWhyPage source.now query.now answer.now style.now text.items) }
+{
+    let spelling = spelled_reasons(alloc, query, answer, style)?;
+    let subject = ReportSubject::nobody(query);
+    page_told(
+        alloc,
+        &spelling,
+        b"",
+        &[],
+        source,
+        &subject,
+        &bounds_of(query),
+        style,
+    )
+}
+
+/// The same as one page: of its sentences alone where a text is no journal.
+fn why_page_by<'a>(
+    alloc: Global,
+    source: &'a ReportSource<'a>,
+    query: &'a HolderQuery,
+    answer: &HolderAnswer,
+    style: &'a ReportStyle<'a>,
+) -> Result<Vec<u8>, DeskError>
+    ensures { IfOk result (λ text. IsWhyPageBy source.now.pair.now.primary source.now.pair.now.secondary source.now
+        query.now answer.now style.now text.items) }
+{
+    match (&source.pair.primary, &source.pair.secondary) {
+        (Ok(_), Ok(_)) => why_page(alloc, source, query, answer, style),
+        (Err(_), _) => unread_page(alloc, query, answer, style),
+        (Ok(_), Err(_)) => unread_page(alloc, query, answer, style),
+    }
+}
+
+/// A page of the sentences alone.
+fn unread_page(
+    alloc: Global,
     query: &HolderQuery,
     answer: &HolderAnswer,
     style: &ReportStyle,
-) -> Result<CommandOutput, DeskError> {
-    let text = why_written(alloc, pair, query, answer, style)?;
+) -> Result<Vec<u8>, DeskError> {
+    let sentences = why_sentences(alloc, query, answer, style)?;
+    let text = sentences_page(alloc, &sentences)?;
+    Ok(text)
+}
+
+/// The same as one object.
+fn why_object(
+    alloc: Global,
+    source: &ReportSource,
+    query: &HolderQuery,
+    answer: &HolderAnswer,
+) -> Result<Vec<u8>, DeskError> {
+    let line = answer.text(alloc)?;
+    let data = why_data(alloc, query, &line, answer, source.volumes.as_ref())?;
+    Ok(data)
+}
+
+/// A report on an answer that names nobody, in the form that is asked for.
+fn why_written<'a>(
+    alloc: Global,
+    source: &'a ReportSource<'a>,
+    query: &'a HolderQuery,
+    answer: &HolderAnswer,
+    style: &'a ReportStyle<'a>,
+) -> Result<Vec<u8>, DeskError>
+    ensures { IfOk result (λ text. IsWhyIn style.now.form source.now query.now answer.now style.now text.items) }
+{
+    match style.form {
+        ReportForm::Plain => why_sentences(alloc, query, answer, style),
+        ReportForm::Page => why_page_by(alloc, source, query, answer, style),
+        ReportForm::Json => why_object(alloc, source, query, answer),
+    }
+}
+
+/// A report on an answer that names nobody.
+fn why_told<'a>(
+    alloc: Global,
+    source: &'a ReportSource<'a>,
+    query: &'a HolderQuery,
+    answer: &HolderAnswer,
+    style: &'a ReportStyle<'a>,
+) -> Result<CommandOutput, DeskError>
+    ensures { IfOk result (IsWhyTold source.now query.now answer.now style.now) }
+{
+    let text = why_written(alloc, source, query, answer, style)?;
     let mut notes = Vec::new(alloc);
     notes.extend_from_slice(answer.note())?;
     Ok(CommandOutput {
@@ -99,25 +192,38 @@ fn why_told(
     })
 }
 
-/// A report on the certificate that names a holder.
-fn held_told(
+/// The text of a certificate.
+fn written_certificate(alloc: Global, certificate: &Certificate) -> Result<Vec<u8>, DeskError>
+    ensures { IfOk result (λ text. text.items ≡ certificate_text certificate.now) }
+{
+    match certificate::write(alloc, certificate) {
+        Ok(text) => Ok(text),
+        Err(_) => Err(DeskError::Memory),
+    }
+}
+
+/// A report on the certificate that names a holder, as it was explained over both journals.
+fn held_told<'a>(
     alloc: Global,
-    pair: &ReadPair,
-    query: &HolderQuery,
-    certificate: &Certificate,
+    source: &'a ReportSource<'a>,
+    query: &'a HolderQuery,
+    certificate: &'a Certificate,
     explanation: &Explanation,
-    style: &ReportStyle,
-) -> Result<CommandOutput, DeskError> {
-    let Ok(written_certificate) = certificate::write(alloc, certificate) else {
-        return Err(DeskError::Memory);
-    };
-    let subject = ReportSubject {
-        pair,
-        certificate: &written_certificate,
-        skew: query.skew,
-        transit: query.transit,
-    };
-    let text = written(alloc, explanation, &subject, style)?;
+    style: &'a ReportStyle<'a>,
+) -> Result<CommandOutput, DeskError>
+    ensures { (a b : JournalValue) → IsExplained a b query.now.skew query.now.transit certificate.now explanation.now
+        → IfOk result (IsHeldTold a b source.now query.now certificate.now style.now) }
+{
+    let certified = written_certificate(alloc, certificate)?;
+    let subject = ReportSubject::held(query, certificate, &certified);
+    let text = written(
+        alloc,
+        explanation,
+        source,
+        &subject,
+        &bounds_of(query),
+        style,
+    )?;
     Ok(CommandOutput {
         text,
         status: 0,
@@ -125,61 +231,135 @@ fn held_told(
     })
 }
 
-/// The answer over two journals, whose lines are indexed once, and a report on it.
-fn told_over(
-    rt: &(impl Threads + Sync),
+/// A report on an answer that was found over a case of two journals.
+fn case_told<'a>(
     alloc: Global,
-    pair: &ReadPair,
+    source: &'a ReportSource<'a>,
+    case: &IndexedPair,
     primary: &Journal,
     secondary: &Journal,
-    query: &HolderQuery,
+    query: &'a HolderQuery,
+    answer: &'a HolderAnswer,
+    style: &'a ReportStyle<'a>,
+) -> Result<CommandOutput, DeskError>
+    requires { IsCaseOf primary.now secondary.now query.now.skew case.now }
+    ensures { IfOk result
+        (IsReplyOver primary.now secondary.now source.now query.now answer.now style.now) }
+{
+    let HolderAnswer::Held(certificate) = answer else {
+        return why_told(alloc, source, query, answer, style);
+    };
+    let (skew, transit) = (query.skew, query.transit);
+    let explanation = explain_case(alloc, case, primary, secondary, certificate, skew, transit)?;
+    held_told(alloc, source, query, certificate, &explanation, style)
+}
+
+/// The answer over two journals, whose lines are indexed once, and a report on it.
+fn told_over<'a>(
+    rt: &(impl Threads + Sync),
+    alloc: Global,
+    source: &'a ReportSource<'a>,
+    primary: &Journal,
+    secondary: &Journal,
+    query: &'a HolderQuery,
     settings: SettingsCheck,
-    ends: VolumeEnds,
-    style: &ReportStyle,
+    style: &'a ReportStyle<'a>,
 ) -> Result<CommandOutput, DeskError>
     requires primary_closed { IsClosed primary.now.lines }
     requires secondary_closed { IsClosed secondary.now.lines }
+    ensures { IfOk result (IsHolderOver primary.now secondary.now source.now query.now settings style.now) }
 {
     let case = IndexedPair::of(rt, alloc, primary, secondary, query.skew)?;
+    let ends = VolumeEnds::CLOSED;
     let answer = holder_answer_in(alloc, &case, primary, secondary, query, settings, ends)?;
-    let HolderAnswer::Held(certificate) = &answer else {
-        return why_told(alloc, pair, query, &answer, style);
-    };
-    let explanation = explain_case(
-        alloc,
-        &case,
-        primary,
-        secondary,
-        certificate,
-        query.skew,
-        query.transit,
-    )?;
-    held_told(alloc, pair, query, certificate, &explanation, style)
+    case_told(
+        alloc, source, &case, primary, secondary, query, &answer, style,
+    )
 }
 
-/// What a search for a holder answers over two texts as journals, and a report on it: what the certificate shows, or
-/// why nobody is named. `ends` says which of the journals are still being written. `Memory` where a growth was refused.
-pub fn holder_told(
+/// An answer of which a side's text is no journal.
+fn unread_told<'a>(
+    alloc: Global,
+    source: &'a ReportSource<'a>,
+    query: &'a HolderQuery,
+    side: Role,
+    fault: JournalFault,
+    style: &'a ReportStyle<'a>,
+) -> Result<CommandOutput, DeskError>
+    ensures { IfOk result (IsUnreadTold side fault source.now query.now style.now) }
+{
+    let refused = HolderAnswer::Refused(Judgement::Verdict(Verdict::Journal(side, fault)));
+    why_told(alloc, source, query, &refused, style)
+}
+
+/// What a search for a holder answers over two texts as closed journals, and a report on it: what the certificate shows,
+/// or why nobody is named. `Memory` where a growth was refused.
+pub fn holder_told<'a>(
     rt: &(impl Threads + Sync),
     alloc: Global,
-    pair: &ReadPair,
-    query: &HolderQuery,
+    source: &'a ReportSource<'a>,
+    query: &'a HolderQuery,
     settings: SettingsCheck,
-    ends: VolumeEnds,
-    style: &ReportStyle,
+    style: &'a ReportStyle<'a>,
 ) -> Result<CommandOutput, DeskError>
-    requires primary_closed { ForOk pair.now.primary (λ journal. IsClosed journal.lines) }
-    requires secondary_closed { ForOk pair.now.secondary (λ journal. IsClosed journal.lines) }
+    requires primary_closed { ForOk source.now.pair.now.primary (λ journal. IsClosed journal.lines) }
+    requires secondary_closed { ForOk source.now.pair.now.secondary (λ journal. IsClosed journal.lines) }
+    ensures { IfOk result (IsHolderTold source.now.pair.now.primary source.now.pair.now.secondary source.now query.now
+        settings style.now) }
 {
-    let (side, fault) = match (&pair.primary, &pair.secondary) {
-        (Ok(primary), Ok(secondary)) => {
-            return told_over(
-                rt, alloc, pair, primary, secondary, query, settings, ends, style,
-            );
-        }
-        (Err(fault), _) => (Role::Primary, *fault),
-        (Ok(_), Err(fault)) => (Role::Secondary, *fault),
+    match (&source.pair.primary, &source.pair.secondary) {
+        (Ok(primary), Ok(secondary)) => told_over(
+            rt, alloc, source, primary, secondary, query, settings, style,
+        ),
+        (Err(fault), _) => unread_told(alloc, source, query, Role::Primary, *fault, style),
+        (Ok(_), Err(fault)) => unread_told(alloc, source, query, Role::Secondary, *fault, style),
+    }
+}
+
+/// A report on an answer that was found over two closed journals.
+fn found_told<'a>(
+    rt: &(impl Threads + Sync),
+    alloc: Global,
+    source: &'a ReportSource<'a>,
+    primary: &Journal,
+    secondary: &Journal,
+    query: &'a HolderQuery,
+    answer: &'a HolderAnswer,
+    style: &'a ReportStyle<'a>,
+) -> Result<CommandOutput, DeskError>
+    requires primary_closed { IsClosed primary.now.lines }
+    requires secondary_closed { IsClosed secondary.now.lines }
+    ensures { IfOk result
+        (IsReplyOver primary.now secondary.now source.now query.now answer.now style.now) }
+{
+    let HolderAnswer::Held(certificate) = answer else {
+        return why_told(alloc, source, query, answer, style);
     };
-    let refused = HolderAnswer::Refused(Judgement::Verdict(Verdict::Journal(side, fault)));
-    why_told(alloc, pair, query, &refused, style)
+    let (skew, transit) = (query.skew, query.transit);
+    let explanation = explain_journals(rt, alloc, primary, secondary, certificate, skew, transit)?;
+    held_told(alloc, source, query, certificate, &explanation, style)
+}
+
+/// A report on an answer that was found over two texts as closed journals: what its certificate shows, or why nobody is
+/// named. `Memory` where a growth was refused.
+pub fn reply_told<'a>(
+    rt: &(impl Threads + Sync),
+    alloc: Global,
+    source: &'a ReportSource<'a>,
+    query: &'a HolderQuery,
+    answer: &'a HolderAnswer,
+    style: &'a ReportStyle<'a>,
+) -> Result<CommandOutput, DeskError>
+    requires primary_closed { ForOk source.now.pair.now.primary (λ journal. IsClosed journal.lines) }
+    requires secondary_closed { ForOk source.now.pair.now.secondary (λ journal. IsClosed journal.lines) }
+    ensures { IfOk result (IsReplyOf source.now.pair.now.primary source.now.pair.now.secondary source.now query.now
+        answer.now style.now) }
+{
+    match (&source.pair.primary, &source.pair.secondary) {
+        (Ok(primary), Ok(secondary)) => found_told(
+            rt, alloc, source, primary, secondary, query, answer, style,
+        ),
+        (Err(fault), _) => unread_told(alloc, source, query, Role::Primary, *fault, style),
+        (Ok(_), Err(fault)) => unread_told(alloc, source, query, Role::Secondary, *fault, style),
+    }
 }

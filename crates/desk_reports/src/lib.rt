@@ -13,21 +13,31 @@
 #![tactic(auto)]
 
 mod answers;
+mod claims;
 mod explaining;
 mod files;
 mod holders;
+mod laws;
 mod lease_data;
+mod pages;
 mod reason_data;
+mod sourcing;
+mod style;
 mod telling;
 mod unanswered;
+mod volumes;
 mod why_data;
 
 pub use answers::{
-    find_data, found_data, holder_data, judged_data, refused_data, ruling_data, who_data,
+    audit_data, find_data, found_data, given_audit_data, holder_data, refused_data, ruling_data,
+    who_data,
 };
 pub use candidate_leases::VolumeEnds;
+pub use claims::{explain_files, explain_spans};
 pub use explaining::{explain_journals, explain_read};
-pub use files::{explain_files, holder_in_files};
-pub use holders::holder_told;
-pub use telling::{ReportStyle, explain_told};
+pub use files::holder_in_files;
+pub use holders::{holder_told, reply_told};
+pub use laws::accepted_reports_are_true;
+pub use style::{ReportSource, ReportStyle, StatedFacts};
+pub use telling::explain_told;
 pub use unanswered::{ReportQuestion, failed_told, fault_data, line_page};

@@ -1,135 +1,177 @@
-//! A report, written.
+//! A report on a ruling, written.
 
+ghost use Rattle.std.specs.Prelude.{◌≡◌, IfOk};
 ghost use Rattle.std.specs.Result.{ForOk};
 ghost use Rattle.journal_text.specs.Closed.{IsClosed};
+ghost use Rattle.desk_reports.specs.Pages.{moment_of};
+ghost use Rattle.desk_reports.specs.Reports.{IsPictureText, IsSpelledReport, IsPlainReport, IsPageReport, IsPageBy, IsDataReport, pieces_of};
+ghost use Rattle.desk_reports.specs.Reports.{IsReportText};
+ghost use Rattle.desk_reports.specs.Told.{IsExplanationTold};
 
 use crate::explaining::explain_read;
-use archive_desk::CommandOutput;
-use attribution_desk::{DeskError, ReadPair, warnings_on};
-use desk_args::{NoteDetail, ReportForm};
-use journal_lines::{Journal, JournalFault};
-use journal_text::write;
-use lead_time::{Skew, Transit};
+use crate::pages::{ReportSubject, page_told};
+use crate::style::{ReportSource, ReportStyle};
+use crate::unanswered::sentences_page;
+use crate::volumes::volumes_value;
+use archive_desk::{CommandOutput, TimingBounds};
+use attribution_desk::{DeskError, warnings_on};
+use desk_args::ReportForm;
+use evidence_report::{PieceReport, Report};
+use lead_time::Reading;
 use pair_judgement::status_of;
 use report_data::data_of;
 use report_document::{Explanation, document_of};
-use report_render::{
-    Page, Provenance, RenderedText, page_of, picture_of, spelled, svg_of, text_of,
-};
+use report_render::{RenderedText, picture_of, spelled, svg_of, text_of};
 use std::alloc::{AllocError, Global};
 use std::thread::Threads;
 use zone_times::ZoneFile;
 
-/// How a report is told.
-#[derive(Clone, Copy)]
-pub struct ReportStyle<'a> {
-    pub form: ReportForm,
-    /// The zone in whose local time moments are told too.
-    pub zone: Option<&'a ZoneFile>,
-    /// How much is said of files that are passed over.
-    pub detail: NoteDetail,
-}
-
-/// The program that a page names.
-pub const PROGRAM: &str = "fengtuyas-desk of 2026-11-27";
-
-/// What a question was asked of: two texts as journals, a certificate's text, and the bounds on clocks and answers.
-#[derive(Clone, Copy)]
-pub struct ReportSubject<'a> {
-    pub pair: &'a ReadPair,
-    pub certificate: &'a [u8],
-    pub skew: Skew,
-    pub transit: Transit,
-}
-
-/// The text of a journal, or none where it is no journal.
-fn journal_text(
+/// The picture of what a certificate shows, with the moment that was asked of, or none where nothing of it was looked
+/// at.
+fn picture_told(
     alloc: Global,
-    journal: &Result<Journal, JournalFault>,
-) -> Result<Vec<u8>, DeskError> {
-    match journal {
-        Ok(journal) => match write(alloc, journal.role, journal.head, journal.lines.as_slice()) {
-            Ok(text) => Ok(text),
-            Err(_) => Err(DeskError::Memory),
-        },
-        Err(_) => Ok(Vec::new(alloc)),
-    }
-}
-
-/// A report as a page, with this picture.
-pub fn page_told<'a>(
-    alloc: Global,
-    spelling: &'a RenderedText,
-    picture: &'a [u8],
-    subject: &'a ReportSubject<'a>,
-) -> Result<Vec<u8>, DeskError> {
-    let primary = journal_text(alloc, &subject.pair.primary)?;
-    let secondary = journal_text(alloc, &subject.pair.secondary)?;
-    let origin = Provenance {
-        program: PROGRAM,
-        primary: &primary,
-        secondary: &secondary,
-        certificate: subject.certificate,
-        skew: subject.skew,
-        transit: subject.transit,
-    };
-    let page = Page {
-        spelling,
-        picture,
-        origin,
-    };
-    let text = page_of(alloc, &page)?;
-    Ok(text)
-}
-
-/// The picture of what a certificate shows, or none where nothing of it was looked at.
-fn picture_told(alloc: Global, explanation: &Explanation) -> Result<Vec<u8>, AllocError> {
+    explanation: &Explanation,
+    asked: Option<Reading>,
+) -> Result<Vec<u8>, AllocError>
+    ensures { IfOk result (λ text. IsPictureText explanation.now.report asked text.items) }
+{
     match &explanation.report {
-        Some(report) => svg_of(alloc, &picture_of(alloc, report)?),
+        Some(report) => svg_of(alloc, &picture_of(alloc, report, asked)?),
         None => Ok(Vec::new(alloc)),
     }
 }
 
-/// A report on a ruling, in the form that is asked for.
-pub fn written<'a>(
+/// The document of a ruling, spelled.
+fn spelled_report(
     alloc: Global,
     explanation: &Explanation,
-    subject: &'a ReportSubject<'a>,
-    style: &ReportStyle,
-) -> Result<Vec<u8>, DeskError> {
+    zone: Option<&ZoneFile>,
+) -> Result<RenderedText, AllocError>
+    ensures { IfOk result (IsSpelledReport explanation.now zone.entry) }
+{
     let document = document_of(alloc, explanation)?;
-    let spelling = spelled(alloc, &document, style.zone)?;
-    match style.form {
-        ReportForm::Plain => {
-            let text = text_of(alloc, &spelling)?;
-            Ok(text)
-        }
-        ReportForm::Page => {
-            let picture = picture_told(alloc, explanation)?;
-            page_told(alloc, &spelling, &picture, subject)
-        }
-        ReportForm::Json => {
-            let text = data_of(alloc, explanation, subject.certificate)?;
-            Ok(text.into_bytes())
-        }
+    spelled(alloc, &document, zone)
+}
+
+/// A report on a ruling as sentences.
+fn sentences_told(
+    alloc: Global,
+    explanation: &Explanation,
+    zone: Option<&ZoneFile>,
+) -> Result<Vec<u8>, AllocError>
+    ensures { IfOk result (λ text. IsPlainReport explanation.now zone.entry text.items) }
+{
+    let spelling = spelled_report(alloc, explanation, zone)?;
+    text_of(alloc, &spelling)
+}
+
+/// The pieces whose grants go into a page's table; none where nothing of a certificate was looked at.
+fn pieces_of<'e, 'p>(report: &'e Option<Report<'p>>) -> &'e [PieceReport<'p>]
+    ensures { result.now ≡ pieces_of report.now }
+{
+    match report {
+        Some(report) => &report.pieces,
+        None => &[],
     }
 }
 
-/// The report on a certificate's text over two texts as journals, with clocks within this skew of true time and answers
-/// that reach their clients within this transit; status 0 where the certificate is accepted. `Memory` where a growth
-/// was refused.
-pub fn explain_told(
+/// A report on a ruling as one page.
+fn page_written<'a>(
+    alloc: Global,
+    explanation: &Explanation,
+    source: &'a ReportSource<'a>,
+    subject: &'a ReportSubject<'a>,
+    bounds: &TimingBounds,
+    style: &'a ReportStyle<'a>,
+) -> Result<Vec<u8>, DeskError>
+    ensures { IfOk result (λ text. IsPageReport explanation.now source.now subject.now bounds.now style.now text.items) }
+{
+    let spelling = spelled_report(alloc, explanation, style.zone)?;
+    let picture = picture_told(alloc, explanation, subject.asked_at())?;
+    let pieces = pieces_of(&explanation.report);
+    page_told(
+        alloc, &spelling, &picture, pieces, source, subject, bounds, style,
+    )
+}
+
+/// A report on a ruling as one page: of its sentences alone where a text is no journal.
+fn page_by<'a>(
+    alloc: Global,
+    explanation: &Explanation,
+    source: &'a ReportSource<'a>,
+    subject: &'a ReportSubject<'a>,
+    bounds: &TimingBounds,
+    style: &'a ReportStyle<'a>,
+) -> Result<Vec<u8>, DeskError>
+    ensures { IfOk result (λ text. IsPageBy source.now.pair.now.primary source.now.pair.now.secondary explanation.now
+        source.now subject.now bounds.now style.now text.items) }
+{
+    match (&source.pair.primary, &source.pair.secondary) {
+        (Ok(_), Ok(_)) => page_written(alloc, explanation, source, subject, bounds, style),
+        (Err(_), _) => unread_page(alloc, explanation, style.zone),
+        (Ok(_), Err(_)) => unread_page(alloc, explanation, style.zone),
+    }
+}
+
+/// A page of a report's sentences alone.
+fn unread_page(
+    alloc: Global,
+    explanation: &Explanation,
+    zone: Option<&ZoneFile>,
+) -> Result<Vec<u8>, DeskError> {
+    let sentences = sentences_told(alloc, explanation, zone)?;
+    let text = sentences_page(alloc, &sentences)?;
+    Ok(text)
+}
+
+/// A report on a ruling as one object.
+fn object_told(
+    alloc: Global,
+    explanation: &Explanation,
+    source: &ReportSource,
+    subject: &ReportSubject,
+) -> Result<Vec<u8>, AllocError>
+    ensures { IfOk result (λ text. IsDataReport explanation.now source.now subject.now text.items) }
+{
+    let volumes = volumes_value(alloc, source.volumes.as_ref())?;
+    let text = data_of(alloc, explanation, subject.certificate_text(), volumes)?;
+    Ok(text.into_bytes())
+}
+
+/// A report on a ruling, in the form that is asked for. `Memory` where a growth was refused.
+pub fn written<'a>(
+    alloc: Global,
+    explanation: &Explanation,
+    source: &'a ReportSource<'a>,
+    subject: &'a ReportSubject<'a>,
+    bounds: &TimingBounds,
+    style: &'a ReportStyle<'a>,
+) -> Result<Vec<u8>, DeskError>
+    ensures { IfOk result (λ text. IsReportText explanation.now source.now subject.now bounds.now style.now text.items) }
+{
+    match style.form {
+        ReportForm::Plain => Ok(sentences_told(alloc, explanation, style.zone)?),
+        ReportForm::Page => page_by(alloc, explanation, source, subject, bounds, style),
+        ReportForm::Json => Ok(object_told(alloc, explanation, source, subject)?),
+    }
+}
+
+/// The report on a certificate's text over two texts as journals, with clocks and answers within these bounds; status 0
+/// where the certificate is accepted. `Memory` where a growth was refused.
+pub fn explain_told<'a>(
     rt: &(impl Threads + Sync),
     alloc: Global,
-    pair: &ReadPair,
-    certificate: &[u8],
-    skew: Skew,
-    transit: Transit,
-    style: &ReportStyle,
+    source: &'a ReportSource<'a>,
+    certificate: &'a [u8],
+    bounds: &TimingBounds,
+    style: &'a ReportStyle<'a>,
 ) -> Result<CommandOutput, DeskError>
-    requires primary_closed { ForOk pair.now.primary (λ journal. IsClosed journal.lines) }
-    requires secondary_closed { ForOk pair.now.secondary (λ journal. IsClosed journal.lines) }
+    requires primary_closed { ForOk source.now.pair.now.primary (λ journal. IsClosed journal.lines) }
+    requires secondary_closed { ForOk source.now.pair.now.secondary (λ journal. IsClosed journal.lines) }
+    ensures { IfOk result (IsExplanationTold source.now certificate.now bounds.now style.now) }
 {
+    let TimingBounds { skew, transit } = *bounds;
+    let pair = source.pair;
     let claim = certificate::read(alloc, certificate);
     let explanation = explain_read(
         rt,
@@ -140,13 +182,8 @@ pub fn explain_told(
         skew,
         transit,
     )?;
-    let subject = ReportSubject {
-        pair,
-        certificate,
-        skew,
-        transit,
-    };
-    let text = written(alloc, &explanation, &subject, style)?;
+    let subject = ReportSubject::of_text(certificate, &claim, &explanation.ruling);
+    let text = written(alloc, &explanation, source, &subject, bounds, style)?;
     let notes = warnings_on(alloc, &pair.primary, &pair.secondary, skew, transit)?;
     Ok(CommandOutput {
         text,

@@ -1,5 +1,7 @@
 //! What is told where a question isn't asked of two journals: a line alone, in the form that is asked for.
 
+ghost use Rattle.std.specs.Prelude.{◌≡◌, IfOk};
+
 use crate::why_data::line_data;
 use archive_desk::{CommandOutput, FilesFailure, TimingBounds, gap_line, push_gap_name};
 use binding_rules::Role;
@@ -59,6 +61,15 @@ pub fn line_page(alloc: Global, line: &[u8], notes: &[u8]) -> Result<Vec<u8>, Al
     Ok(out)
 }
 
+/// Writes a report's sentences, which rest on no journals, as one page: its first line, and each other one as a
+/// paragraph. `AllocError` where a growth was refused.
+pub fn sentences_page(alloc: Global, sentences: &[u8]) -> Result<Vec<u8>, AllocError> {
+    let mut parts = sentences.splitn(2, |octet| *octet == b'\n');
+    let line = parts.next().unwrap_or(b"");
+    let others = parts.next().unwrap_or(b"");
+    line_page(alloc, line, others)
+}
+
 /// Writes a line that answers a question, in the form that is asked for.
 fn line_told(
     alloc: Global,
@@ -72,10 +83,11 @@ fn line_told(
         ReportForm::Page => line_page(alloc, &line, notes),
         ReportForm::Json => match question {
             ReportQuestion::Certificate(text) => {
-                let data = verdict_data(alloc, &line, text)?;
+                let verdict = line.strip_suffix(b"\n").unwrap_or(&line);
+                let data = verdict_data(alloc, verdict, text)?;
                 Ok(data.into_bytes())
             }
-            ReportQuestion::Holder(query) => line_data(alloc, query, &line),
+            ReportQuestion::Holder(query) => line_data(alloc, query, &line, None),
         },
     }
 }
@@ -87,7 +99,9 @@ pub fn refused_told(
     line: Vec<u8>,
     notes: Vec<u8>,
     form: ReportForm,
-) -> Result<CommandOutput, AllocError> {
+) -> Result<CommandOutput, AllocError>
+    ensures { IfOk result (λ told. told.status ≡ 1) }
+{
     let text = line_told(alloc, question, line, &notes, form)?;
     Ok(CommandOutput {
         text,
@@ -105,7 +119,9 @@ pub fn lacking_told(
     lack: &CoverageGap,
     bounds: &TimingBounds,
     form: ReportForm,
-) -> Result<CommandOutput, AllocError> {
+) -> Result<CommandOutput, AllocError>
+    ensures { IfOk result (λ told. told.status ≡ 1) }
+{
     let mut line = Vec::new(alloc);
     push_gap_name(&mut line, side, lack)?;
     line.push(b'\n')?;

@@ -1,10 +1,10 @@
 -- What comes of one volume more.
-use Rattle.std.specs.Prelude.{◌≡◌, ◌≢◌, ◌↔◌, ℕ, ◌+◌, ◌⊎◌, List, [], ◌∷◌, ◌-◌, ◌≤◌, length, take, drop, Bool, true, false, not, IsTrue}
+use Rattle.std.specs.Prelude.{◌≡◌, ◌≢◌, ◌↔◌, ℕ, ◌+◌, List, [], ◌∷◌, ◌-◌, ◌≤◌, length, take, drop, Bool, true, false, not, IsTrue}
 use Rattle.std.specs.Prelude.{Result, IfOk}
 use Rattle.journal_lines.specs.declared.line.Line.{Line}
 use Rattle.volume_join.specs.Joined.{behind_head}
 use Rattle.journal_lines.specs.declared.line.Journal.{Journal}
-use Rattle.std.proofs.Common.{get_or, arith, sym, ◌∙◌, ap, subst, refl, inl, inr}
+use Rattle.std.proofs.Common.{get_or, arith, ap, subst, refl, inl, inr}
 use Rattle.journal_archive.specs.declared.outline.FiledVolume.{FiledVolume}
 use Rattle.open_volume.specs.declared.volume.VolumeSoFar.{VolumeSoFar}
 use Rattle.order_book.specs.Replayed.{IsLegal}

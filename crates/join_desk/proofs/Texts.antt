@@ -1,19 +1,18 @@
 -- A journal's text, line by line.
-use Rattle.std.specs.Prelude.{◌≡◌, ℕ, Bool, true, false, List, [], ◌∷◌, ◌++◌, map, length, if◌then◌else◌}
-use Rattle.std.proofs.Common.{sym, ◌∙◌, ap, subst, refl}
+use Rattle.std.specs.Prelude.{◌≡◌, ℕ, Bool, List, [], ◌∷◌, ◌++◌, map, length, if◌then◌else◌}
+use Rattle.std.proofs.Common.{sym, ◌∙◌, ap, refl}
 use Rattle.std.proofs.lemmas.List.Folds.{flat_map-map}
 use Rattle.std.proofs.lemmas.Grind.{flat_map-append}
 use Rattle.std.proofs.lemmas.List.Concat.{flat_map-cons}
 use Rattle.text_fields.specs.Cuts.{with_stops}
 use Rattle.journal_lines.specs.Head.{volume_number}
-use Rattle.journal_lines.specs.declared.line.Line.{Line}
 use Rattle.journal_lines.specs.declared.line.Journal.{Journal}
 use Rattle.journal_text.specs.Spelling.{line_text, head_text, head_line, end_text}
 use Rattle.book_state.specs.Book.{blank}
 use Rattle.book_rules.specs.Volumes.{book_after}
 use Rattle.open_volume.specs.declared.volume.Phase.{Phase}
 use Rattle.open_volume.specs.declared.volume.Phase.TheVariants.{GoingOn, Ended}
-use Rattle.join_desk.specs.Text.{lined_text, phase_of, text_at, text_of}
+use Rattle.join_desk.specs.Text.{lined_text, text_at, text_of}
 
 abbrev lined : List ℕ → List ℕ
 lined cut = cut ++ 10 ∷ []

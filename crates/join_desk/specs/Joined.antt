@@ -1,9 +1,9 @@
 -- What comes of the volumes of files that are put together in their order.
-use Rattle.std.specs.Prelude.{◌≡◌, ◌≢◌, ℕ, ◌⊎◌, ◌+◌, List, [], ◌∷◌, false}
+use Rattle.std.specs.Prelude.{◌≡◌, ℕ, ◌⊎◌, ◌+◌, List, [], ◌∷◌}
 use Rattle.journal_lines.specs.declared.line.Journal.{Journal}
 use Rattle.journal_archive.specs.declared.outline.FiledVolume.{FiledVolume}
 use Rattle.open_volume.specs.declared.volume.VolumeSoFar.{VolumeSoFar}
-use Rattle.order_book.specs.Replayed.{state_of, IsLegal}
+use Rattle.order_book.specs.Replayed.{IsLegal}
 use Rattle.archive_files.specs.Showing.{IsCopyOf}
 use Rattle.archive_files.specs.Torn.{IsUntornCopyOf}
 use Rattle.volume_join.specs.declared.error.JoinError.{JoinError}

@@ -2,4 +2,4 @@ pub mod Choosing
 pub mod Joined
 pub mod Text
 pub mod Telling
-pub mod Auditing
+pub mod Copying

@@ -1,19 +1,16 @@
 -- What is told of volumes that are put together.
-use Rattle.std.specs.Prelude.{◌≡◌, ◌≢◌, ℕ, List, [], ◌∷◌, ◌++◌, codes, take}
-use Rattle.std.specs.Fmt.{decimal}
+use Rattle.std.specs.Prelude.{◌≡◌, ℕ, List, [], ◌∷◌, ◌++◌, codes, take}
 use Rattle.std.specs.List.{flat_map}
 use Rattle.std.specs.declared.path.buf.PathBuf.{PathBuf}
 use Rattle.binding_rules.specs.declared.role.Role.{Role}
 use Rattle.binding_rules.specs.declared.role.Role.TheVariants.{Primary, Secondary}
 use Rattle.journal_archive.specs.declared.outline.FiledVolume.{FiledVolume}
 use Rattle.journal_archive.specs.declared.archive.Archive.{Archive}
-use Rattle.book_rules.specs.Rules.{rule_number}
 use Rattle.archive_files.specs.declared.cataloguing.Catalogue.{Catalogue}
 use Rattle.archive_files.specs.declared.settings_check.SettingsScope.TheVariants.{OfEach}
 use Rattle.archive_files.specs.Catalogues.{IsCatalogue}
 use Rattle.archive_files.specs.Ties.{AreTied}
 use Rattle.archive_desk.specs.declared.command_output.CommandOutput.{CommandOutput}
-use Rattle.archive_desk.specs.Names.{name_at}
 use Rattle.archive_desk.specs.Failing.{file_word, IsRefusal}
 use Rattle.archive_desk.specs.Unread.{AllRead}
 use Rattle.desk_args.specs.declared.join_args.JoinQuery.{JoinQuery}
@@ -21,8 +18,7 @@ use Rattle.join_desk.specs.declared.choosing.VolumeChoice.{VolumeChoice}
 use Rattle.join_desk.specs.declared.choosing.VolumeChoice.TheVariants.{Chosen, NoVolume, Missing}
 use Rattle.join_desk.specs.declared.outcome.JoinOutcome.{JoinOutcome}
 use Rattle.join_desk.specs.declared.outcome.JoinOutcome.TheVariants.{Joined, Refused}
-use Rattle.volume_spans.specs.declared.refusal.JoinRefusal.{JoinRefusal}
-use Rattle.volume_spans.specs.declared.refusal.JoinRefusal.TheVariants.{NotClosed, Rule, Head, TooLong}
+use Rattle.joined_rulings.specs.Lacks.{no_volume_line, missing_line, refusal_line, IsLackTold}
 use Rattle.join_desk.specs.Choosing.{IsChoice}
 use Rattle.join_desk.specs.Joined.{IsOutcome}
 use Rattle.join_desk.specs.Text.{text_of}
@@ -34,46 +30,6 @@ file_words names taken = flat_map (λ (v : FiledVolume). file_word names v.file)
 -- the files that were taken, in the order of their numbers
 abbrev pub taken_line : {A : Type 0} → List (PathBuf A) → List FiledVolume → List ℕ
 taken_line names taken = codes "journals" ++ (file_words names taken ++ 10 ∷ [])
-
-abbrev pub lack_front : Role → List ℕ
-lack_front Primary = codes "lacking A "
-lack_front Secondary = codes "lacking B "
-
-abbrev pub no_volume_words : List ℕ
-no_volume_words = codes "NoVolume: no file is a journal of this side\n"
-
-abbrev pub missing_words : List ℕ
-missing_words = codes "Missing: no file has volume "
-
-abbrev pub no_volume_line : Role → List ℕ
-no_volume_line side = lack_front side ++ no_volume_words
-
-abbrev pub missing_line : Role → ℕ → List ℕ
-missing_line side number = lack_front side ++ (missing_words ++ (decimal number ++ 10 ∷ []))
-
--- a blank and a number
-abbrev pub number_word : ℕ → List ℕ
-number_word n = 32 ∷ decimal n
-
-abbrev pub refusal_words : {A : Type 0} → List (PathBuf A) → JoinRefusal → List ℕ
-refusal_words names (NotClosed file) = codes "refused V5 NotClosed" ++ file_word names file
-refusal_words names (Rule file line rule) =
-    codes "refused V6 Rule" ++ (file_word names file ++ (number_word line ++ number_word (rule_number rule)))
-refusal_words names (Head file line) = codes "refused V7 Head" ++ (file_word names file ++ number_word line)
-refusal_words names (TooLong file) = codes "refused V8 TooLong" ++ file_word names file
-
-abbrev pub refusal_line : {A : Type 0} → List (PathBuf A) → JoinRefusal → List ℕ
-refusal_line names refusal = refusal_words names refusal ++ 10 ∷ []
-
--- nothing is given, with these notes
-pub record IsNoneTold (notes : List ℕ) (told : CommandOutput) : Type 0 where
-  pub text : told.text.items ≡ codes "none\n"
-  pub status : told.status ≡ 1
-  pub notes_are : told.notes.items ≡ notes
-
--- and standard error says last why
-abbrev pub IsLackTold : (passed line : List ℕ) → CommandOutput → Type 0
-IsLackTold passed line told = IsNoneTold (passed ++ line) told
 
 -- the journal's text is given, and standard error says last of which files it is
 pub record IsJournalTold (passed content line : List ℕ) (told : CommandOutput) : Type 0 where

@@ -38,7 +38,7 @@ fn greatest(volumes: &[FiledVolume]) -> u32
 }
 
 /// The number of the first volume that is asked for.
-fn first_asked(volumes: &[FiledVolume], from: Option<u32>, to: Option<u32>) -> u32
+pub(crate) fn first_asked(volumes: &[FiledVolume], from: Option<u32>, to: Option<u32>) -> u32
     ensures { result ≡ first_asked volumes.now from to }
 {
     match (from, to) {

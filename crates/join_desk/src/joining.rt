@@ -5,17 +5,18 @@ ghost use Rattle.join_desk.specs.Telling.{shelf_of, IsChosenTold, IsChoiceTold, 
 
 use crate::choosing::{VolumeChoice, choice_of};
 use crate::putting::outcome_of;
-use crate::telling::{missing_told, no_volume_told, outcome_told};
+use crate::telling::outcome_told;
 use archive_desk::{CommandOutput, expect_read, passed_over};
 use archive_files::{FilesError, JournalFiles, SettingsScope, catalogue_of};
 use binding_rules::Role;
 use desk_args::{JoinQuery, NoteDetail};
+use joined_rulings::{missing_told, no_volume_told};
 use journal_archive::{Archive, FiledVolume};
 use std::alloc::Global;
 use std::path::PathBuf;
 
 /// The volumes of a side.
-fn shelf_of(side: Role, archive: &Archive) -> &[FiledVolume]
+pub(crate) fn shelf_of(side: Role, archive: &Archive) -> &[FiledVolume]
     ensures { result.now ≡ shelf_of side archive.now }
 {
     match side {

@@ -1,12 +1,12 @@
-//! The desk's `join`: the volumes of a side in files, put together as one journal; and audits over given volumes of both
-//! sides.
+//! The desk's `join`: the volumes of a side in files, put together as one journal; and its `copy`: their text up to a
+//! line.
 //!
 //! [`join_files`] says which of the files are volumes of the side (`archive_files`), chooses those that are asked for
 //! by their numbers (specs/Choosing), reads one after the other and puts them together (`volume_join`, specs/Joined).
-//! What is told is the journal's text, or why the volumes aren't one (specs/Telling).
+//! What is told is the journal's text, or why the volumes aren't one (specs/Telling; `joined_rulings` has the words).
 //!
-//! [`audit_spans`] judges certificates over the journals that given volumes of both sides show (`volume_spans`,
-//! specs/Auditing): those that standard error names of an answer over several.
+//! [`copy_files`] gives the text of a side's volumes up to a line, as an answer used them (`journal_copies`,
+//! specs/Copying).
 //!
 //! ```text
 //! let told = join_files(alloc, &files, names, &query)?;
@@ -14,16 +14,16 @@
 //! ```
 #![tactic(auto)]
 
-mod auditing;
 mod choosing;
+mod copying;
 mod joining;
 mod outcome;
 mod putting;
 mod telling;
 mod text;
 
-pub use auditing::{audit_spans, batch_spans};
 pub use choosing::VolumeChoice;
+pub use copying::copy_files;
 pub use joining::join_files;
 pub use outcome::JoinOutcome;
 pub use volume_spans::JoinRefusal;

@@ -1,3 +1,3 @@
 mod Longest
 mod Named
-mod Walk
+pub mod Walk

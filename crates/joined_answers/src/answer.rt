@@ -180,7 +180,7 @@ fn first_carried(leases: &[CandidateLease]) -> Option<CandidateLease>
 }
 
 /// Returns whether a lease that may have been a client's is carried from earlier volumes.
-fn has_carried(leases: &[CandidateLease]) -> bool
+pub fn has_carried(leases: &[CandidateLease]) -> bool
     ensures { IsTrue result ↔ HasCarried leases.now }
 {
     match first_carried(leases) {

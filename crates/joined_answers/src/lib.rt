@@ -24,7 +24,8 @@ mod reach;
 mod starting;
 mod widening;
 
-pub use answer::SpannedAnswer;
+pub use answer::{SpannedAnswer, has_carried};
 pub use laws::named_is_true;
-pub use reach::LeaseBounds;
-pub use widening::{SpanReply, holder_over_spans};
+pub use reach::{LeaseBounds, may_begin_earlier, reach_over};
+pub use starting::{MomentSpans, lasting_gap, read_both, spans_at};
+pub use widening::{SpanReply, both_widened, holder_over_spans, may_widen};

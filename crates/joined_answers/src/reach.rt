@@ -78,8 +78,9 @@ fn reach_by(skew: Skew, transit: Transit, bounds: &LeaseBounds) -> u64
     1000 * seconds + 2 * (2 * skew.milliseconds() + transit.milliseconds())
 }
 
-/// The same by the volumes that were read of both sides.
-pub(crate) fn reach(query: &HolderQuery, read: &ReadSpans) -> u64
+/// In milliseconds: how long before a moment a lease may have begun that lasts at the moment, by the volumes that were
+/// read of both sides.
+pub fn reach_over(query: &HolderQuery, read: &ReadSpans) -> u64
     ensures reach { result ≡ reach query.now read.now }
     ensures within { result < 2 ^ 63 }
 {
@@ -100,7 +101,7 @@ fn opening_of(volumes: &[ReadVolume]) -> u64
 }
 
 /// Returns whether a lease that may last at the moment may have begun before a span, which has a volume before it.
-pub(crate) fn may_begin_earlier(at: u64, reach: u64, span: &SpanReader) -> bool
+pub fn may_begin_earlier(at: u64, reach: u64, span: &SpanReader) -> bool
     requires { reach < 2 ^ 63 }
     ensures { IsTrue result ↔ MayBeginEarlier at reach span.now }
 {

@@ -24,7 +24,7 @@ pub(crate) enum SideStart {
 
 /// The volumes of both sides that show a moment.
 #[derive(Debug, Drop)]
-pub(crate) enum MomentSpans {
+pub enum MomentSpans {
     Read(ReadSpans),
     /// This side has none, and why.
     Lacking(Role, CoverageGap),
@@ -32,7 +32,7 @@ pub(crate) enum MomentSpans {
 
 /// What is lacking of a side that no volumes together show either; `None` where one shows the moment, or it lies in a
 /// roll from one to the next.
-fn lasting_gap(coverage: &Coverage) -> Option<CoverageGap>
+pub fn lasting_gap(coverage: &Coverage) -> Option<CoverageGap>
     ensures { IsLastingGap coverage.now result }
 {
     match coverage {
@@ -83,8 +83,9 @@ fn read_side<F: JournalFiles>(
     }
 }
 
-/// Reads the volumes of both sides that show a moment to which they stand so.
-fn read_both<F: JournalFiles>(
+/// Reads the volumes of both sides that show a moment to which they stand so. `OtherHead`, `Changed`, `Faulty` and
+/// `Memory` as of [`SpanReader::begin`].
+pub fn read_both<F: JournalFiles>(
     alloc: Global,
     files: &F,
     archive: &Archive,
@@ -108,7 +109,7 @@ fn read_both<F: JournalFiles>(
 /// one to the next these two. Where one of the sides has none nothing is read.
 ///
 /// `OtherHead`, `Changed`, `Faulty` and `Memory` as of [`SpanReader::begin`].
-pub(crate) fn spans_at<F: JournalFiles>(
+pub fn spans_at<F: JournalFiles>(
     alloc: Global,
     files: &F,
     archive: &Archive,

@@ -11,7 +11,7 @@ ghost use Rattle.joined_answers.specs.Widening.{IsWidenedWithin, AreWidenedWithi
 ghost use Rattle.joined_answers.specs.Widening.{IsReply, IsOverSpans};
 
 use crate::answer::{SpanTry, SpannedAnswer, answer_over, asks_further, fitting};
-use crate::reach::{may_begin_earlier, reach};
+use crate::reach::{may_begin_earlier, reach_over};
 use crate::starting::{MomentSpans, spans_at};
 use archive_files::{FilesError, JournalFiles};
 use binding_rules::Role;
@@ -62,8 +62,9 @@ fn widened_within<F: JournalFiles>(
     Ok(span)
 }
 
-/// Takes one volume more in front of each side, where a lease may have begun before its span.
-fn both_widened<F: JournalFiles>(
+/// Takes one volume more in front of each side, where a lease may have begun before its span. `OtherHead`, `Changed` and
+/// `Memory` as of [`SpanReader::widened`].
+pub fn both_widened<F: JournalFiles>(
     alloc: Global,
     files: &F,
     archive: &Archive,
@@ -76,7 +77,7 @@ fn both_widened<F: JournalFiles>(
     ensures refused { IfErr result (IsReadingRefusal (F.had files.now)) }
 {
     let at = query.at.milliseconds();
-    let reach = reach(query, &read);
+    let reach = reach_over(query, &read);
     let ReadSpans { primary, secondary } = read;
     let shelf = archive.primary.volumes();
     let primary = widened_within(alloc, files, shelf, primary, at, reach)?;
@@ -112,11 +113,11 @@ fn wider_try<F: JournalFiles>(
 }
 
 /// Returns whether a lease that may last at the moment may have begun before the span of a side.
-fn may_widen(query: &HolderQuery, read: &ReadSpans) -> bool
+pub fn may_widen(query: &HolderQuery, read: &ReadSpans) -> bool
     ensures { IsTrue result ↔ MayWidenWithin query.now.at (reach query.now read.now) read.now }
 {
     let at = query.at.milliseconds();
-    let reach = reach(query, read);
+    let reach = reach_over(query, read);
     may_begin_earlier(at, reach, &read.primary) || may_begin_earlier(at, reach, &read.secondary)
 }
 

@@ -5,14 +5,15 @@ use Rattle.serde_json.specs.Read.{read, max_depth}
 use Rattle.serde_json.specs.Find.{get}
 use Rattle.serde_json.specs.View.{view}
 use Rattle.serde_json.specs.declared.value.Value.{Value}
+use Rattle.std.specs.Str.{IsUtf8}
 
 -- the field is this number
 abbrev pub HasNumber : Data → List ℕ → ℕ → Type 0
 HasNumber d key n = get key d ≡ Some (number (unsigned n))
 
--- the value is this text; null where it is none of UTF-8
+-- the value is this text; null where it is none of UTF-8, and only there
 abbrev pub IsText : List ℕ → Data → Type 0
-IsText text d = (d ≡ string text) ⊎ (d ≡ null)
+IsText text d = (IsUtf8 text × (d ≡ string text)) ⊎ ((IsUtf8 text → ⊥) × (d ≡ null))
 
 -- the old fields, and at the name a value that stands for this one
 abbrev pub HasField : {V : Type 0} → (gives : V → Value → Type 0) → List ℕ → V → (old new : Members) → Type 0

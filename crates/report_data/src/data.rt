@@ -1,5 +1,11 @@
 //! The whole object.
 
+ghost use Rattle.std.specs.Prelude.{IfOk, string_bytes};
+ghost use Rattle.pair_judgement.specs.Judgements.{judgement_text};
+ghost use Rattle.serde_json.specs.View.{view};
+ghost use Rattle.report_data.specs.Fields.{IsText};
+ghost use Rattle.report_data.specs.Rulings.{IsQuestion, IsReportData, IsShownData, IsRulingLine, IsVerdictLine};
+
 use crate::failures::failure_of;
 use crate::foreign::foreign_of;
 use crate::object::Object;
@@ -14,7 +20,9 @@ use report_document::Explanation;
 use serde_json::Value;
 use std::alloc::{AllocError, Global};
 
-fn question_of(alloc: Global, certificate: &Certificate) -> Result<Value, AllocError> {
+fn question_of(alloc: Global, certificate: &Certificate) -> Result<Value, AllocError>
+    ensures { IfOk result (λ v. IsQuestion certificate.now (view v)) }
+{
     Object::new(alloc)
         .with_made("holder", client_of(alloc, &certificate.holder))
         .with_made("prefix", prefix_of(alloc, &certificate.prefix))
@@ -65,7 +73,9 @@ fn lines_of(alloc: Global, cited: &[CitedLine]) -> Result<Value, AllocError> {
     Ok(Value::Array(values))
 }
 
-fn report_of(alloc: Global, report: &Report<'_>) -> Result<Value, AllocError> {
+fn report_of(alloc: Global, report: &Report<'_>) -> Result<Value, AllocError>
+    ensures { IfOk result (λ v. IsReportData report.now (view v)) }
+{
     Object::new(alloc)
         .with_made("question", question_of(alloc, report.certificate))
         .with("skew_ms", report.skew.milliseconds())
@@ -79,7 +89,9 @@ fn report_of(alloc: Global, report: &Report<'_>) -> Result<Value, AllocError> {
 }
 
 /// What a certificate shows, or null.
-fn shown_of(alloc: Global, report: &Option<Report<'_>>) -> Result<Value, AllocError> {
+fn shown_of(alloc: Global, report: &Option<Report<'_>>) -> Result<Value, AllocError>
+    ensures { IfOk result (λ v. IsShownData report.now (view v)) }
+{
     match report {
         Some(report) => report_of(alloc, report),
         None => Ok(Value::Null),
@@ -87,7 +99,9 @@ fn shown_of(alloc: Global, report: &Option<Report<'_>>) -> Result<Value, AllocEr
 }
 
 /// A ruling's line, without its line feed.
-fn verdict_of(alloc: Global, explanation: &Explanation<'_>) -> Result<Value, AllocError> {
+fn verdict_of(alloc: Global, explanation: &Explanation<'_>) -> Result<Value, AllocError>
+    ensures { IfOk result (λ v. IsText (judgement_text explanation.now.ruling) (view v)) }
+{
     let line = judgement_line(alloc, &explanation.ruling)?;
     match line.as_slice().split_last() {
         Some((_, verdict)) => text_of(alloc, verdict),
@@ -96,28 +110,35 @@ fn verdict_of(alloc: Global, explanation: &Explanation<'_>) -> Result<Value, All
 }
 
 /// Writes the ruling and all that it rests on as JSON: one object, and a line feed. The certificate's text goes in as
-/// it is. `AllocError` where a growth was refused.
+/// it is, and so does what names the volumes that were asked. `AllocError` where a growth was refused.
 pub fn data_of(
     alloc: Global,
     explanation: &Explanation<'_>,
     certificate: &[u8],
-) -> Result<String, AllocError> {
+    volumes: Value,
+) -> Result<String, AllocError>
+    ensures { IfOk result
+        (λ text. IsRulingLine explanation.now certificate.now (view volumes) (string_bytes text)) }
+{
     Object::answer(alloc)
         .with_made("verdict", verdict_of(alloc, explanation))
         .with_made("failure", failure_of(alloc, &explanation.failure))
         .with_made("report", shown_of(alloc, &explanation.report))
         .with_made("certificate", text_of(alloc, certificate))
+        .with_made("volumes", Ok(volumes))
         .into_line()
 }
 
-/// Writes a line that rules on a certificate's text before any journal is looked at, as JSON: as [`data_of`] does, with
-/// nothing that it rests on. `AllocError` where a growth was refused.
-pub fn verdict_data(alloc: Global, line: &[u8], certificate: &[u8]) -> Result<String, AllocError> {
-    let verdict = line.strip_suffix(b"\n").unwrap_or(line);
+/// Writes a verdict on a certificate's text before any journal is looked at, as JSON: as [`data_of`] does, with nothing
+/// that it rests on. `AllocError` where a growth was refused.
+pub fn verdict_data(alloc: Global, verdict: &[u8], certificate: &[u8]) -> Result<String, AllocError>
+    ensures { IfOk result (λ text. IsVerdictLine verdict.now certificate.now (string_bytes text)) }
+{
     Object::answer(alloc)
         .with_made("verdict", text_of(alloc, verdict))
-        .with("failure", Value::Null)
-        .with("report", Value::Null)
+        .with("failure", ())
+        .with("report", ())
         .with_made("certificate", text_of(alloc, certificate))
+        .with("volumes", ())
         .into_line()
 }

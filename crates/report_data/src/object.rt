@@ -1,7 +1,7 @@
 //! Objects, field by field.
 
-ghost use Rattle.std.specs.Prelude.{◌≡◌, Err, IfOk, IsOkAnd, MatchResult, string_bytes};
-ghost use Rattle.serde_json.specs.Data.{object, no_members, put as with_member};
+ghost use Rattle.std.specs.Prelude.{◌≡◌, Err, IfOk, IsOkAnd, MatchResult, string_bytes, codes};
+ghost use Rattle.serde_json.specs.Data.{object, no_members, number, unsigned, put as with_member};
 ghost use Rattle.serde_json.specs.View.{view, members_view};
 ghost use Rattle.report_data.specs.Fields.{HasField, IsLineOf};
 
@@ -53,7 +53,10 @@ impl Object {
     }
 
     /// An object that says by which edition of the objects' form it is written, and nothing else yet.
-    pub fn answer(alloc: Global) -> Object {
+    pub fn answer(alloc: Global) -> Object
+        ensures { IfOk result.fields
+            (λ f. members_view f.entries ≡ with_member (codes "format") (number (unsigned 1)) no_members) }
+    {
         Object::new(alloc).with("format", FORMAT)
     }
 

@@ -3,3 +3,8 @@ pub mod MorePassages
 pub mod Harmless
 pub mod Places
 pub mod MoreArrows
+pub mod MoreTitles
+pub mod MoreFacts
+pub mod MorePages
+pub mod MoreLabels
+pub mod MoreGrants

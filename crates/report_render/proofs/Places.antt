@@ -1,10 +1,10 @@
 -- Where moments stand.
-use Rattle.std.proofs.Common.{◌≡◌, ℕ, zero, suc, ◌+◌, ◌*◌, ◌/◌, ◌<◌, ◌≤◌, List, [], ◌∷◌, length, get_or, refl, ap, ◌∙◌, arith}
+use Rattle.std.proofs.Common.{◌≡◌, ℕ, zero, suc, ◌+◌, ◌*◌, ◌/◌, ◌<◌, ◌≤◌, List, [], ◌∷◌, length, get_or, ap, ◌∙◌, arith}
 use Rattle.std.proofs.Math.Nat.{div-mul-le_self, div-le_of_le-mul}
 use Rattle.std.proofs.lemmas.Nat.{le-div}
 use Rattle.std.proofs.lemmas.Bool.Decides.{nat_tests}
-use Rattle.report_render.specs.declared.axis.TheConstants.{LEFT, WIDTH}
-use Rattle.report_render.specs.Axis.{below, place, PlacesKeepOrder, PlacesAreWithin}
+use Rattle.report_render.specs.declared.axis.TheConstants.{WIDTH}
+use Rattle.report_render.specs.Axis.{below, PlacesKeepOrder, PlacesAreWithin}
 
 below_yes : (a : ℕ) (axis : List ℕ) (m : ℕ) → a < m → below (a ∷ axis) m ≡ 1 + below axis m
 below_yes a axis m h = grind (arith, nat_tests)

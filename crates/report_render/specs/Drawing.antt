@@ -17,19 +17,28 @@ use Rattle.report_render.specs.declared.picture.LeaseBar.{LeaseBar}
 use Rattle.report_render.specs.declared.picture.LineDot.{LineDot}
 use Rattle.report_render.specs.declared.picture.MessageArrow.{MessageArrow}
 use Rattle.report_render.specs.declared.picture.Picture.{Picture}
+use Rattle.report_render.specs.declared.labels.PictureLabels.{PictureLabels}
 use Rattle.report_render.specs.Axis.{place}
+use Rattle.report_render.specs.Labels.{AreLabels}
 
 -- what of a drawing is always the same
 unfoldable pub style_text : DrawingPart → List ℕ
 style_text style.Head = text.HEAD.now
 style_text style.BehindHeight = text.BEHIND_HEIGHT.now
 style_text style.Height = text.HEIGHT.now
-style_text style.Asked = text.ASKED.now
+style_text style.Interval = text.INTERVAL.now
 style_text style.Maybe = text.MAYBE.now
 style_text style.Sure = text.SURE.now
 style_text style.Label = text.LABEL.now
 style_text style.Lane = text.LANE.now
+style_text style.PrimaryName = text.PRIMARY_NAME.now
+style_text style.SecondaryName = text.SECONDARY_NAME.now
 style_text style.Beside = text.BESIDE.now
+style_text style.Between = text.BETWEEN.now
+style_text style.TextEnd = text.TEXT_END.now
+style_text style.Mark = text.MARK.now
+style_text style.MarkRight = text.MARK_RIGHT.now
+style_text style.MarkLeft = text.MARK_LEFT.now
 style_text style.Circle = text.CIRCLE.now
 style_text style.CircleDown = text.CIRCLE_DOWN.now
 style_text style.Dot = text.DOT.now
@@ -82,11 +91,25 @@ unfoldable pub circle_svg : (x y : ℕ) → List ℕ
 circle_svg x y =
     style_text style.Circle ++ decimal x ++ style_text style.CircleDown ++ decimal y ++ style_text style.Dot
 
+-- what a server's lane is called
+abbrev pub name_style : Role → DrawingPart
+name_style Primary = style.PrimaryName
+name_style Secondary = style.SecondaryName
+
+-- a text that is always the same, at a place
+unfoldable pub name_svg : (x y : ℕ) → DrawingPart → List ℕ
+name_svg x y s =
+    codes "<text" ++ attribute (codes " x=\"") x ++ attribute (codes " y=\"") y ++ style_text s
+
+-- a server's lane and its name
+abbrev pub side_svg : (first : ℕ) → Role → List ℕ
+side_svg first side = lane_svg (lane_of first side) ++ name_svg 8 (lane_of first side + 5) (name_style side)
+
 -- a line at its reading, its name in one of four rows under it
 unfoldable pub dot_svg : List ℕ → (first index : ℕ) → LineDot → List ℕ
 dot_svg axis first index d =
     circle_svg (place axis d.reading) (lane_of first d.at.side)
-    ++ label_svg (place axis d.reading) (lane_of first d.at.side + 18 + 12 * (index % 4)) d.at
+    ++ label_svg (place axis d.reading) (lane_of first d.at.side + 18 + 18 * (index % 4)) d.at
 
 abbrev pub dots_svg : List ℕ → (first index : ℕ) → List LineDot → List ℕ
 dots_svg axis first index [] = []
@@ -99,27 +122,48 @@ arrow_svg axis first a =
     ++ attribute (codes " x2=\"") (place axis a.taken.reading)
     ++ attribute (codes " y2=\"") (lane_of first a.taken.at.side) ++ style_text style.Arrow
 
--- the interval asked about, behind the bars
-unfoldable pub asked_svg : List ℕ → Picture → List ℕ
-asked_svg axis p =
+-- the interval's times
+unfoldable pub times_svg : PictureLabels → List ℕ
+times_svg l =
+    style_text style.Beside ++ l.from.items ++ style_text style.Between ++ l.to.items ++ style_text style.TextEnd
+
+-- the interval, behind the bars
+unfoldable pub interval_svg : List ℕ → Picture → List ℕ
+interval_svg axis p =
     rect_svg (place axis p.from) (place axis p.to) 10 style.Height ++ decimal (first_lane p.bars.items)
-    ++ style_text style.Asked ++ style_text style.Beside
+    ++ style_text style.Interval
 
 unfoldable pub back_svg : List ℕ → Picture → List ℕ
 back_svg axis p =
-    style_text style.Head ++ decimal (first_lane p.bars.items + 160) ++ style_text style.BehindHeight
-    ++ asked_svg axis p
+    style_text style.Head ++ decimal (first_lane p.bars.items + 175) ++ style_text style.BehindHeight
+    ++ interval_svg axis p
 
 -- the lines of both sides, and the messages between them
 unfoldable pub lines_svg : List ℕ → (first : ℕ) → Picture → List ℕ
 lines_svg axis first p =
-    lane_svg first ++ lane_svg (first + 90) ++ flat_map (arrow_svg axis first) p.arrows.items
+    side_svg first Primary ++ side_svg first Secondary ++ flat_map (arrow_svg axis first) p.arrows.items
     ++ dots_svg axis first 0 p.dots.items
 
-abbrev pub picture_svg : List ℕ → Picture → List ℕ
-picture_svg axis p =
-    back_svg axis p ++ bars_svg axis 0 p.bars.items ++ lines_svg axis (first_lane p.bars.items) p
-    ++ style_text style.Tail
+-- a name stands to the right of its mark, or to the left in the right half
+abbrev pub mark_style : (x : ℕ) → DrawingPart
+mark_style x = if nat_lt x 530 then style.MarkRight else style.MarkLeft
+
+-- a moment marked from above the bars down to the secondary's lane, and its time
+unfoldable pub mark_svg : (x first : ℕ) (time : List ℕ) → List ℕ
+mark_svg x first time =
+    codes "<line" ++ attribute (codes " x1=\"") x ++ attribute (codes " y1=\"") 46
+    ++ attribute (codes " x2=\"") x ++ attribute (codes " y2=\"") (first + 90) ++ style_text style.Mark
+    ++ name_svg x 42 (mark_style x) ++ time ++ style_text style.TextEnd
+
+-- the moment that was asked about, where it was one
+abbrev pub asked_svg : List ℕ → (first : ℕ) → Option ℕ → (time : List ℕ) → List ℕ
+asked_svg axis first None time = []
+asked_svg axis first (Some at) time = mark_svg (place axis at) first time
+
+abbrev pub picture_svg : List ℕ → Picture → PictureLabels → List ℕ
+picture_svg axis p l =
+    back_svg axis p ++ times_svg l ++ bars_svg axis 0 p.bars.items ++ lines_svg axis (first_lane p.bars.items) p
+    ++ asked_svg axis (first_lane p.bars.items) p.asked l.asked.items ++ style_text style.Tail
 
 -- ---- the moments that stand in it
 
@@ -130,12 +174,18 @@ moments_between earliest (Some sure) latest = earliest ∷ sure.0 ∷ sure.1 ∷
 abbrev pub bar_moments : LeaseBar → List ℕ
 bar_moments b = moments_between b.earliest b.sure b.latest
 
+abbrev pub asked_moments : Option ℕ → List ℕ
+asked_moments None = []
+asked_moments (Some at) = at ∷ []
+
 abbrev pub moments_of : Picture → List ℕ
-moments_of p = (p.from ∷ p.to ∷ []) ++ flat_map bar_moments p.bars.items ++ map (λ d. d.reading) p.dots.items
+moments_of p = (p.from ∷ p.to ∷ asked_moments p.asked) ++ flat_map bar_moments p.bars.items ++ map (λ d. d.reading) p.dots.items
 
 -- over these, in their order
 pub record IsSvg (p : Picture) (text : List ℕ) : Type 0 where
   pub axis : List ℕ
   pub sorted : IsNonDecreasing axis
   pub whole : IsPermutation (moments_of p) axis
-  pub drawn : text ≡ picture_svg axis p
+  pub labels : PictureLabels
+  pub labels_are : AreLabels p labels
+  pub drawn : text ≡ picture_svg axis p labels

@@ -1,7 +1,14 @@
 pub mod Spelling
 pub mod Text
 pub mod Escaping
+pub mod Template
+pub mod OriginTemplate
+pub mod Title
+pub mod Facts
+pub mod Origin
+pub mod Grants
 pub mod Page
 pub mod Axis
 pub mod Picture
+pub mod Labels
 pub mod Drawing

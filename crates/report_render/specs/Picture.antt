@@ -86,9 +86,11 @@ report_bars r =
     flat_map (λ piece. bars_of (piece_bar r.skew r.transit piece)) r.pieces.items
     ++ flat_map (λ foreign. bars_of (foreign_bar r.skew r.transit foreign)) r.foreign.items
 
-pub record IsPicture (r : Report) (p : Picture) : Type 0 where
+-- with the moment that was asked about, where it was one
+pub record IsPicture (r : Report) (asked : Option ℕ) (p : Picture) : Type 0 where
   pub from : p.from ≡ r.certificate.now.from
   pub to : p.to ≡ r.certificate.now.to
+  pub asked_is : p.asked ≡ asked
   pub bars : p.bars.items ≡ report_bars r
   pub dots : p.dots.items ≡ map dot_of r.cited.items
   pub arrows : AreMessages p.dots.items p.arrows.items

@@ -7,10 +7,10 @@ ghost use Rattle.report_render.specs.Axis.{below, place};
 use std::alloc::{AllocError, Global};
 
 /// The leftmost place of a picture.
-pub const LEFT: u64 = 60;
+pub const LEFT: u64 = 100;
 
 /// How wide the axis is.
-pub const WIDTH: u64 = 900;
+pub const WIDTH: u64 = 860;
 
 /// How many of the moments of an axis come before this one.
 fn below(axis: &[u64], moment: u64) -> usize

@@ -7,10 +7,13 @@ ghost use Rattle.std.specs.List.Sorted.{IsNonDecreasing, IsPermutation};
 ghost use Rattle.attribution.specs.VerdictText.{place_text};
 ghost use Rattle.report_render.specs.Drawing.{attribute, label_svg, rect_svg, sure_svg, bar_svg, bars_svg, first_lane};
 ghost use Rattle.report_render.specs.Drawing.{lane_of, lane_svg, dot_svg, dots_svg, arrow_svg, asked_svg, back_svg};
-ghost use Rattle.report_render.specs.Drawing.{lines_svg, circle_svg, bar_moments, moments_of, picture_svg, IsSvg};
+ghost use Rattle.report_render.specs.Drawing.{lines_svg, circle_svg, bar_moments, moments_of, picture_svg};
+ghost use Rattle.report_render.specs.Drawing.{interval_svg, times_svg, name_style, name_svg, side_svg, asked_moments};
+ghost use Rattle.report_render.specs.Drawing.{mark_style, mark_svg, IsSvg};
 ghost use Rattle.report_render.specs.Axis.{place};
 
 use crate::axis::{LEFT, WIDTH, place};
+use crate::labels::{PictureLabels, labels_of};
 use crate::picture::{LeaseBar, LineDot, MessageArrow, Picture};
 use crate::styles::{DrawingPart, push_style};
 use attribution::push_place;
@@ -148,6 +151,37 @@ fn push_lane(out: &mut Vec<u8>, y: u64) -> Result<(), AllocError>
     push_style(out, DrawingPart::Lane)
 }
 
+/// What a server's lane is called.
+fn name_style(side: Role) -> DrawingPart
+    ensures { result ≡ name_style side }
+{
+    match side {
+        Role::Primary => DrawingPart::PrimaryName,
+        Role::Secondary => DrawingPart::SecondaryName,
+    }
+}
+
+/// Appends a text that is always the same, at a place.
+#[tactic(auto, unfolding(crate::specs::Drawing::name_svg))]
+fn push_name(out: &mut Vec<u8>, x: u64, y: u64, name: DrawingPart) -> Result<(), AllocError>
+    ensures { OnOk result (out.new.items ≡ out.old.items ++ name_svg x y name) }
+{
+    out.extend_from_slice(b"<text")?;
+    push_attribute(out, b" x=\"", x)?;
+    push_attribute(out, b" y=\"", y)?;
+    push_style(out, name)
+}
+
+/// Appends the lane of a server, and its name.
+fn push_lane_of(out: &mut Vec<u8>, first: u64, side: Role) -> Result<(), AllocError>
+    requires { first < 2 ^ 62 }
+    ensures { OnOk result (out.new.items ≡ out.old.items ++ side_svg first side) }
+{
+    let y = lane_of(first, side);
+    push_lane(out, y)?;
+    push_name(out, 8, y + 5, name_style(side))
+}
+
 #[tactic(auto, unfolding(crate::specs::Drawing::circle_svg))]
 fn push_circle(out: &mut Vec<u8>, x: u64, y: u64) -> Result<(), AllocError>
     ensures { OnOk result (out.new.items ≡ out.old.items ++ circle_svg x y) }
@@ -176,7 +210,7 @@ fn push_dot(
     let x = place(axis, dot.reading);
     let y = lane_of(first, dot.at.side);
     push_circle(out, x, y)?;
-    push_label(out, x, y + 18 + 12 * (index % 4) as u64, dot.at)
+    push_label(out, x, y + 18 + 18 * (index % 4) as u64, dot.at)
 }
 
 /// Appends a message.
@@ -199,11 +233,11 @@ fn push_arrow(
     push_style(out, DrawingPart::Arrow)
 }
 
-/// Appends the interval asked about, behind all bars.
-#[tactic(auto, unfolding(crate::specs::Drawing::asked_svg))]
-fn push_asked(out: &mut Vec<u8>, axis: &[u64], picture: &Picture) -> Result<(), AllocError>
+/// Appends the interval, behind all bars.
+#[tactic(auto, unfolding(crate::specs::Drawing::interval_svg))]
+fn push_interval(out: &mut Vec<u8>, axis: &[u64], picture: &Picture) -> Result<(), AllocError>
     requires { IsNonDecreasing axis.now }
-    ensures { OnOk result (out.new.items ≡ out.old.items ++ asked_svg axis.now picture.now) }
+    ensures { OnOk result (out.new.items ≡ out.old.items ++ interval_svg axis.now picture.now) }
 {
     push_rect(
         out,
@@ -213,8 +247,7 @@ fn push_asked(out: &mut Vec<u8>, axis: &[u64], picture: &Picture) -> Result<(), 
         DrawingPart::Height,
     )?;
     push_number(out, first_lane(&picture.bars))?;
-    push_style(out, DrawingPart::Asked)?;
-    push_style(out, DrawingPart::Beside)
+    push_style(out, DrawingPart::Interval)
 }
 
 fn push_dots(
@@ -249,16 +282,28 @@ fn push_arrows(
     Ok(())
 }
 
-/// Appends what is behind all: the interval asked about, in a picture of this height.
+/// Appends the times of the interval.
+#[tactic(auto, unfolding(crate::specs::Drawing::times_svg))]
+fn push_times(out: &mut Vec<u8>, labels: &PictureLabels) -> Result<(), AllocError>
+    ensures { OnOk result (out.new.items ≡ out.old.items ++ times_svg labels.now) }
+{
+    push_style(out, DrawingPart::Beside)?;
+    out.extend_from_slice(&labels.from)?;
+    push_style(out, DrawingPart::Between)?;
+    out.extend_from_slice(&labels.to)?;
+    push_style(out, DrawingPart::TextEnd)
+}
+
+/// Appends what is behind all: the interval, in a picture of this height.
 #[tactic(auto, unfolding(crate::specs::Drawing::back_svg))]
 fn push_back(out: &mut Vec<u8>, axis: &[u64], picture: &Picture) -> Result<(), AllocError>
     requires { IsNonDecreasing axis.now }
     ensures { OnOk result (out.new.items ≡ out.old.items ++ back_svg axis.now picture.now) }
 {
     push_style(out, DrawingPart::Head)?;
-    push_number(out, first_lane(&picture.bars) + 160)?;
+    push_number(out, first_lane(&picture.bars) + 175)?;
     push_style(out, DrawingPart::BehindHeight)?;
-    push_asked(out, axis, picture)
+    push_interval(out, axis, picture)
 }
 
 /// Appends the lines of both sides, and the messages between them.
@@ -273,20 +318,74 @@ fn push_lines(
     requires low { first < 2 ^ 62 }
     ensures { OnOk result (out.new.items ≡ out.old.items ++ lines_svg axis.now first picture.now) }
 {
-    push_lane(out, first)?;
-    push_lane(out, first + 90)?;
+    push_lane_of(out, first, Role::Primary)?;
+    push_lane_of(out, first, Role::Secondary)?;
     push_arrows(out, axis, first, &picture.arrows)?;
     push_dots(out, axis, first, &picture.dots)
 }
 
+/// The name of a mark at this place: it stands to its right, or to its left in the right half.
+fn mark_style(x: u64) -> DrawingPart
+    ensures { result ≡ mark_style x }
+{
+    if x < 530 {
+        DrawingPart::MarkRight
+    } else {
+        DrawingPart::MarkLeft
+    }
+}
+
+/// Appends the mark of a moment at this place, from above the bars down to the secondary's lane, and its time.
+#[tactic(auto, unfolding(crate::specs::Drawing::mark_svg))]
+fn push_mark(out: &mut Vec<u8>, x: u64, first: u64, time: &[u8]) -> Result<(), AllocError>
+    requires { first < 2 ^ 62 }
+    ensures { OnOk result (out.new.items ≡ out.old.items ++ mark_svg x first time.now) }
+{
+    out.extend_from_slice(b"<line")?;
+    push_attribute(out, b" x1=\"", x)?;
+    push_attribute(out, b" y1=\"", 46)?;
+    push_attribute(out, b" x2=\"", x)?;
+    push_attribute(out, b" y2=\"", first + 90)?;
+    push_style(out, DrawingPart::Mark)?;
+    push_name(out, x, 42, mark_style(x))?;
+    out.extend_from_slice(time)?;
+    push_style(out, DrawingPart::TextEnd)
+}
+
+/// Marks the moment that was asked about, where it was one.
+fn push_asked(
+    out: &mut Vec<u8>,
+    axis: &[u64],
+    first: u64,
+    asked: Option<u64>,
+    time: &[u8],
+) -> Result<(), AllocError>
+    requires sorted { IsNonDecreasing axis.now }
+    requires low { first < 2 ^ 62 }
+    ensures { OnOk result (out.new.items ≡ out.old.items ++ asked_svg axis.now first asked time.now) }
+{
+    match asked {
+        Some(at) => push_mark(out, place(axis, at), first, time),
+        None => Ok(()),
+    }
+}
+
 /// Appends the picture over an axis.
-fn push_picture(out: &mut Vec<u8>, axis: &[u64], picture: &Picture) -> Result<(), AllocError>
+fn push_picture(
+    out: &mut Vec<u8>,
+    axis: &[u64],
+    picture: &Picture,
+    labels: &PictureLabels,
+) -> Result<(), AllocError>
     requires { IsNonDecreasing axis.now }
-    ensures { OnOk result (out.new.items ≡ out.old.items ++ picture_svg axis.now picture.now) }
+    ensures { OnOk result (out.new.items ≡ out.old.items ++ picture_svg axis.now picture.now labels.now) }
 {
     push_back(out, axis, picture)?;
+    push_times(out, labels)?;
     push_bars(out, axis, &picture.bars)?;
-    push_lines(out, axis, first_lane(&picture.bars), picture)?;
+    let first = first_lane(&picture.bars);
+    push_lines(out, axis, first, picture)?;
+    push_asked(out, axis, first, picture.asked, &labels.asked)?;
     push_style(out, DrawingPart::Tail)
 }
 
@@ -300,12 +399,24 @@ fn push_moments(moments: &mut Vec<u64>, bar: &LeaseBar) -> Result<(), AllocError
     }
 }
 
+/// Appends the moment that was asked about, where it was one.
+fn push_asked_moment(moments: &mut Vec<u64>, asked: Option<u64>) -> Result<(), AllocError>
+    ensures { OnOk result (moments.new.items ≡ moments.old.items ++ asked_moments asked) }
+{
+    match asked {
+        Some(at) => moments.push(at)?,
+        None => {}
+    }
+    Ok(())
+}
+
 /// The moments that a picture shows.
 fn moments_of(alloc: Global, picture: &Picture) -> Result<Vec<u64>, AllocError>
     ensures { IfOk result (λ moments. moments.items ≡ moments_of picture.now) }
 {
     let mut moments = Vec::new(alloc);
     moments.extend_from_slice(&[picture.from, picture.to])?;
+    push_asked_moment(&mut moments, picture.asked)?;
     for bar in &picture.bars {
         push_moments(&mut moments, bar)?;
     }
@@ -331,6 +442,7 @@ pub fn svg_of(alloc: Global, picture: &Picture) -> Result<Vec<u8>, AllocError>
 {
     let axis = axis_of(alloc, picture)?;
     let mut out = Vec::new(alloc);
-    push_picture(&mut out, &axis, picture)?;
+    let labels = labels_of(alloc, picture)?;
+    push_picture(&mut out, &axis, picture, &labels)?;
     Ok(out)
 }

@@ -14,13 +14,16 @@
 //!
 //! A report on a ruling, as one page.
 //!
-//! [`page_of`] makes a page of HTML 5 of a report that is spelled (`report_render`), a picture, and where both come
-//! from: it has no script and asks for nothing outside of itself. Each word goes in escaped, so that none can close a
-//! tag or an attribute, whatever octets it has (law [`escaped_is_harmless`]). specs/Page is the page, specs/Escaping
-//! what escaping is.
+//! [`page_of`] makes a page of HTML 5: a title that says the answer in a sentence, the facts of the question, a report
+//! that is spelled ([`spelled`]), a picture, a table of the grants that renewed the lease, access records, and where all
+//! that comes from, with the commands that check it. It has no script and asks for nothing outside of itself. Each word
+//! goes in escaped, so that none can close a tag or an attribute, whatever octets it has (law [`escaped_is_harmless`]).
+//! specs/Page is the page, specs/Title, specs/Facts, specs/Grants and specs/Origin are its pieces, specs/Escaping what
+//! escaping is.
 //!
 //! ```text
-//! let page = page_of(alloc, &Page { spelling: &spelling, picture: &svg, origin: &origin })?;
+//! let page = Page { title, facts, spelling: &spelling, picture: &svg, pieces: &report.pieces, access: b"", origin };
+//! let html = page_of(alloc, &page, None)?;
 //! ```
 //!
 //! The picture of a report: a time line.
@@ -38,8 +41,13 @@
 mod axis;
 mod drawing;
 mod escaping;
+mod facts;
+mod grants;
+mod labels;
 mod laws;
 mod messages;
+mod origin;
+mod origin_template;
 mod page;
 mod picture;
 mod picture_laws;
@@ -48,14 +56,18 @@ mod taking;
 mod template;
 mod text;
 mod text_block;
+mod title;
 mod words;
 
 pub use drawing::svg_of;
 pub use escaping::push_escaped;
+pub use facts::{PageFacts, PageQuestion};
 pub use laws::escaped_is_harmless;
-pub use page::{Page, Provenance, page_of};
+pub use origin::{CopiedVolumes, PageCheck, Provenance, SettingsRule, SourceText, TextOrigin};
+pub use page::{Page, page_of};
 pub use picture::{LeaseBar, LineDot, MessageArrow, Picture};
 pub use picture_laws::places_keep_order;
 pub use taking::picture_of;
 pub use text::text_of;
 pub use text_block::{RenderedText, TextBlock, passages_of, spelled};
+pub use title::{ClaimedDelegation, PageTitle};

@@ -2,45 +2,36 @@
 
 ghost use Rattle.std.specs.Prelude.{◌≡◌, ◌++◌, OnOk, IfOk};
 ghost use Rattle.std.specs.List.{flat_map};
-ghost use Rattle.sha2.specs.Sha256.{sha256};
-ghost use Rattle.text_fields.specs.Octets.{hex};
-ghost use Rattle.report_render.specs.Escaping.{escaped};
-ghost use Rattle.report_render.specs.Page.{opening_of, closing_of, passage_html, part_text, options_html, sums_html};
-ghost use Rattle.report_render.specs.Page.{checks_html, origin_html, opening_html, page_html};
+ghost use Rattle.report_render.specs.Page.{opening_of, closing_of, passage_html, heading_html, figure_html};
+ghost use Rattle.report_render.specs.Page.{access_html, opening_html, page_html, IsPage};
 
 use crate::escaping::push_escaped;
+use crate::facts::{PageFacts, asked_of, push_facts};
+use crate::grants::grants_of;
+use crate::origin::{Provenance, push_origin};
 use crate::template::{PagePart, push_part};
 use crate::text_block::{RenderedText, TextBlock};
-use lead_time::{Skew, Transit};
+use crate::title::{PageTitle, title_of};
+use evidence_report::PieceReport;
 use report_document::BlockKind;
-use sha2::{Digest, Sha256};
 use std::alloc::{AllocError, Global};
-use text_fields::{push_number, push_octets};
+use zone_times::ZoneFile;
 
-/// What a page was made by, of what, and how to check it.
+/// All that a page is made of.
 #[derive(Clone, Copy, Debug)]
-pub struct Provenance<'a> {
-    /// The program's name and its version.
-    pub program: &'a str,
-    /// The text of journal A.
-    pub primary: &'a [u8],
-    /// That of journal B.
-    pub secondary: &'a [u8],
-    /// That of the certificate.
-    pub certificate: &'a [u8],
-    /// How far clocks may be from true time.
-    pub skew: Skew,
-    /// How long an answer may be under way.
-    pub transit: Transit,
-}
-
-/// What a page shows.
-#[derive(Clone, Copy, Debug)]
-pub struct Page<'a> {
-    /// The report's passages.
+pub struct Page<'a, 'p> {
+    /// How its title says the answer.
+    pub title: PageTitle,
+    pub facts: PageFacts<'a>,
+    /// The ruling's line, and the report's passages.
     pub spelling: &'a RenderedText,
-    /// An SVG element, which goes in as it is.
+    /// An SVG element, which goes in as it is; empty where nothing is drawn.
     pub picture: &'a [u8],
+    /// What is shown of a certificate's pieces, whose grants go into a table; empty where nothing of a certificate was
+    /// looked at.
+    pub pieces: &'a [PieceReport<'p>],
+    /// The lines of access records; empty where there are none.
+    pub access: &'a [u8],
     pub origin: Provenance<'a>,
 }
 
@@ -75,55 +66,6 @@ fn push_passage(out: &mut Vec<u8>, passage: &TextBlock) -> Result<(), AllocError
     out.extend_from_slice(closing_of(passage.kind))
 }
 
-/// Appends a part, and the SHA-256 sum of a text (FIPS 180-4), in hexadecimal.
-fn push_sum(out: &mut Vec<u8>, before: PagePart, text: &[u8]) -> Result<(), AllocError>
-    ensures { OnOk result (out.new.items ≡ out.old.items ++ (part_text before ++ hex (sha256 text.now))) }
-{
-    push_part(out, before)?;
-    push_octets(out, &Sha256::digest(text))
-}
-
-/// Appends the options of a command.
-fn push_options(out: &mut Vec<u8>, skew: Skew, transit: Transit) -> Result<(), AllocError>
-    ensures { OnOk result (out.new.items ≡ out.old.items ++ options_html skew transit) }
-{
-    push_part(out, PagePart::SkewOption)?;
-    push_number(out, skew.milliseconds())?;
-    push_part(out, PagePart::TransitOption)?;
-    push_number(out, transit.milliseconds())
-}
-
-/// Appends what the page was made of.
-fn push_sums(out: &mut Vec<u8>, origin: &Provenance<'_>) -> Result<(), AllocError>
-    ensures { OnOk result (out.new.items ≡ out.old.items ++ sums_html origin.now) }
-{
-    push_sum(out, PagePart::BeforePrimary, origin.primary)?;
-    push_sum(out, PagePart::BeforeSecondary, origin.secondary)?;
-    push_sum(out, PagePart::BeforeCertificate, origin.certificate)
-}
-
-/// Appends how it is checked.
-#[tactic(auto, unfolding(crate::specs::Page::checks_html))]
-fn push_checks(out: &mut Vec<u8>, skew: Skew, transit: Transit) -> Result<(), AllocError>
-    ensures { OnOk result (out.new.items ≡ out.old.items ++ checks_html skew transit) }
-{
-    push_part(out, PagePart::BeforeSkew)?;
-    push_options(out, skew, transit)?;
-    push_part(out, PagePart::BeforeSecond)?;
-    push_options(out, skew, transit)
-}
-
-/// Appends where the page comes from.
-#[tactic(auto, unfolding(crate::specs::Page::origin_html))]
-fn push_origin(out: &mut Vec<u8>, origin: &Provenance<'_>) -> Result<(), AllocError>
-    ensures { OnOk result (out.new.items ≡ out.old.items ++ origin_html origin.now) }
-{
-    push_part(out, PagePart::BeforeProgram)?;
-    push_escaped(out, origin.program.as_bytes())?;
-    push_sums(out, origin)?;
-    push_checks(out, origin.skew, origin.transit)
-}
-
 /// Appends the passages, one behind the other.
 fn push_passages(out: &mut Vec<u8>, passages: &[TextBlock]) -> Result<(), AllocError>
     ensures { OnOk result (out.new.items ≡ out.old.items ++ flat_map passage_html passages.now) }
@@ -134,26 +76,94 @@ fn push_passages(out: &mut Vec<u8>, passages: &[TextBlock]) -> Result<(), AllocE
     Ok(())
 }
 
-/// Appends what stands before the passages: the ruling's line and the picture.
-#[tactic(auto, unfolding(crate::specs::Page::opening_html))]
-fn push_opening(out: &mut Vec<u8>, page: &Page<'_>) -> Result<(), AllocError>
-    ensures { OnOk result (out.new.items ≡ out.old.items ++ opening_html page.now) }
+/// Appends the title, for the browser's window and for the page, and the ruling's line.
+#[tactic(auto, unfolding(crate::specs::Page::heading_html))]
+fn push_heading(out: &mut Vec<u8>, title: &[u8], line: &[u8]) -> Result<(), AllocError>
+    ensures { OnOk result (out.new.items ≡ out.old.items ++ heading_html title.now line.now) }
 {
     push_part(out, PagePart::Head)?;
-    push_escaped(out, &page.spelling.line)?;
+    push_escaped(out, title)?;
+    push_part(out, PagePart::BehindTitle)?;
+    push_escaped(out, title)?;
+    push_part(out, PagePart::BeforeLine)?;
+    push_escaped(out, line)?;
+    push_part(out, PagePart::BehindLine)
+}
+
+/// Appends the picture, where there is one.
+fn push_figure(out: &mut Vec<u8>, picture: &[u8]) -> Result<(), AllocError>
+    ensures { OnOk result (out.new.items ≡ out.old.items ++ figure_html picture.now) }
+{
+    if picture.is_empty() {
+        return Ok(());
+    }
     push_part(out, PagePart::BeforePicture)?;
-    out.extend_from_slice(page.picture)?;
+    out.extend_from_slice(picture)?;
     push_part(out, PagePart::BehindPicture)
 }
 
-/// The page. `AllocError` where a growth was refused.
-pub fn page_of(alloc: Global, page: &Page<'_>) -> Result<Vec<u8>, AllocError>
-    ensures { IfOk result (λ text. text.items ≡ page_html page.now) }
+/// Appends the access records, where there are any.
+fn push_access(out: &mut Vec<u8>, access: &[u8]) -> Result<(), AllocError>
+    ensures { OnOk result (out.new.items ≡ out.old.items ++ access_html access.now) }
+{
+    if access.is_empty() {
+        return Ok(());
+    }
+    push_part(out, PagePart::BeforeAccess)?;
+    push_escaped(out, access)?;
+    push_part(out, PagePart::AccessEnd)
+}
+
+/// Appends what stands before the passages.
+#[tactic(auto, unfolding(crate::specs::Page::opening_html))]
+fn push_opening(
+    out: &mut Vec<u8>,
+    page: &Page<'_, '_>,
+    title: &[u8],
+    asked: &[u8],
+    grants: &[u8],
+) -> Result<(), AllocError>
+    ensures { OnOk result (out.new.items ≡ out.old.items ++ opening_html page.now title.now asked.now grants.now) }
+{
+    push_heading(out, title, &page.spelling.line)?;
+    push_facts(out, &page.facts, asked)?;
+    push_figure(out, page.picture)?;
+    out.extend_from_slice(grants)
+}
+
+/// The page, of the texts of its title and of the moment that was asked about, and the table of its grants.
+#[tactic(auto, unfolding(crate::specs::Page::page_html))]
+fn page_text(
+    alloc: Global,
+    page: &Page<'_, '_>,
+    title: &[u8],
+    asked: &[u8],
+    grants: &[u8],
+) -> Result<Vec<u8>, AllocError>
+    ensures { IfOk result (λ text. text.items ≡ page_html page.now title.now asked.now grants.now) }
 {
     let mut out = Vec::new(alloc);
-    push_opening(&mut out, page)?;
+    push_opening(&mut out, page, title, asked, grants)?;
     push_passages(&mut out, &page.spelling.passages)?;
+    push_access(&mut out, page.access)?;
     push_origin(&mut out, &page.origin)?;
     push_part(&mut out, PagePart::Tail)?;
     Ok(out)
+}
+
+/// The page; its title and the moment that was asked about are told in the local time of a zone, where one is given,
+/// and its grants in UTC.
+/// `AllocError` where a growth was refused.
+#[tactic(auto, using(crate::proofs::MorePages::page_is))]
+pub fn page_of(
+    alloc: Global,
+    page: &Page<'_, '_>,
+    zone: Option<&ZoneFile>,
+) -> Result<Vec<u8>, AllocError>
+    ensures { IfOk result (λ text. IsPage zone.entry page.now text.items) }
+{
+    let title = title_of(alloc, &page.title, zone)?;
+    let asked = asked_of(alloc, zone, page.facts.question)?;
+    let grants = grants_of(alloc, page.pieces)?;
+    page_text(alloc, page, &title, &asked, &grants)
 }

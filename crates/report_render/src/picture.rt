@@ -32,9 +32,11 @@ pub struct MessageArrow {
 /// A time line.
 #[derive(Debug, Drop)]
 pub struct Picture {
-    /// The interval asked about.
+    /// The interval of the certificate.
     pub from: u64,
     pub to: u64,
+    /// The moment that was asked about, where it was one.
+    pub asked: Option<u64>,
     /// The pieces' leases, and behind them other clients' delegations.
     pub bars: Vec<LeaseBar>,
     pub dots: Vec<LineDot>,

@@ -14,8 +14,8 @@ pub enum DrawingPart {
     BehindHeight,
     /// Before the height of a bar.
     Height,
-    /// The interval asked about, behind its height.
-    Asked,
+    /// The interval, behind its height.
+    Interval,
     /// A bar that may have lasted.
     Maybe,
     /// A bar that lasted for sure.
@@ -24,8 +24,22 @@ pub enum DrawingPart {
     Label,
     /// The lane of a server, behind its height.
     Lane,
-    /// What stands beside the interval.
+    /// The name of the primary's lane, behind its place.
+    PrimaryName,
+    /// That of the secondary's.
+    SecondaryName,
+    /// Before the times of the interval.
     Beside,
+    /// Between them.
+    Between,
+    /// Behind a text.
+    TextEnd,
+    /// The mark of the moment asked about, behind its ends.
+    Mark,
+    /// Its name, behind its place, where its time stands to the right of it.
+    MarkRight,
+    /// Where it stands to the left.
+    MarkLeft,
     /// A dot, before its place from the left.
     Circle,
     /// Before its place from the top.
@@ -47,12 +61,19 @@ fn style_text(style: DrawingPart) -> &'static str
         DrawingPart::Head => HEAD,
         DrawingPart::BehindHeight => BEHIND_HEIGHT,
         DrawingPart::Height => HEIGHT,
-        DrawingPart::Asked => ASKED,
+        DrawingPart::Interval => INTERVAL,
         DrawingPart::Maybe => MAYBE,
         DrawingPart::Sure => SURE,
         DrawingPart::Label => LABEL,
         DrawingPart::Lane => LANE,
+        DrawingPart::PrimaryName => PRIMARY_NAME,
+        DrawingPart::SecondaryName => SECONDARY_NAME,
         DrawingPart::Beside => BESIDE,
+        DrawingPart::Between => BETWEEN,
+        DrawingPart::TextEnd => TEXT_END,
+        DrawingPart::Mark => MARK,
+        DrawingPart::MarkRight => MARK_RIGHT,
+        DrawingPart::MarkLeft => MARK_LEFT,
         DrawingPart::Circle => CIRCLE,
         DrawingPart::CircleDown => CIRCLE_DOWN,
         DrawingPart::Dot => DOT,
@@ -77,17 +98,33 @@ const BEHIND_HEIGHT: &str =
 
 const HEIGHT: &str = " height=\"";
 
-const ASKED: &str = "\" fill=\"#eee\" stroke=\"#000\" stroke-width=\"0.5\"/>\n";
+const INTERVAL: &str = "\" fill=\"#eee\" stroke=\"#000\" stroke-width=\"0.5\"/>\n";
 
 const MAYBE: &str = " height=\"14\" fill=\"none\" stroke=\"#000\" stroke-dasharray=\"4 3\"/>\n";
 
 const SURE: &str = " height=\"14\" fill=\"#777\" stroke=\"#000\"/>\n";
 
-const LABEL: &str = " font-size=\"12\" font-family=\"monospace\">";
+const LABEL: &str = " font-size=\"16\" font-family=\"monospace\">";
 
 const LANE: &str = " stroke=\"#000\"/>\n";
 
-const BESIDE: &str = "<text x=\"8\" y=\"24\" font-size=\"12\" font-family=\"serif\">asked</text>\n";
+const PRIMARY_NAME: &str = " font-size=\"16\" font-family=\"serif\">server A</text>\n";
+
+const SECONDARY_NAME: &str = " font-size=\"16\" font-family=\"serif\">server B</text>\n";
+
+const BESIDE: &str = "<text x=\"8\" y=\"24\" font-size=\"16\" font-family=\"serif\">interval ";
+
+const BETWEEN: &str = " to ";
+
+const TEXT_END: &str = "</text>\n";
+
+const MARK: &str = " stroke=\"#000\" stroke-width=\"3\"/>\n";
+
+const MARK_RIGHT: &str =
+    " font-size=\"16\" font-family=\"serif\" font-weight=\"bold\" text-anchor=\"start\">asked ";
+
+const MARK_LEFT: &str =
+    " font-size=\"16\" font-family=\"serif\" font-weight=\"bold\" text-anchor=\"end\">asked ";
 
 const CIRCLE: &str = "<circle cx=\"";
 

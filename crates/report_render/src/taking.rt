@@ -12,7 +12,7 @@ use causal_order::Ref;
 use evidence_report::{
     CitedLine, ForeignEvidence, ForeignReport, LineReading, PieceReport, Report, ReportedDelegation,
 };
-use lead_time::{Skew, Transit};
+use lead_time::{Reading, Skew, Transit};
 use std::alloc::{AllocError, Global};
 
 /// The lease of a grant that was written between two marks.
@@ -160,6 +160,16 @@ fn dots_of(alloc: Global, cited: &[CitedLine]) -> Result<Vec<LineDot>, AllocErro
     Ok(dots)
 }
 
+/// The milliseconds of a moment, where there is one.
+fn milliseconds_of(moment: Option<Reading>) -> Option<u64>
+    ensures { result ≡ moment }
+{
+    match moment {
+        Some(moment) => Some(moment.milliseconds()),
+        None => None,
+    }
+}
+
 /// The bars of a report: the pieces' before other clients'.
 #[tactic(auto, unfolding(crate::specs::Picture::report_bars))]
 fn report_bars(alloc: Global, report: &Report<'_>) -> Result<Vec<LeaseBar>, AllocError>
@@ -171,9 +181,14 @@ fn report_bars(alloc: Global, report: &Report<'_>) -> Result<Vec<LeaseBar>, Allo
     Ok(bars)
 }
 
-/// What of a report is drawn. `AllocError` where a growth was refused.
-pub fn picture_of(alloc: Global, report: &Report<'_>) -> Result<Picture, AllocError>
-    ensures { IfOk result (IsPicture report.now) }
+/// What of a report is drawn, with the moment that was asked about, where it was one. `AllocError` where a growth was
+/// refused.
+pub fn picture_of(
+    alloc: Global,
+    report: &Report<'_>,
+    asked: Option<Reading>,
+) -> Result<Picture, AllocError>
+    ensures { IfOk result (IsPicture report.now asked) }
 {
     let bars = report_bars(alloc, report)?;
     let dots = dots_of(alloc, &report.cited)?;
@@ -181,6 +196,7 @@ pub fn picture_of(alloc: Global, report: &Report<'_>) -> Result<Picture, AllocEr
     Ok(Picture {
         from: report.certificate.from.milliseconds(),
         to: report.certificate.to.milliseconds(),
+        asked: milliseconds_of(asked),
         bars,
         dots,
         arrows,

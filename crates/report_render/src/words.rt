@@ -59,9 +59,9 @@ fn push_zoned(
     }
 }
 
-/// Appends a moment in UTC, its milliseconds, and its local time.
+/// Appends a moment in UTC, its milliseconds, and its local time. `AllocError` where a growth was refused.
 #[tactic(auto, using(crate::proofs::MoreWords::timed_zoned))]
-fn push_whole(
+pub(crate) fn push_whole(
     out: &mut Vec<u8>,
     alloc: Global,
     zone: Option<&ZoneFile>,

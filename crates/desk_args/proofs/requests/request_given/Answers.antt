@@ -1,5 +1,5 @@
 use Rattle.std.proofs.Common.{rules, ◌≡◌, codes}
-use Rattle.desk_args.specs.declared.request.DeskRequest.TheVariants.{Answer, Explain, ExplainHolder, Join, Volumes}
+use Rattle.desk_args.specs.declared.request.DeskRequest.TheVariants.{Answer, Explain, ExplainHolder, Join, Copy, Volumes}
 use Rattle.desk_args.proofs.requests.request_given.Goals as goal
 
 pub returns-clause-refused : goal.returns-clause-refused
@@ -18,8 +18,13 @@ returns-clause-refused c usage (Join query) is =
     let same = c.eq-2.ensures in
     let other = c.if-eq-2.false in
     search rules
-returns-clause-refused c usage Volumes is =
-    let name : c.args.name.now ≡ codes "volumes" = is in
+returns-clause-refused c usage (Copy query) is =
+    let name : c.args.name.now ≡ codes "copy" = is.0 in
     let same = c.eq-3.ensures in
     let other = c.if-eq-3.false in
+    search rules
+returns-clause-refused c usage Volumes is =
+    let name : c.args.name.now ≡ codes "volumes" = is in
+    let same = c.eq-4.ensures in
+    let other = c.if-eq-4.false in
     search rules

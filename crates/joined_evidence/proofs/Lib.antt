@@ -1,0 +1,4 @@
+mod Searching
+mod Onward
+mod Listed
+mod Truth

@@ -1,0 +1,5 @@
+mod Statuses
+pub mod Onward
+mod Listed
+pub mod Truth
+mod Trials

@@ -1,0 +1,9 @@
+pub mod Trials
+pub mod Walking
+pub mod Trying
+pub mod Truth
+pub mod Rulings
+pub mod Given
+pub mod Lacks
+pub mod Telling
+pub mod Laws

@@ -1,0 +1,5 @@
+pub mod UsedLaws
+pub mod LineTexts
+mod Written
+mod Shown
+mod Copies

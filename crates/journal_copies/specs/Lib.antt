@@ -1,0 +1,4 @@
+pub mod Used
+pub mod Text
+pub mod Copying
+pub mod Laws
