@@ -35,11 +35,14 @@ class Rolling(Run):
     """A run whose servers keep each volume that they close."""
 
     def __init__(self, rng):
-        settings = drawn_settings(rng)
+        settings = self.drawn_settings(rng)
         self.kept, self.is_bold = {"A": [], "B": []}, rng.random() < OFTEN_BOLD
         weights = {kind: weight * rng.choice((0.3, 1, 1, 3)) for kind, weight in WEIGHTS.items()}
         moment = rng.choice((10_000, 1_795_377_600_000, MOST_READING - 3_000_000))
         super().__init__(rng, settings, moment, weights, {"A": 0, "B": 0})
+
+    def drawn_settings(self, rng):
+        return drawn_settings(rng)
 
     def roll(self, server):
         closed, entries = server.book, server.entries

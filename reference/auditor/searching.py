@@ -260,7 +260,10 @@ class Search:
         reference, line = self.rng.choice(self.grants)
         holder, prefix = line.event.client, self.queried(line.event.prefix)
         start = self.first_moment(reference) + self.rng.choice((0, 0, 0, 1, self.rng.randint(0, 500 * line.event.valid)))
-        start = min(max(start, 0), MOST_READING)
+        return self.from_moment(holder, prefix, min(max(start, 0), MOST_READING))
+
+    def from_moment(self, holder, prefix, start):
+        """A certificate that begins at a moment, and mostly holds."""
         entries, most = self.foreign(holder, prefix, start)
         closes = min(self.pair.close_reading(side) for side in SIDES) - self.skew
         most = max(min(most, closes), 0)

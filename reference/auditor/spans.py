@@ -261,15 +261,18 @@ class Question:
 
     def may_begin_before(self, side, numbers, spans):
         """Whether there is a volume before these in which a lease of the moment may have begun."""
-        shelf, asked = self.shelves[side], self.asked
-        late = 1000 * self.longest(spans) + 2 * (2 * asked.skew + asked.transit)
-        return numbers[0] - 1 in shelf.ends and asked.moment < shelf.ends[numbers[0]].opened + late
+        shelf = self.shelves[side]
+        return numbers[0] - 1 in shelf.ends and self.asked.moment < shelf.ends[numbers[0]].opened + self.reach(spans)
+
+    def reach(self, spans):
+        """For how many milliseconds behind an open line a lease of a volume before is looked for."""
+        return 1000 * self.longest(spans) + 2 * (2 * self.asked.skew + self.asked.transit)
 
     def longest(self, spans):
         """The longest life and the longest mclt that the open lines of these volumes say, together, in seconds."""
         lines = [line.event for side, numbers in spans.items() for number in numbers for line in self.shelves[side].lines(number).lines]
         opened = [event for event in lines if isinstance(event, Open)]
-        return max(event.life for event in opened) + max(event.mclt for event in opened)
+        return max((event.life for event in opened), default=0) + max((event.mclt for event in opened), default=0)
 
     def refused(self, line):
         return nobody_over(line, self.asked)

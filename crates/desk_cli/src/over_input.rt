@@ -231,6 +231,7 @@ fn explained_over(
     let source = ReportSource {
         pair,
         volumes: None,
+        origins: None,
         access: b"",
         settings: SettingsCheck::MustAgree,
     };
@@ -257,6 +258,28 @@ fn explain_written(
     write_out(rt, &told.map_err(DeskFault::Desk)?)
 }
 
+/// What is told of who held a prefix, over two texts as journals.
+fn holder_over(
+    rt: &HostRuntime,
+    threads: &(impl Threads + Wait + Sync),
+    pair: &ReadPair,
+    query: &HolderQuery,
+    settings: SettingsCheck,
+    style: &ReportStyle,
+) -> Result<CommandOutput, DeskError>
+    requires primary_closed { ForOk pair.now.primary (λ journal. IsClosed journal.lines) }
+    requires secondary_closed { ForOk pair.now.secondary (λ journal. IsClosed journal.lines) }
+{
+    let source = ReportSource {
+        pair,
+        volumes: None,
+        origins: None,
+        access: b"",
+        settings,
+    };
+    holder_told(threads, rt.alloc(), &source, query, settings, style)
+}
+
 /// Who held a prefix, and a report on that.
 fn holder_written(
     rt: &HostRuntime,
@@ -268,13 +291,7 @@ fn holder_written(
     let zone = zone_named(rt, telling.zone)?;
     let pair = pair_of(rt, threads).map_err(DeskFault::Desk)?;
     let style = style_of(telling, &zone, NoteDetail::Brief);
-    let source = ReportSource {
-        pair: &pair,
-        volumes: None,
-        access: b"",
-        settings,
-    };
-    let told = holder_told(threads, rt.alloc(), &source, query, settings, &style);
+    let told = holder_over(rt, threads, &pair, query, settings, &style);
     write_out(rt, &told.map_err(DeskFault::Desk)?)
 }
 

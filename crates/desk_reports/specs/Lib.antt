@@ -1,7 +1,11 @@
+pub mod Answers
 pub mod Explaining
 pub mod NoHolders
 pub mod Pages
+pub mod Unanswered
 pub mod Reports
 pub mod Told
 pub mod Laws
+pub mod Behind
 pub mod OverFiles
+pub mod OverVolumes

@@ -7,6 +7,7 @@ use Rattle.journal_text.specs.Spelling.{journal_text}
 use Rattle.causal_order.specs.declared.certificate.Certificate.{Certificate}
 use Rattle.certificate.specs.declared.error.CertificateError.{CertificateError}
 use Rattle.evidence_report.specs.declared.piece_report.PieceReport.{PieceReport}
+use Rattle.evidence_report.specs.declared.report.CitedLine.{CitedLine}
 use Rattle.desk_args.specs.declared.settings.SettingsCheck.{SettingsCheck}
 use Rattle.desk_args.specs.declared.settings.SettingsCheck.TheVariants.{MustAgree, MayDiffer}
 use Rattle.pair_judgement.specs.declared.judging.Judgement.{Judgement}
@@ -111,12 +112,15 @@ pub record AreFactsOf (s : ReportSubject) (style : ReportStyle) (facts : PageFac
 
 -- all that a page is made of
 pub record IsPageFor (source : ReportSource) (s : ReportSubject) (bounds : TimingBounds) (style : ReportStyle)
-    (spelling : RenderedText) (picture : List ℕ) (pieces : List PieceReport) (page : Page) : Type 0 where
+    (spelling : RenderedText) (picture : List ℕ) (pieces : List PieceReport) (cited : List CitedLine)
+    (page : Page) : Type 0 where
   pub title : page.title ≡ title_of s
   pub facts : AreFactsOf s style page.facts
   pub says : page.spelling.now ≡ spelling
   pub shows : page.picture.now ≡ picture
   pub grants : page.pieces.now ≡ pieces
+  pub lines : page.cited.now ≡ cited
+  pub origins : page.origins ≡ source.origins
   pub access : page.access.now ≡ source.access.now
   pub primary : IsUsedText source.pair.now.primary (primary_span source.volumes) page.origin.primary.text.now
       page.origin.primary.origin
@@ -128,6 +132,6 @@ pub record IsPageFor (source : ReportSource) (s : ReportSubject) (bounds : Timin
 
 -- and its text
 abbrev pub IsPageText : ReportSource → ReportSubject → TimingBounds → ReportStyle → RenderedText → (picture : List ℕ)
-    → List PieceReport → (text : List ℕ) → Type 0
-IsPageText source s bounds style spelling picture pieces text = (page : Page)
-    × IsPageFor source s bounds style spelling picture pieces page × IsPage style.zone page text
+    → List PieceReport → List CitedLine → (text : List ℕ) → Type 0
+IsPageText source s bounds style spelling picture pieces cited text = (page : Page)
+    × IsPageFor source s bounds style spelling picture pieces cited page × IsPage style.zone page text

@@ -1,12 +1,13 @@
 -- What is written of a ruling: as sentences, as a page, as an object.
-use Rattle.std.specs.Prelude.{◌≡◌, ⊤, ℕ, List, [], Option, Some, None, Result, Ok, Err, true, false, map}
+use Rattle.std.specs.Prelude.{◌≡◌, ℕ, List, [], Option, Some, None, Result, Ok, map}
 use Rattle.std.specs.Borrow.{Bor}
-use Rattle.serde_json.specs.Data.{Data, null}
+use Rattle.serde_json.specs.Data.{Data}
 use Rattle.journal_lines.specs.declared.line.Journal.{Journal}
 use Rattle.journal_lines.specs.declared.fault.JournalFault.{JournalFault}
 use Rattle.zone_times.specs.declared.zone.ZoneFile.{ZoneFile}
 use Rattle.evidence_report.specs.declared.report.Report.{Report}
 use Rattle.evidence_report.specs.declared.piece_report.PieceReport.{PieceReport}
+use Rattle.evidence_report.specs.declared.report.CitedLine.{CitedLine}
 use Rattle.report_document.specs.declared.document.Explanation.{Explanation}
 use Rattle.report_document.specs.declared.block.Document.{Document}
 use Rattle.report_document.specs.Telling.{told_of}
@@ -17,18 +18,16 @@ use Rattle.report_render.specs.Drawing.{IsSvg}
 use Rattle.report_render.specs.Picture.{IsPicture}
 use Rattle.report_render.specs.Spelling.{IsSpelling}
 use Rattle.report_render.specs.Text.{report_text}
-use Rattle.report_data.specs.Fields.{IsText}
 use Rattle.report_data.specs.Rulings.{IsRulingLine}
-use Rattle.archive_desk.specs.Names.{is_single}
+use Rattle.answer_data.specs.Volumes.{IsVolumesData}
 use Rattle.archive_desk.specs.declared.coverage_gaps.TimingBounds.{TimingBounds}
-use Rattle.volume_spans.specs.declared.span.SpanPair.{SpanPair}
-use Rattle.volume_spans.specs.Spelling.{pair_text}
 use Rattle.desk_args.specs.declared.request.ReportForm.{ReportForm}
 use Rattle.desk_args.specs.declared.request.ReportForm.TheVariants.{Plain, Page, Json}
 use Rattle.desk_reports.specs.declared.pages.ReportSubject.{ReportSubject}
 use Rattle.desk_reports.specs.declared.style.ReportSource.{ReportSource}
 use Rattle.desk_reports.specs.declared.style.ReportStyle.{ReportStyle}
 use Rattle.desk_reports.specs.Pages.{certificate_of, moment_of, IsPageText}
+use Rattle.desk_reports.specs.Unanswered.{sentences_page}
 
 -- the document of a ruling, spelled
 pub record IsSpelledReport (e : Explanation) (zone : Option (Bor ZoneFile)) (spelling : RenderedText) : Type 0 where
@@ -51,6 +50,11 @@ abbrev pub pieces_of : Option Report → List PieceReport
 pieces_of None = []
 pieces_of (Some report) = report.pieces.items
 
+-- the lines that it names; none where nothing is shown
+abbrev pub cited_of : Option Report → List CitedLine
+cited_of None = []
+cited_of (Some report) = report.cited.items
+
 -- as a page
 pub record IsPageReport (e : Explanation) (source : ReportSource) (s : ReportSubject) (bounds : TimingBounds)
     (style : ReportStyle) (text : List ℕ) : Type 0 where
@@ -58,21 +62,18 @@ pub record IsPageReport (e : Explanation) (source : ReportSource) (s : ReportSub
   pub spelled : IsSpelledReport e style.zone spelling
   pub picture : List ℕ
   pub picture_is : IsPictureText e.report (moment_of s) picture
-  pub page : IsPageText source s bounds style spelling picture (pieces_of e.report) text
+  pub page : IsPageText source s bounds style spelling picture (pieces_of e.report) (cited_of e.report) text
+
+-- as a page of its sentences alone
+abbrev pub IsUnreadReport : Explanation → Option (Bor ZoneFile) → List ℕ → Type 0
+IsUnreadReport e zone text =
+    (sentences : List ℕ) × IsPlainReport e zone sentences × (text ≡ sentences_page sentences)
 
 -- of journals; where a text is none its page has the report's sentences alone
 abbrev pub IsPageBy : Result Journal JournalFault → Result Journal JournalFault → Explanation → ReportSource → ReportSubject
     → TimingBounds → ReportStyle → List ℕ → Type 0
 IsPageBy (Ok a) (Ok b) e source s bounds style text = IsPageReport e source s bounds style text
-IsPageBy a b e source s bounds style text = ⊤
-
--- over which volumes; null where they are one of each side, or texts were given
-abbrev pub IsSpanData : SpanPair → Data → Type 0
-IsSpanData spans d = (is_single spans ≡ true → d ≡ null) × (is_single spans ≡ false → IsText (pair_text spans) d)
-
-abbrev pub IsVolumesData : Option SpanPair → Data → Type 0
-IsVolumesData None d = d ≡ null
-IsVolumesData (Some spans) d = IsSpanData spans d
+IsPageBy a b e source s bounds style text = IsUnreadReport e style.zone text
 
 -- as an object
 abbrev pub IsDataReport : Explanation → ReportSource → ReportSubject → List ℕ → Type 0

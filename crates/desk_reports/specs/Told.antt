@@ -6,6 +6,8 @@ use Rattle.journal_lines.specs.declared.line.Journal.{Journal}
 use Rattle.journal_lines.specs.declared.fault.JournalFault.{JournalFault}
 use Rattle.causal_order.specs.declared.certificate.Certificate.{Certificate}
 use Rattle.certificate.specs.declared.error.CertificateError.{CertificateError}
+use Rattle.certificate.specs.declared.error.CertificateError.TheVariants.{Fault, Memory}
+use Rattle.certificate.specs.Faults.{certificate_of as certificate_in}
 use Rattle.certificate.specs.Spelling.{certificate_text}
 use Rattle.attribution.specs.declared.verdict.Verdict.TheVariants.{Journal as JournalRefused}
 use Rattle.pair_judgement.specs.declared.judging.Judgement.TheVariants.{Verdict}
@@ -26,6 +28,7 @@ use Rattle.report_render.specs.declared.text_block.RenderedText.{RenderedText}
 use Rattle.report_render.specs.declared.title.PageTitle.TheVariants as title
 use Rattle.report_render.specs.Spelling.{ArePassages}
 use Rattle.report_render.specs.Text.{report_text}
+use Rattle.answer_data.specs.Unnamed.{IsWhyData}
 use Rattle.archive_desk.specs.declared.command_output.CommandOutput.{CommandOutput}
 use Rattle.archive_desk.specs.declared.coverage_gaps.TimingBounds.{TimingBounds}
 use Rattle.desk_args.specs.declared.request.ReportForm.{ReportForm}
@@ -37,11 +40,13 @@ use Rattle.desk_reports.specs.Explaining.{IsExplained, IsExplainedOfRead}
 use Rattle.desk_reports.specs.NoHolders.{no_holder_told}
 use Rattle.desk_reports.specs.Pages.{asked_by, certificate_of, question_of, title_of, title_by, IsPageText}
 use Rattle.desk_reports.specs.Reports.{IsReportText}
+use Rattle.desk_reports.specs.Unanswered.{sentences_page}
 
--- what the text of a certificate was read to: what it spells, and nothing else
+-- what the text of a certificate was read to: what it spells, or its first fault
 abbrev pub IsReadOf : (text : List ℕ) → Result Certificate CertificateError → Type 0
-IsReadOf text (Ok c) = text ≡ certificate_text c
-IsReadOf text (Err e) = ⊤
+IsReadOf text (Ok c) = (text ≡ certificate_text c) × (certificate_in text ≡ Ok c)
+IsReadOf text (Err (Fault fault)) = certificate_in text ≡ Err fault
+IsReadOf text (Err Memory) = ⊤
 
 -- The report on a certificate's text: its ruling, and what that rests on, of the journals that were read; status 0 where
 -- the certificate is accepted, and a title by the ruling.
@@ -98,20 +103,30 @@ pub record IsWhyPage (source : ReportSource) (q : HolderQuery) (answer : HolderA
   pub subject : ReportSubject
   pub title : title_of subject ≡ title.NotShown q.prefix q.at
   pub asked : question_of subject ≡ Some (asked_by q)
-  pub page : IsPageText source subject (bounds_of q) style spelling [] [] text
+  pub page : IsPageText source subject (bounds_of q) style spelling [] [] [] text
+
+-- a page of the sentences alone
+abbrev pub IsWhyUnread : HolderQuery → HolderAnswer → ReportStyle → List ℕ → Type 0
+IsWhyUnread q answer style text =
+    (sentences : List ℕ) × IsWhySentences q answer style sentences × (text ≡ sentences_page sentences)
 
 -- of journals; where a text is none its page has the sentences alone
 abbrev pub IsWhyPageBy : Result Journal JournalFault → Result Journal JournalFault → ReportSource → HolderQuery
     → HolderAnswer → ReportStyle → List ℕ → Type 0
 IsWhyPageBy (Ok a) (Ok b) source q answer style text = IsWhyPage source q answer style text
-IsWhyPageBy a b source q answer style text = ⊤
+IsWhyPageBy a b source q answer style text = IsWhyUnread q answer style text
 
--- in the form that is asked for; which members the object of it has is tested alone
+-- as an object: the answer's line, the reason and the delegations near the moment, over the volumes of the question
+abbrev pub IsWhyObject : ReportSource → HolderQuery → HolderAnswer → List ℕ → Type 0
+IsWhyObject source q answer text = (line : List ℕ) × TellsAnswer (search_of answer) line
+    × IsWhyData q line answer source.volumes text
+
+-- in the form that is asked for
 abbrev pub IsWhyIn : ReportForm → ReportSource → HolderQuery → HolderAnswer → ReportStyle → List ℕ → Type 0
 IsWhyIn Plain source q answer style text = IsWhySentences q answer style text
 IsWhyIn Page source q answer style text =
     IsWhyPageBy source.pair.now.primary source.pair.now.secondary source q answer style text
-IsWhyIn Json source q answer style text = ⊤
+IsWhyIn Json source q answer style text = IsWhyObject source q answer text
 
 -- a report on an answer that names nobody
 pub record IsWhyTold (source : ReportSource) (q : HolderQuery) (answer : HolderAnswer) (style : ReportStyle)

@@ -1,12 +1,11 @@
 //! Reports on who held a prefix, over the volumes of files.
 
 ghost use Rattle.std.specs.Prelude.{◌≡◌, IfOk};
-ghost use Rattle.std.specs.Result.{ForOk};
-ghost use Rattle.journal_text.specs.Closed.{IsClosed};
+ghost use Rattle.journal_archive.specs.PairLookups.{IsPairLookup};
 ghost use Rattle.archive_files.specs.Showing.{AreClosed};
-ghost use Rattle.archive_files.specs.Catalogues.{IsCatalogue};
-ghost use Rattle.archive_files.specs.declared.cataloguing.Catalogue.{Catalogue as CatalogueValue};
-ghost use Rattle.desk_reports.specs.OverFiles.{IsSpannedReport, IsHolderReport};
+ghost use Rattle.desk_reports.specs.OverFiles.{IsHolderAccess, IsSpannedReport, IsLackReport, IsHolderReport};
+ghost use Rattle.desk_reports.specs.OverFiles.{scope_of, IsHolderReportOfFiles};
+ghost use Rattle.desk_reports.specs.Unanswered.{IsHolderLackTold};
 
 use crate::holders::reply_told;
 use crate::sourcing::{behind_passed, noted_over, read_pair};
@@ -33,7 +32,10 @@ fn access_for<F: AccessTexts>(
     pair: &VolumePair,
     spans: &SpanPair,
     answer: &HolderAnswer,
-) -> Result<Vec<u8>, FilesError> {
+) -> Result<Vec<u8>, FilesError>
+    ensures { IfOk result
+        (λ text. IsHolderAccess (F.says files.now) pair.now spans.now answer.now text.items) }
+{
     match answer {
         HolderAnswer::Held(certificate) => access_over(alloc, files, pair, spans, certificate),
         HolderAnswer::Refused(_) | HolderAnswer::NotNamed(_) | HolderAnswer::TooLong(_) => {
@@ -54,7 +56,7 @@ fn spanned_told<F: AccessTexts>(
     style: &ReportStyle,
 ) -> Result<CommandOutput, FilesError>
     requires { AreClosed answered.shown }
-    ensures { IfOk result (IsSpannedReport answered query.now style.now) }
+    ensures { IfOk result (IsSpannedReport names.now (F.says files.now) answered query.now settings style.now) }
 {
     let SpannedAnswer {
         spans,
@@ -62,12 +64,14 @@ fn spanned_told<F: AccessTexts>(
         shown,
         answer,
         until: _until,
+        origins,
     } = answered;
     let access = access_for(alloc, files, &pair, &spans, &answer)?;
     let read = read_pair(&pair, shown)?;
     let source = ReportSource {
         pair: &read,
         volumes: Some(spans),
+        origins: Some(&origins),
         access: &access,
         settings: settings,
     };
@@ -84,7 +88,7 @@ fn lacking_of(
     lack: &CoverageGap,
     style: &ReportStyle,
 ) -> Result<CommandOutput, FilesError>
-    ensures { IfOk result (λ told. told.status ≡ 1) }
+    ensures { IfOk result (IsHolderLackTold style.now.form query.now side lack.now) }
 {
     let question = ReportQuestion::Holder(query);
     let bounds = TimingBounds {
@@ -97,13 +101,30 @@ fn lacking_of(
 
 /// The side that lacks a moment which lies in a roll, and the roll: the two volumes of it aren't one journal. `Changed`
 /// where one volume of each side shows the moment.
-fn gap_at(archive: &Archive, query: &HolderQuery) -> Result<(Role, CoverageGap), FilesError> {
+fn gap_at(archive: &Archive, query: &HolderQuery) -> Result<(Role, CoverageGap), FilesError>
+    ensures { IfOk result (λ gap. IsPairLookup archive.now.primary archive.now.secondary query.now.skew
+        query.now.transit query.now.at (PairLookup.Lacking gap.0 gap.1)) }
+{
     match archive.at(query.at.milliseconds(), query.skew, query.transit) {
         PairLookup::Lacking(side, lack) => Ok((side, lack)),
         PairLookup::Shown(pair) => Err(FilesError::Changed {
             file: pair.primary.file,
         }),
     }
+}
+
+/// What is told of a moment in a roll whose two volumes aren't one journal.
+fn roll_told(
+    alloc: Global,
+    names: &[PathBuf],
+    archive: &Archive,
+    query: &HolderQuery,
+    style: &ReportStyle,
+) -> Result<CommandOutput, FilesError>
+    ensures { IfOk result (IsLackReport archive.now query.now style.now) }
+{
+    let (side, lack) = gap_at(archive, query)?;
+    lacking_of(alloc, names, query, side, &lack, style)
 }
 
 /// The report on a search for a holder over the volumes that show the moment, or over earlier ones too.
@@ -118,17 +139,25 @@ fn holder_over<F: JournalFiles + AccessTexts>(
     settings: SettingsCheck,
     style: &ReportStyle,
 ) -> Result<CommandOutput, FilesError>
-    ensures { IfOk result (IsHolderReport (F.had files.now) archive.now query.now settings style.now) }
+    ensures { IfOk result (IsHolderReport names.now (F.had files.now) (F.says files.now) archive.now query.now
+        settings style.now) }
 {
     match holder_over_spans(rt, alloc, files, archive, query, settings)? {
         SpanReply::Answered(answered) => spanned_told(
             rt, alloc, files, names, answered, query, settings, style,
         ),
         SpanReply::Lacking(side, lack) => lacking_of(alloc, names, query, side, &lack, style),
-        SpanReply::Refused(_) => {
-            let (side, lack) = gap_at(archive, query)?;
-            lacking_of(alloc, names, query, side, &lack, style)
-        }
+        SpanReply::Refused(_) => roll_told(alloc, names, archive, query, style),
+    }
+}
+
+/// Whose settings must be one.
+fn scope_of(settings: SettingsCheck) -> SettingsScope
+    ensures { result ≡ scope_of settings }
+{
+    match settings {
+        SettingsCheck::MustAgree => SettingsScope::OfBoth,
+        SettingsCheck::MayDiffer => SettingsScope::OfEach,
     }
 }
 
@@ -142,14 +171,10 @@ pub fn holder_in_files<F: JournalFiles + AccessTexts>(
     settings: SettingsCheck,
     style: &ReportStyle,
 ) -> Result<CommandOutput, FilesError>
-    ensures { IfOk result (λ told. (c : CatalogueValue) × IsCatalogue (F.had files.now) (F.files files.now) c
-        × IsHolderReport (F.had files.now) c.archive query.now settings style.now told) }
+    ensures { IfOk result (IsHolderReportOfFiles names.now (F.had files.now) (F.files files.now) (F.says files.now)
+        query.now settings style.now) }
 {
-    let agreement = match settings {
-        SettingsCheck::MustAgree => SettingsScope::OfBoth,
-        SettingsCheck::MayDiffer => SettingsScope::OfEach,
-    };
-    let catalogue = catalogue_of(alloc, files, agreement)?;
+    let catalogue = catalogue_of(alloc, files, scope_of(settings))?;
     expect_read(names, &catalogue.passed_over)?;
     let told = holder_over(
         rt,

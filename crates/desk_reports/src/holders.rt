@@ -9,7 +9,8 @@ ghost use Rattle.attribution_desk.specs.Case.{IsCaseOf};
 ghost use Rattle.report_document.specs.Telling.{told_of};
 ghost use Rattle.desk_reports.specs.Explaining.{IsExplained};
 ghost use Rattle.desk_reports.specs.NoHolders.{no_holder_told};
-ghost use Rattle.desk_reports.specs.Told.{bounds_of, IsWhySpelled, IsWhySentences, IsWhyPage, IsWhyPageBy, IsWhyIn, IsWhyTold};
+ghost use Rattle.desk_reports.specs.Told.{bounds_of, IsWhySpelled, IsWhySentences, IsWhyPage, IsWhyPageBy, IsWhyUnread};
+ghost use Rattle.desk_reports.specs.Told.{IsWhyObject, IsWhyIn, IsWhyTold};
 ghost use Rattle.desk_reports.specs.Told.{IsHeldTold, IsReplyOver, IsReplyOf, IsHolderOver, IsHolderTold, IsUnreadTold};
 
 use crate::explaining::{explain_case, explain_journals};
@@ -17,7 +18,7 @@ use crate::pages::{ReportSubject, page_told};
 use crate::style::{ReportSource, ReportStyle};
 use crate::telling::written;
 use crate::unanswered::sentences_page;
-use crate::why_data::why_data;
+use answer_data::why_data;
 use archive_desk::{CommandOutput, TimingBounds};
 use attribution::Verdict;
 use attribution_desk::{DeskError, IndexedPair};
@@ -106,6 +107,7 @@ fn why_page<'a>(
         &spelling,
         b"",
         &[],
+        &[],
         source,
         &subject,
         &bounds_of(query),
@@ -137,7 +139,9 @@ fn unread_page(
     query: &HolderQuery,
     answer: &HolderAnswer,
     style: &ReportStyle,
-) -> Result<Vec<u8>, DeskError> {
+) -> Result<Vec<u8>, DeskError>
+    ensures { IfOk result (λ text. IsWhyUnread query.now answer.now style.now text.items) }
+{
     let sentences = why_sentences(alloc, query, answer, style)?;
     let text = sentences_page(alloc, &sentences)?;
     Ok(text)
@@ -149,7 +153,9 @@ fn why_object(
     source: &ReportSource,
     query: &HolderQuery,
     answer: &HolderAnswer,
-) -> Result<Vec<u8>, DeskError> {
+) -> Result<Vec<u8>, DeskError>
+    ensures { IfOk result (λ text. IsWhyObject source.now query.now answer.now text.items) }
+{
     let line = answer.text(alloc)?;
     let data = why_data(alloc, query, &line, answer, source.volumes.as_ref())?;
     Ok(data)

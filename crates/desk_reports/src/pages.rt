@@ -11,7 +11,7 @@ use attribution_desk::DeskError;
 use causal_order::Certificate;
 use certificate::CertificateError;
 use desk_args::SettingsCheck;
-use evidence_report::PieceReport;
+use evidence_report::{CitedLine, PieceReport};
 use journal_copies::{lines_used, text_up_to};
 use journal_lines::{Journal, JournalFault};
 use journal_text::write;
@@ -257,6 +257,7 @@ fn page_over<'a, 'p>(
     spelling: &'a RenderedText,
     picture: &'a [u8],
     pieces: &'a [PieceReport<'p>],
+    cited: &'a [CitedLine],
     primary: &'a UsedText,
     secondary: &'a UsedText,
     source: &'a ReportSource<'a>,
@@ -269,7 +270,8 @@ fn page_over<'a, 'p>(
     requires secondary { IsUsedText source.now.pair.now.secondary (secondary_span source.now.volumes)
         secondary.now.text.items secondary.now.origin }
     ensures { IfOk result
-        (λ text. IsPageText source.now subject.now bounds.now style.now spelling.now picture.now pieces.now text.items) }
+        (λ text. IsPageText source.now subject.now bounds.now style.now spelling.now picture.now pieces.now cited.now
+        text.items) }
 {
     let check = subject.check(source.settings);
     let first = SourceText {
@@ -295,6 +297,8 @@ fn page_over<'a, 'p>(
         spelling,
         picture,
         pieces,
+        cited,
+        origins: source.origins,
         access: source.access,
         origin,
     };
@@ -327,13 +331,15 @@ pub fn page_told<'a, 'p>(
     spelling: &'a RenderedText,
     picture: &'a [u8],
     pieces: &'a [PieceReport<'p>],
+    cited: &'a [CitedLine],
     source: &'a ReportSource<'a>,
     subject: &'a ReportSubject<'a>,
     bounds: &TimingBounds,
     style: &'a ReportStyle<'a>,
 ) -> Result<Vec<u8>, DeskError>
     ensures { IfOk result
-        (λ text. IsPageText source.now subject.now bounds.now style.now spelling.now picture.now pieces.now text.items) }
+        (λ text. IsPageText source.now subject.now bounds.now style.now spelling.now picture.now pieces.now cited.now
+        text.items) }
 {
     let primary = used_text(alloc, &source.pair.primary, primary_span(source.volumes))?;
     let secondary = used_text(
@@ -342,7 +348,8 @@ pub fn page_told<'a, 'p>(
         secondary_span(source.volumes),
     )?;
     let text = page_over(
-        alloc, spelling, picture, pieces, &primary, &secondary, source, subject, bounds, style,
+        alloc, spelling, picture, pieces, cited, &primary, &secondary, source, subject, bounds,
+        style,
     )?;
     Ok(text)
 }

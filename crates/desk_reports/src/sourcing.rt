@@ -1,17 +1,17 @@
 //! Volumes of files, as what a report is made of; and what standard error says of them.
 
-ghost use Rattle.std.specs.Prelude.{◌≡◌, IfOk, IsOkAnd, Ok};
+ghost use Rattle.std.specs.Prelude.{◌≡◌, ℕ, List, IfOk, IfErr, IsOkAnd, Ok};
 ghost use Rattle.std.specs.Result.{ForOk};
 ghost use Rattle.journal_text.specs.Closed.{IsClosed};
 ghost use Rattle.archive_files.specs.Showing.{AreClosed};
-ghost use Rattle.desk_reports.specs.OverFiles.{HasTextOf};
+ghost use Rattle.desk_reports.specs.Behind.{IsBehindNotes, files_note};
 
 use archive_desk::{CommandOutput, expect_lines, passed_over, push_journals, push_volumes};
 use archive_files::{FilesError, SkippedFile};
 use attribution_desk::{DeskError, ReadPair};
 use desk_args::NoteDetail;
 use journal_archive::{PairJournals, VolumePair};
-use std::alloc::Global;
+use std::alloc::{AllocError, Global};
 use std::path::PathBuf;
 use volume_spans::SpanPair;
 
@@ -30,7 +30,40 @@ pub(crate) fn read_pair(pair: &VolumePair, shown: PairJournals) -> Result<ReadPa
     })
 }
 
-/// What is told over several volumes of a side, and a note that names the last files and these volumes.
+/// A note that names the last file of each side, and the volumes where they are several of a side.
+fn files_note(
+    alloc: Global,
+    names: &[PathBuf],
+    pair: &VolumePair,
+    spans: &SpanPair,
+) -> Result<Vec<u8>, AllocError>
+    ensures { IfOk result (λ note. note.items ≡ files_note names.now pair.now spans.now) }
+{
+    let mut note = Vec::new(alloc);
+    push_journals(&mut note, names, pair)?;
+    push_volumes(&mut note, spans)?;
+    Ok(note)
+}
+
+/// What is told, behind these notes.
+fn behind_notes(notes: Vec<u8>, told: CommandOutput) -> Result<CommandOutput, AllocError>
+    ensures { IfOk result (IsBehindNotes notes.items told) }
+{
+    let CommandOutput {
+        text,
+        status,
+        notes: own,
+    } = told;
+    let mut notes = notes;
+    notes.extend_from_slice(&own)?;
+    Ok(CommandOutput {
+        text,
+        status,
+        notes,
+    })
+}
+
+/// What is told over volumes, behind a note that names them. `Memory` where a growth was refused.
 pub(crate) fn noted_over(
     alloc: Global,
     names: &[PathBuf],
@@ -38,23 +71,19 @@ pub(crate) fn noted_over(
     spans: &SpanPair,
     told: Result<CommandOutput, DeskError>,
 ) -> Result<CommandOutput, FilesError>
-    ensures { IfOk result (λ noted. IsOkAnd told (λ core. HasTextOf core noted)) }
+    ensures told { IfOk result
+        (λ noted. IsOkAnd told (λ core. IsBehindNotes (files_note names.now pair.now spans.now) core noted)) }
+    ensures refused { IfErr result (λ e. e ≡ FilesError.Memory) }
 {
     let Ok(told) = told else {
         return Err(FilesError::Memory);
     };
-    let mut notes = Vec::new(alloc);
-    push_journals(&mut notes, names, pair)?;
-    push_volumes(&mut notes, spans)?;
-    notes.extend_from_slice(&told.notes)?;
-    Ok(CommandOutput {
-        text: told.text,
-        status: told.status,
-        notes,
-    })
+    let note = files_note(alloc, names, pair, spans)?;
+    let noted = behind_notes(note, told)?;
+    Ok(noted)
 }
 
-/// What is told, behind a note for each file that is passed over.
+/// What is told, behind the lines on files that are passed over. `Memory` where a growth was refused.
 pub(crate) fn behind_passed(
     alloc: Global,
     names: &[PathBuf],
@@ -62,13 +91,10 @@ pub(crate) fn behind_passed(
     detail: NoteDetail,
     told: CommandOutput,
 ) -> Result<CommandOutput, FilesError>
-    ensures { IfOk result (HasTextOf told) }
+    ensures told { IfOk result (λ noted. (lines : List ℕ) × IsBehindNotes lines told noted) }
+    ensures refused { IfErr result (λ e. e ≡ FilesError.Memory) }
 {
-    let mut notes = passed_over(alloc, names, passed, detail)?;
-    notes.extend_from_slice(&told.notes)?;
-    Ok(CommandOutput {
-        text: told.text,
-        status: told.status,
-        notes,
-    })
+    let notes = passed_over(alloc, names, passed, detail)?;
+    let noted = behind_notes(notes, told)?;
+    Ok(noted)
 }

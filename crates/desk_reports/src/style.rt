@@ -2,6 +2,7 @@
 
 use attribution_desk::ReadPair;
 use desk_args::{NoteDetail, ReportForm, SettingsCheck};
+use line_origins::SpanOrigins;
 use volume_spans::SpanPair;
 use zone_times::ZoneFile;
 
@@ -34,6 +35,8 @@ pub struct ReportSource<'a> {
     pub pair: &'a ReadPair,
     /// The volumes that the journals are; `None` where the texts themselves were given.
     pub volumes: Option<SpanPair>,
+    /// Which of these volumes has each line; `None` where the texts themselves were given.
+    pub origins: Option<&'a SpanOrigins>,
     /// Lines of access records, each after its word.
     pub access: &'a [u8],
     /// Whether the journals' settings must agree where somebody is named.

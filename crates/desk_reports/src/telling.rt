@@ -4,19 +4,21 @@ ghost use Rattle.std.specs.Prelude.{◌≡◌, IfOk};
 ghost use Rattle.std.specs.Result.{ForOk};
 ghost use Rattle.journal_text.specs.Closed.{IsClosed};
 ghost use Rattle.desk_reports.specs.Pages.{moment_of};
-ghost use Rattle.desk_reports.specs.Reports.{IsPictureText, IsSpelledReport, IsPlainReport, IsPageReport, IsPageBy, IsDataReport, pieces_of};
-ghost use Rattle.desk_reports.specs.Reports.{IsReportText};
-ghost use Rattle.desk_reports.specs.Told.{IsExplanationTold};
+ghost use Rattle.desk_reports.specs.Reports.{IsPictureText, IsSpelledReport, IsPlainReport, IsPageReport, IsPageBy, IsDataReport, pieces_of, cited_of};
+ghost use Rattle.desk_reports.specs.Reports.{IsUnreadReport, IsReportText};
+ghost use Rattle.desk_reports.specs.Told.{IsReadOf, IsExplanationTold};
 
 use crate::explaining::explain_read;
 use crate::pages::{ReportSubject, page_told};
 use crate::style::{ReportSource, ReportStyle};
 use crate::unanswered::sentences_page;
-use crate::volumes::volumes_value;
+use answer_data::volumes_value;
 use archive_desk::{CommandOutput, TimingBounds};
 use attribution_desk::{DeskError, warnings_on};
+use causal_order::Certificate;
+use certificate::CertificateError;
 use desk_args::ReportForm;
-use evidence_report::{PieceReport, Report};
+use evidence_report::{CitedLine, PieceReport, Report};
 use lead_time::Reading;
 use pair_judgement::status_of;
 use report_data::data_of;
@@ -75,6 +77,16 @@ fn pieces_of<'e, 'p>(report: &'e Option<Report<'p>>) -> &'e [PieceReport<'p>]
     }
 }
 
+/// The lines that a page names; none where nothing of a certificate was looked at.
+fn cited_of<'e>(report: &'e Option<Report<'_>>) -> &'e [CitedLine]
+    ensures { result.now ≡ cited_of report.now }
+{
+    match report {
+        Some(report) => &report.cited,
+        None => &[],
+    }
+}
+
 /// A report on a ruling as one page.
 fn page_written<'a>(
     alloc: Global,
@@ -89,8 +101,9 @@ fn page_written<'a>(
     let spelling = spelled_report(alloc, explanation, style.zone)?;
     let picture = picture_told(alloc, explanation, subject.asked_at())?;
     let pieces = pieces_of(&explanation.report);
+    let cited = cited_of(&explanation.report);
     page_told(
-        alloc, &spelling, &picture, pieces, source, subject, bounds, style,
+        alloc, &spelling, &picture, pieces, cited, source, subject, bounds, style,
     )
 }
 
@@ -118,7 +131,9 @@ fn unread_page(
     alloc: Global,
     explanation: &Explanation,
     zone: Option<&ZoneFile>,
-) -> Result<Vec<u8>, DeskError> {
+) -> Result<Vec<u8>, DeskError>
+    ensures { IfOk result (λ text. IsUnreadReport explanation.now zone.entry text.items) }
+{
     let sentences = sentences_told(alloc, explanation, zone)?;
     let text = sentences_page(alloc, &sentences)?;
     Ok(text)
@@ -156,6 +171,13 @@ pub fn written<'a>(
     }
 }
 
+/// What the text of a certificate is read to.
+fn claim_in(alloc: Global, text: &[u8]) -> Result<Certificate, CertificateError>
+    ensures { IsReadOf text.now result }
+{
+    certificate::read(alloc, text)
+}
+
 /// The report on a certificate's text over two texts as journals, with clocks and answers within these bounds; status 0
 /// where the certificate is accepted. `Memory` where a growth was refused.
 pub fn explain_told<'a>(
@@ -172,7 +194,7 @@ pub fn explain_told<'a>(
 {
     let TimingBounds { skew, transit } = *bounds;
     let pair = source.pair;
-    let claim = certificate::read(alloc, certificate);
+    let claim = claim_in(alloc, certificate);
     let explanation = explain_read(
         rt,
         alloc,

@@ -22,6 +22,7 @@ use Rattle.volume_spans.specs.declared.spans.ReadSpans.{ReadSpans}
 use Rattle.volume_spans.specs.declared.showing.SpannedJournals.TheVariants.{Journals, Refused as ShownRefused}
 use Rattle.volume_spans.specs.Shown.{IsShownOver}
 use Rattle.volume_spans.specs.Spans.{pair_of, IsLastPair}
+use Rattle.line_origins.specs.Spans.{AreOriginsOf}
 use Rattle.joined_answers.specs.declared.answer.SpannedAnswer.{SpannedAnswer}
 use Rattle.joined_answers.specs.declared.answer.SpanTry.{SpanTry}
 use Rattle.joined_answers.specs.declared.answer.SpanTry.TheVariants.{Answered, Refused}
@@ -35,12 +36,13 @@ abbrev pub ends_of : VolumePair → VolumeEnds
 ends_of pair =
     record { primary = volume_end pair.primary.outline.ending; secondary = volume_end pair.secondary.outline.ending }
 
--- the desk's answer over the journals that the spans show, and how far these reach
+-- the desk's answer over the journals that the spans show, how far these reach, and which volumes have their lines
 pub record IsSpanAnswer (r : ReadSpans) (q : HolderQuery) (settings : SettingsCheck) (a : SpannedAnswer) : Type 0 where
   pub spans : a.spans ≡ pair_of r
   pub last : IsLastPair r a.pair
   pub is_shown : IsShownOver r.primary.volumes.items r.secondary.volumes.items (Journals a.shown)
   pub until : a.until ≡ shown_until q.skew a.shown
+  pub origins : AreOriginsOf r a.origins
   pub answer : IsAnswerOver a.shown.primary a.shown.secondary q settings (ends_of a.pair) a.answer
 
 -- the answer over these spans, or why the volumes of a side aren't one journal

@@ -16,6 +16,7 @@ use desk_args::SettingsCheck;
 use holder_answers::{HolderAnswer, NoHolder, holder_answer_over};
 use journal_archive::{FiledVolume, PairJournals, VolumeEnding, VolumePair};
 use journal_lines::Journal;
+use line_origins::SpanOrigins;
 use plain_search::HolderQuery;
 use std::alloc::Global;
 use std::thread::Threads;
@@ -32,6 +33,8 @@ pub struct SpannedAnswer {
     pub answer: HolderAnswer,
     /// The first moment of which the journals can't tell, in milliseconds of true time. `None` where one has no line.
     pub until: Option<u64>,
+    /// Which of these volumes has each line of these journals.
+    pub origins: SpanOrigins,
 }
 
 /// What comes of asking spans of both sides.
@@ -104,6 +107,7 @@ fn answer_by(
     let pair = read.last_pair();
     expect_lines(&pair, &shown)?;
     let until = shown_until(&shown, query.skew);
+    let origins = SpanOrigins::of(alloc, read)?;
     let ends = ends_of(&pair);
     match holder_answer_over(
         rt,
@@ -120,6 +124,7 @@ fn answer_by(
             shown,
             answer,
             until,
+            origins,
         }),
         Err(_) => Err(FilesError::Memory),
     }

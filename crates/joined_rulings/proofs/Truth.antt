@@ -21,6 +21,7 @@ use Rattle.archive_desk.specs.declared.judging.ArchiveJudgement.{ArchiveJudgemen
 use Rattle.archive_desk.specs.Certificates.{AreJudged}
 use Rattle.archive_desk.specs.Judging.{AcceptedClaimIsTrue}
 use Rattle.volume_spans.specs.declared.showing.SpannedJournals.TheVariants.{Journals as ShowJournals}
+use Rattle.volume_spans.specs.declared.span.SpanPair.{SpanPair}
 use Rattle.volume_spans.specs.declared.spans.ReadSpans.{ReadSpans}
 use Rattle.volume_spans.specs.Laws.{AcceptedOverSpansIsTrue}
 use Rattle.volume_spans.specs.Spans.{ArePairRead}
@@ -28,9 +29,13 @@ use Rattle.joined_rulings.specs.declared.trial.SpanAcceptance.{SpanAcceptance}
 use Rattle.joined_rulings.specs.declared.trial.SpanRuling.{SpanRuling}
 use Rattle.joined_rulings.specs.declared.widest.CertificateRuling.{CertificateRuling}
 use Rattle.joined_rulings.specs.declared.widest.CertificateRuling.TheVariants.{Own, Joined}
-use Rattle.joined_rulings.specs.Trials.{AreShownBySpans, IsAcceptance}
-use Rattle.joined_rulings.specs.Walking.{IsWalk}
-use Rattle.joined_rulings.specs.Trying.{asked_at, IsTriedAt, IsTried}
+use Rattle.joined_rulings.specs.declared.trial.SpanTrial.{SpanTrial}
+use Rattle.joined_rulings.specs.declared.trial.SpanTrial.TheVariants.{Accepted, Carried, Refused, Barred}
+use Rattle.joined_rulings.specs.Trials.{AreShownBySpans, IsAcceptance, IsTrial}
+use Rattle.joined_rulings.specs.Walking.{accepted_of, IsWalk}
+use Rattle.joined_rulings.specs.Between.{IsTriedOver}
+use Rattle.joined_rulings.specs.Trying.{asked_at, IsTriedAt, IsTriedWithin, IsTriedBehind, IsTriedBetween}
+use Rattle.joined_rulings.specs.Trying.{IsTriedLater, IsTried}
 use Rattle.joined_rulings.specs.Rulings.{IsRulingOn, AreRulings}
 use Rattle.joined_rulings.specs.Given.{AreRuledBy}
 use Rattle.joined_rulings.specs.Truth.{IsTrueOverSpans, IsTrueOverItsSpans, IsTrueRuling, AreTrueRulings}
@@ -111,6 +116,51 @@ module _ (accepted : AcceptedIsTrue) where
       subst (IsTrueOverItsSpans had archive bounds (Ok c)) same
       (h.r, h.read, h.is.spans, h.is.last, accepted h.r (asked_at c bounds at) c a h.is)
 
+  -- what spans answer that were read is an acceptance over them
+  answered_so : (had : ℕ → List ℕ → Type 0) (archive : Archive) (q : HolderQuery) (c : Claim) (r : ReadSpans)
+      (a : SpanAcceptance) → ArePairRead had archive r → (trial : SpanTrial) → IsTrial r q c trial
+      → Some a ≡ accepted_of trial → IsAcceptedSomewhere had archive q c a
+  answered_so had archive q c r a read (Accepted b) is same =
+      let e : b ≡ a = cc in
+      record { r = r; read = read; is = subst (IsAcceptance r q c) e is }
+  answered_so had archive q c r a read Carried is same = absurd (cc)
+  answered_so had archive q c r a read Refused is same = absurd (cc)
+  answered_so had archive q c r a read Barred is same = absurd (cc)
+
+  over_so : (had : ℕ → List ℕ → Type 0) (archive : Archive) (spans : SpanPair) (q : HolderQuery) (c : Claim)
+      (a : SpanAcceptance) → IsTriedOver had archive spans q c (Some a) → IsAcceptedSomewhere had archive q c a
+  over_so had archive spans q c a (inl h) = answered_so had archive q c h.0 a h.1.0 h.2.0 h.2.1 h.2.2
+  over_so had archive spans q c a (inr none) = let e = none.1 in absurd (cc)
+
+  within_so : (had : ℕ → List ℕ → Type 0) (archive : Archive) (spans : SpanPair) (r : ReadSpans) (q : HolderQuery)
+      (c : Claim) (a : SpanAcceptance) → IsTriedWithin had archive spans r q c (Some a)
+      → IsAcceptedSomewhere had archive q c a
+  within_so had archive spans r q c a (inl h) = over_so had archive spans q c a h.1
+  within_so had archive spans r q c a (inr none) = let e = none.1 in absurd (cc)
+
+  behind_so : (had : ℕ → List ℕ → Type 0) (archive : Archive) (spans : SpanPair) (q : HolderQuery) (c : Claim)
+      (a : SpanAcceptance) → IsTriedBehind had archive spans q c (Some a) → IsAcceptedSomewhere had archive q c a
+  behind_so had archive spans q c a (inl h) = within_so had archive spans h.0 q c a h.2
+  behind_so had archive spans q c a (inr none) = let e = none.1 in absurd (cc)
+
+  between_so : (had : ℕ → List ℕ → Type 0) (archive : Archive) (bounds : TimingBounds) (c : Claim) (a : SpanAcceptance)
+      (ruling : SpanRuling) → a.ruling ≡ ruling → IsTriedBetween had archive bounds c (Some a)
+      → IsTrueOverItsSpans had archive bounds (Ok c) ruling
+  between_so had archive bounds c a ruling same (inl h) =
+      somewhere had archive bounds (c.to - 1) c a ruling same
+      (behind_so had archive h.0 (asked_at c bounds (c.to - 1)) c a h.2)
+  between_so had archive bounds c a ruling same (inr none) = let e = none.1 in absurd (cc)
+
+  later_so : (had : ℕ → List ℕ → Type 0) (archive : Archive) (bounds : TimingBounds) (c : Claim) (a : SpanAcceptance)
+      (ruling : SpanRuling) → a.ruling ≡ ruling → IsTriedLater had archive bounds c (Some a)
+      → IsTrueOverItsSpans had archive bounds (Ok c) ruling
+  later_so had archive bounds c a ruling same (inl h) =
+      let e : h.0 ≡ a = cc in
+      somewhere had archive bounds (c.to - 1) c a ruling same
+      (tried_so had archive (asked_at c bounds (c.to - 1)) c a
+      (subst (λ (x : SpanAcceptance). IsTriedAt had archive (asked_at c bounds (c.to - 1)) c (Some x)) e h.2))
+  later_so had archive bounds c a ruling same (inr h) = between_so had archive bounds c a ruling same h.1
+
   joined_so : (had : ℕ → List ℕ → Type 0) (archive : Archive) (bounds : TimingBounds) (c : Claim) (a : SpanAcceptance)
       (ruling : SpanRuling) → a.ruling ≡ ruling → IsTried had archive bounds c (Some a)
       → IsTrueOverItsSpans had archive bounds (Ok c) ruling
@@ -119,9 +169,7 @@ module _ (accepted : AcceptedIsTrue) where
       somewhere had archive bounds c.from c a ruling same
       (tried_so had archive (asked_at c bounds c.from) c a
       (subst (λ (x : SpanAcceptance). IsTriedAt had archive (asked_at c bounds c.from) c (Some x)) e h.2))
-  joined_so had archive bounds c a ruling same (inr h) =
-      somewhere had archive bounds (c.to - 1) c a ruling same
-      (tried_so had archive (asked_at c bounds (c.to - 1)) c a h.1)
+  joined_so had archive bounds c a ruling same (inr h) = later_so had archive bounds c a ruling same h.1
 
   -- ---- on a text
 

@@ -1,5 +1,6 @@
 pub mod Trials
 pub mod Walking
+pub mod Between
 pub mod Trying
 pub mod Truth
 pub mod Rulings

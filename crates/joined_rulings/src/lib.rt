@@ -4,9 +4,10 @@
 //! doesn't accept it, [`audit_widest`] and [`batch_widest`] try it over the spans that `who` takes at the moment where
 //! the interval begins, and then over those that it takes at the interval's last moment (`joined_answers`): each time
 //! the volumes that show the moment, and one more in front of each side for as long as a lease of the certificate's
-//! prefix is carried there from earlier ones, within the reach of the volumes' settings. The first spans that accept it
-//! are the ruling; else the ruling over its own pair stands. Spans that aren't one journal, or against which something
-//! stands, end the search, and hide no ruling (specs/Trials, Walking, Rulings).
+//! prefix is carried there from earlier ones, within the reach of the volumes' settings. Last it tries the volumes from
+//! the first moment's to the last's. The first spans that accept it are the ruling; else the ruling over its own pair
+//! stands. Spans that aren't one journal, or against which something stands, end a search, and hide no ruling
+//! (specs/Trials, Walking, Between, Rulings).
 //!
 //! [`audit_spans`] and [`batch_spans`] rule over given volumes of both sides alone (specs/Given): those that standard
 //! error names where a ruling is over several.
@@ -19,6 +20,7 @@
 //! ```
 #![tactic(auto)]
 
+mod between;
 mod given;
 mod given_telling;
 mod judged;

@@ -30,7 +30,7 @@ impl SpanTrial {
     }
 
     /// The spans that accept the certificate, if they do.
-    fn into_accepted(self) -> Option<SpanAcceptance>
+    pub(crate) fn into_accepted(self) -> Option<SpanAcceptance>
         ensures { result ≡ accepted_of self }
     {
         match self {

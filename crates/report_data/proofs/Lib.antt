@@ -1,2 +1,2 @@
 mod LineLaws
-mod Steps
+pub mod Steps

@@ -7,6 +7,7 @@ pub mod Title
 pub mod Facts
 pub mod Origin
 pub mod Grants
+pub mod VolumeLines
 pub mod Page
 pub mod Axis
 pub mod Picture

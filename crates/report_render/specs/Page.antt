@@ -13,6 +13,7 @@ use Rattle.report_render.specs.Template.{part_text}
 use Rattle.report_render.specs.Title.{IsTitle}
 use Rattle.report_render.specs.Facts.{IsAskedText, facts_html}
 use Rattle.report_render.specs.Grants.{AreGrants}
+use Rattle.report_render.specs.VolumeLines.{AreVolumeLines}
 use Rattle.report_render.specs.Origin.{origin_html}
 
 abbrev pub opening_of : BlockKind → List ℕ
@@ -47,18 +48,19 @@ access_html [] = []
 access_html (octet ∷ access) = part_text part.BeforeAccess ++ escaped (octet ∷ access) ++ part_text part.AccessEnd
 
 -- what stands before the passages
-unfoldable pub opening_html : Page → (title asked grants : List ℕ) → List ℕ
-opening_html p title asked grants =
+unfoldable pub opening_html : Page → (title asked tables : List ℕ) → List ℕ
+opening_html p title asked tables =
     heading_html title p.spelling.now.line.items ++ facts_html p.facts asked ++ figure_html p.picture.now
-    ++ grants
+    ++ tables
 
 -- that, the passages, the access records, where the page comes from
-unfoldable pub page_html : Page → (title asked grants : List ℕ) → List ℕ
-page_html p title asked grants =
-    opening_html p title asked grants ++ flat_map passage_html p.spelling.now.passages.items
+unfoldable pub page_html : Page → (title asked tables : List ℕ) → List ℕ
+page_html p title asked tables =
+    opening_html p title asked tables ++ flat_map passage_html p.spelling.now.passages.items
     ++ access_html p.access.now ++ origin_html p.origin ++ part_text part.Tail
 
--- of this title's sentence, the text of the moment that was asked about, and the table of the pieces' grants
+-- of this title's sentence, the text of the moment that was asked about, the table of the pieces' grants, and that of
+-- the lines in their volumes
 pub record IsPage (clock : Option (Bor ZoneFile)) (p : Page) (text : List ℕ) : Type 0 where
   pub title : List ℕ
   pub title_is : IsTitle clock p.title title
@@ -66,4 +68,6 @@ pub record IsPage (clock : Option (Bor ZoneFile)) (p : Page) (text : List ℕ) :
   pub asked_is : IsAskedText clock p.facts.question asked
   pub grants : List ℕ
   pub grants_are : AreGrants p.pieces.now grants
-  pub whole : text ≡ page_html p title asked grants
+  pub lines : List ℕ
+  pub lines_are : AreVolumeLines p.origins p.cited.now lines
+  pub whole : text ≡ page_html p title asked (grants ++ lines)

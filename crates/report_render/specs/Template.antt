@@ -30,6 +30,7 @@ part_text part.ForEver = template.FOR_EVER.now
 part_text part.NoLease = template.NO_LEASE.now
 part_text part.GrantRowEnd = template.GRANT_ROW_END.now
 part_text part.GrantsEnd = template.GRANTS_END.now
+part_text part.VolumeLinesBegin = template.VOLUME_LINES_BEGIN.now
 part_text part.BeforeAccess = template.BEFORE_ACCESS.now
 part_text part.AccessEnd = template.ACCESS_END.now
 part_text part.Tail = template.TAIL.now

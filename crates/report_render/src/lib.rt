@@ -15,14 +15,16 @@
 //! A report on a ruling, as one page.
 //!
 //! [`page_of`] makes a page of HTML 5: a title that says the answer in a sentence, the facts of the question, a report
-//! that is spelled ([`spelled`]), a picture, a table of the grants that renewed the lease, access records, and where all
-//! that comes from, with the commands that check it. It has no script and asks for nothing outside of itself. Each word
-//! goes in escaped, so that none can close a tag or an attribute, whatever octets it has (law [`escaped_is_harmless`]).
-//! specs/Page is the page, specs/Title, specs/Facts, specs/Grants and specs/Origin are its pieces, specs/Escaping what
-//! escaping is.
+//! that is spelled ([`spelled`]), a picture, a table of the grants that renewed the lease, one of the lines in their
+//! volumes where a side has several, access records, and where all that comes from, with the commands that check it. It
+//! has no script and asks for nothing outside of itself. Each word goes in escaped, so that none can close a tag or an
+//! attribute, whatever octets it has (law [`escaped_is_harmless`]).
+//! specs/Page is the page, specs/Title, specs/Facts, specs/Grants, specs/VolumeLines and specs/Origin are its pieces,
+//! specs/Escaping what escaping is.
 //!
 //! ```text
-//! let page = Page { title, facts, spelling: &spelling, picture: &svg, pieces: &report.pieces, access: b"", origin };
+//! let page = Page { title, facts, spelling: &spelling, picture: &svg, pieces: &report.pieces, cited: &report.cited,
+//!     origins: None, access: b"", origin };
 //! let html = page_of(alloc, &page, None)?;
 //! ```
 //!
@@ -57,6 +59,7 @@ mod template;
 mod text;
 mod text_block;
 mod title;
+mod volume_lines;
 mod words;
 
 pub use drawing::svg_of;

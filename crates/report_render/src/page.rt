@@ -12,7 +12,9 @@ use crate::origin::{Provenance, push_origin};
 use crate::template::{PagePart, push_part};
 use crate::text_block::{RenderedText, TextBlock};
 use crate::title::{PageTitle, title_of};
-use evidence_report::PieceReport;
+use crate::volume_lines::volume_lines_of;
+use evidence_report::{CitedLine, PieceReport};
+use line_origins::SpanOrigins;
 use report_document::BlockKind;
 use std::alloc::{AllocError, Global};
 use zone_times::ZoneFile;
@@ -30,6 +32,10 @@ pub struct Page<'a, 'p> {
     /// What is shown of a certificate's pieces, whose grants go into a table; empty where nothing of a certificate was
     /// looked at.
     pub pieces: &'a [PieceReport<'p>],
+    /// The lines that the certificate names; empty where nothing of one was looked at.
+    pub cited: &'a [CitedLine],
+    /// Which volumes have the lines, where the journals are volumes.
+    pub origins: Option<&'a SpanOrigins>,
     /// The lines of access records; empty where there are none.
     pub access: &'a [u8],
     pub origin: Provenance<'a>,
@@ -121,29 +127,29 @@ fn push_opening(
     page: &Page<'_, '_>,
     title: &[u8],
     asked: &[u8],
-    grants: &[u8],
+    tables: &[u8],
 ) -> Result<(), AllocError>
-    ensures { OnOk result (out.new.items ≡ out.old.items ++ opening_html page.now title.now asked.now grants.now) }
+    ensures { OnOk result (out.new.items ≡ out.old.items ++ opening_html page.now title.now asked.now tables.now) }
 {
     push_heading(out, title, &page.spelling.line)?;
     push_facts(out, &page.facts, asked)?;
     push_figure(out, page.picture)?;
-    out.extend_from_slice(grants)
+    out.extend_from_slice(tables)
 }
 
-/// The page, of the texts of its title and of the moment that was asked about, and the table of its grants.
+/// The page, of the texts of its title and of the moment that was asked about, and its tables.
 #[tactic(auto, unfolding(crate::specs::Page::page_html))]
 fn page_text(
     alloc: Global,
     page: &Page<'_, '_>,
     title: &[u8],
     asked: &[u8],
-    grants: &[u8],
+    tables: &[u8],
 ) -> Result<Vec<u8>, AllocError>
-    ensures { IfOk result (λ text. text.items ≡ page_html page.now title.now asked.now grants.now) }
+    ensures { IfOk result (λ text. text.items ≡ page_html page.now title.now asked.now tables.now) }
 {
     let mut out = Vec::new(alloc);
-    push_opening(&mut out, page, title, asked, grants)?;
+    push_opening(&mut out, page, title, asked, tables)?;
     push_passages(&mut out, &page.spelling.passages)?;
     push_access(&mut out, page.access)?;
     push_origin(&mut out, &page.origin)?;
@@ -164,6 +170,8 @@ pub fn page_of(
 {
     let title = title_of(alloc, &page.title, zone)?;
     let asked = asked_of(alloc, zone, page.facts.question)?;
-    let grants = grants_of(alloc, page.pieces)?;
-    page_text(alloc, page, &title, &asked, &grants)
+    let mut tables = grants_of(alloc, page.pieces)?;
+    let lines = volume_lines_of(alloc, page.origins, page.cited)?;
+    tables.extend_from_slice(&lines)?;
+    page_text(alloc, page, &title, &asked, &tables)
 }

@@ -54,8 +54,10 @@ pub enum PagePart {
     NoLease,
     /// Behind what a line grants.
     GrantRowEnd,
-    /// Behind the rows of the grants.
+    /// Behind the rows of a table.
     GrantsEnd,
+    /// Before the rows of the lines in their volumes.
+    VolumeLinesBegin,
     /// Before the access records.
     BeforeAccess,
     /// Behind them.
@@ -94,6 +96,7 @@ fn part_text(part: PagePart) -> &'static str
         PagePart::NoLease => NO_LEASE,
         PagePart::GrantRowEnd => GRANT_ROW_END,
         PagePart::GrantsEnd => GRANTS_END,
+        PagePart::VolumeLinesBegin => VOLUME_LINES_BEGIN,
         PagePart::BeforeAccess => BEFORE_ACCESS,
         PagePart::AccessEnd => ACCESS_END,
         PagePart::Tail => TAIL,
@@ -191,6 +194,10 @@ const NO_LEASE: &str = "<td colspan=\"2\">grants nothing</td>";
 const GRANT_ROW_END: &str = "</tr>\n";
 
 const GRANTS_END: &str = "</tbody>\n</table>\n</div>\n";
+
+const VOLUME_LINES_BEGIN: &str =
+    "<div class=\"scroll\">\n<table class=\"grants\">\n<caption>Lines in their volumes</caption>\n\
+    <thead><tr><th scope=\"col\">Line</th><th scope=\"col\">Volume</th><th scope=\"col\">Line there</th></tr></thead>\n<tbody>\n";
 
 const BEFORE_ACCESS: &str =
     "<h2>Where the client was, as a relay said</h2>\n<p>These are access records, and no part of what is proved.</p>\n\

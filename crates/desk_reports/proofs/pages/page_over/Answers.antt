@@ -6,12 +6,14 @@ use Rattle.desk_reports.proofs.pages.page_over.Goals as goal
 pub returns : goal.returns
 returns c =
     page_text (λ text. text.items) c.args.source.now c.args.subject.now c.args.bounds.now c.args.style.now
-    c.args.spelling.now c.args.picture.now c.args.pieces.now _ c.page_of.result c.page_of.ensures (record {
+    c.args.spelling.now c.args.picture.now c.args.pieces.now c.args.cited.now _ c.page_of.result c.page_of.ensures (record {
       title = c.title.ensures;
       facts = c.facts_of-facts.ensures;
       says = refl;
       shows = refl;
       grants = refl;
+      lines = refl;
+      origins = refl;
       access = refl;
       primary = subst (λ (text : List ℕ). IsUsedText c.args.source.now.pair.now.primary
           (primary_span c.args.source.now.volumes) text c.args.primary.now.origin) (sym c.deref.ensures.value)

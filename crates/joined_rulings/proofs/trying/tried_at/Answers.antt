@@ -1,13 +1,13 @@
+use Rattle.std.specs.Prelude.{Option}
 use Rattle.std.proofs.Common.{subst}
-use Rattle.joined_answers.specs.declared.starting.MomentSpans.{MomentSpans}
-use Rattle.joined_answers.specs.Starting.{AreMomentSpans}
+use Rattle.volume_spans.specs.declared.spans.ReadSpans.{ReadSpans}
+use Rattle.joined_rulings.specs.Trying.{AreShownSpans}
 use Rattle.joined_rulings.proofs.Trials.{walked_so}
 use Rattle.joined_rulings.proofs.trying.tried_at.Goals as goal
 
-pub returns-in-Read : goal.returns-in-Read
-returns-in-Read g c =
+pub returns-in-Some : goal.returns-in-Some
+returns-in-Some g c =
     let had = g.F.JournalFiles.had c.args.files.now in
-    let q = c.args.query.now in
-    walked_so had c.args.archive.now q c.args.claim.now c.in-Read.read
-    (subst (λ (m : MomentSpans). AreMomentSpans had c.args.archive.now q.skew q.transit q.at m) c.in-Read.is
-    c.in-Ok.ensures.start) c.walked.result c.walked.ensures
+    walked_so had c.args.archive.now c.args.query.now c.args.claim.now c.in-Some.read
+    (subst (λ (o : Option ReadSpans). AreShownSpans had c.args.archive.now c.args.query.now o) c.in-Some.is
+    c.in_ok-read.ensures) c.walked.result c.walked.ensures

@@ -1,9 +1,9 @@
 use Rattle.std.specs.Prelude.{Option, Some}
-use Rattle.std.proofs.Common.{subst, refl, inl, ap, ◌∙◌, ℕ}
+use Rattle.std.proofs.Common.{subst, refl, inl}
 use Rattle.plain_search.specs.declared.query.HolderQuery.{HolderQuery}
 use Rattle.joined_rulings.specs.declared.trial.SpanAcceptance.{SpanAcceptance}
-use Rattle.joined_rulings.specs.Trying.{asked_at, IsTriedAt}
-use Rattle.joined_rulings.proofs.Trials.{last_so}
+use Rattle.joined_rulings.specs.Trying.{IsTriedAt}
+use Rattle.joined_rulings.proofs.Trials.{first_so}
 use Rattle.joined_rulings.proofs.trying.tried_over_spans.Goals as goal
 
 pub returns-in-Some : goal.returns-in-Some
@@ -24,7 +24,5 @@ returns g c =
     let claim = c.args.claim.now in
     let none = subst (λ (o : Option SpanAcceptance). IsTriedAt had c.args.archive.now c.asked_at-first.result claim o)
     c.in_default.is c.in_ok-accepted.ensures in
-    last_so had c.args.archive.now c.args.bounds.now claim c.asked_at-first.result c.asked_at-last.result
-    c.asked_at-first.ensures
-    (c.asked_at-last.ensures ∙ ap (λ (at : ℕ). asked_at claim c.args.bounds.now at) c.last_moment.ensures) none
-    c.tried_at-2.result c.tried_at-2.ensures
+    first_so had c.args.archive.now c.args.bounds.now claim c.asked_at-first.result c.asked_at-first.ensures none
+    c.tried_later.result c.tried_later.ensures

@@ -3,8 +3,7 @@
 ghost use Rattle.std.specs.Prelude.{◌≡◌, IfOk};
 ghost use Rattle.std.specs.Option.{option_map};
 ghost use Rattle.serde_json.specs.View.{view};
-ghost use Rattle.archive_desk.specs.Names.{is_single};
-ghost use Rattle.desk_reports.specs.Reports.{IsSpanData, IsVolumesData};
+ghost use Rattle.answer_data.specs.Volumes.{is_single, IsSpanData, IsVolumesData};
 
 use report_data::text_of;
 use serde_json::Value;
@@ -19,6 +18,7 @@ fn are_single(spans: &SpanPair) -> bool
 }
 
 /// The volumes of both sides, as `A40-48 B39-47`; null where they are one of each, or the texts of journals were given.
+/// `AllocError` where a growth was refused.
 pub fn volumes_value(alloc: Global, volumes: Option<&SpanPair>) -> Result<Value, AllocError>
     ensures { IfOk result (λ v. IsVolumesData (option_map (λ s. s.now) volumes.entry) (view v)) }
 {

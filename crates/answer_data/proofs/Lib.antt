@@ -1,0 +1,4 @@
+mod Feeds
+mod Lists
+mod MoreLeases
+mod Named

@@ -1,0 +1,9 @@
+pub mod Texts
+pub mod Members
+pub mod Volumes
+pub mod Parts
+pub mod Answers
+pub mod Reasons
+pub mod Leases
+pub mod Unnamed
+pub mod Laws
