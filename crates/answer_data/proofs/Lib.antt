@@ -1,4 +1,4 @@
 mod Feeds
 mod Lists
 mod MoreLeases
-mod Named
+pub mod Named

@@ -6,3 +6,4 @@ mod PageTexts
 mod Spans
 mod VolumeTruth
 mod LineLaws
+mod WhoTruth

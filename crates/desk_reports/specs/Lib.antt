@@ -9,3 +9,4 @@ pub mod Laws
 pub mod Behind
 pub mod OverFiles
 pub mod OverVolumes
+pub mod WhoLaws

@@ -1,6 +1,5 @@
 -- What the page of a report says, and of which texts.
-use Rattle.std.specs.Prelude.{◌≡◌, ℕ, ◌==◌, Bool, List, [], Option, Some, None, Result, Ok, Err, option_map, if◌then◌else◌}
-use Rattle.std.specs.Borrow.{Bor}
+use Rattle.std.specs.Prelude.{◌≡◌, ℕ, ◌==◌, List, [], Option, Some, None, Result, Ok, Err, option_map, if◌then◌else◌}
 use Rattle.journal_lines.specs.declared.line.Journal.{Journal}
 use Rattle.journal_lines.specs.declared.fault.JournalFault.{JournalFault}
 use Rattle.journal_text.specs.Spelling.{journal_text}
@@ -34,7 +33,6 @@ use Rattle.report_render.specs.declared.title.PageTitle.TheVariants as title
 use Rattle.report_render.specs.Page.{IsPage}
 use Rattle.desk_reports.specs.declared.pages.ReportSubject.{ReportSubject}
 use Rattle.desk_reports.specs.declared.pages.ReportSubject.TheVariants.{Held, Nobody, Accepted, Refused, Unread}
-use Rattle.desk_reports.specs.declared.pages.UsedText.{UsedText}
 use Rattle.desk_reports.specs.declared.style.ReportSource.{ReportSource}
 use Rattle.desk_reports.specs.declared.style.ReportStyle.{ReportStyle}
 

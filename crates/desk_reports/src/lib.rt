@@ -31,7 +31,7 @@ pub use claims::{explain_files, explain_spans};
 pub use explaining::{explain_journals, explain_read};
 pub use files::holder_in_files;
 pub use holders::{holder_told, reply_told};
-pub use laws::{accepted_reports_are_true, volume_reports_are_true};
+pub use laws::{accepted_reports_are_true, volume_reports_are_true, who_objects_are_true};
 pub use style::{ReportSource, ReportStyle, StatedFacts};
 pub use telling::explain_told;
 pub use unanswered::{ReportQuestion, failed_told, fault_data, line_page};

@@ -1,2 +1,3 @@
 mod LineLaws
 pub mod Steps
+mod Moments

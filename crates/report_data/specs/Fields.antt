@@ -1,15 +1,10 @@
 -- What stands in the fields of a report as JSON.
 use Rattle.std.specs.Prelude.{◌≡◌, ◌⊎◌, ◌≤◌, ◌++◌, ◌∷◌, [], ℕ, List, Some}
-use Rattle.serde_json.specs.Data.{Data, Members, number, unsigned, string, null, depth, put as with_member}
+use Rattle.serde_json.specs.Data.{Data, Members, string, null, depth, put as with_member}
 use Rattle.serde_json.specs.Read.{read, max_depth}
-use Rattle.serde_json.specs.Find.{get}
 use Rattle.serde_json.specs.View.{view}
 use Rattle.serde_json.specs.declared.value.Value.{Value}
 use Rattle.std.specs.Str.{IsUtf8}
-
--- the field is this number
-abbrev pub HasNumber : Data → List ℕ → ℕ → Type 0
-HasNumber d key n = get key d ≡ Some (number (unsigned n))
 
 -- the value is this text; null where it is none of UTF-8, and only there
 abbrev pub IsText : List ℕ → Data → Type 0

@@ -7,7 +7,8 @@ use Rattle.causal_order.specs.declared.certificate.Certificate.{Certificate}
 use Rattle.evidence_report.specs.declared.report.Report.{Report}
 use Rattle.pair_judgement.specs.Judgements.{judgement_text}
 use Rattle.report_document.specs.declared.document.Explanation.{Explanation}
-use Rattle.report_data.specs.Fields.{HasNumber, IsText, IsLineOf}
+use Rattle.time_text.specs.Time.{IsTimeText}
+use Rattle.report_data.specs.Fields.{IsText, IsLineOf}
 
 -- with a value of this form at this name the members are so
 pub record With (name : List ℕ) (form : Data → Type 0) (so : Members → Type 0) (ms : Members) : Type 0 where
@@ -25,9 +26,13 @@ Any d = ⊤
 abbrev pub IsCount : ℕ → Data → Type 0
 IsCount n d = d ≡ number (unsigned n)
 
--- a moment: an object with its milliseconds since 1970
+-- what RFC 3339 writes for a moment in UTC; its milliseconds from the year 10000 on
+abbrev pub IsUtc : ℕ → Data → Type 0
+IsUtc moment d = (text : List ℕ) × IsTimeText moment text × IsText text d
+
+-- a moment: an object of its milliseconds since 1970, and of that
 abbrev pub IsTime : ℕ → Data → Type 0
-IsTime moment d = HasNumber d (codes "ms") moment
+IsTime moment d = With (codes "ms") (IsCount moment) (With (codes "utc") (IsUtc moment) (IsObject d)) no_members
 
 -- whom a certificate names, and where and when
 abbrev pub IsQuestion : Certificate → Data → Type 0

@@ -6,7 +6,10 @@ ghost use Rattle.client_id.specs.Duid.{iaid_text};
 ghost use Rattle.prefix_range.specs.Text.{prefix_text};
 ghost use Rattle.attribution.specs.VerdictText.{side_text, place_text};
 ghost use Rattle.serde_json.specs.View.{view};
-ghost use Rattle.report_data.specs.Fields.{HasNumber, IsText};
+ghost use Rattle.std.specs.Fmt.{decimal};
+ghost use Rattle.time_text.specs.Time.{IsTimeText};
+ghost use Rattle.report_data.specs.Fields.{IsText};
+ghost use Rattle.report_data.specs.Rulings.{IsTime, IsUtc};
 
 use crate::object::Object;
 use attribution::push_place;
@@ -33,19 +36,51 @@ pub fn text_of(alloc: Global, octets: &[u8]) -> Result<Value, AllocError>
     }
 }
 
+/// What RFC 3339 writes for a moment. `AllocError` where a growth was refused.
+fn moment_text(alloc: Global, moment: Reading) -> Result<Vec<u8>, AllocError>
+    ensures { IfOk result (λ text. IsTimeText moment text.items) }
+{
+    let mut text = Vec::new(alloc);
+    push_time(&mut text, moment)?;
+    Ok(text)
+}
+
+/// A number's digits. `AllocError` where a growth was refused.
+fn digits_of(alloc: Global, number: u64) -> Result<Vec<u8>, AllocError>
+    ensures { IfOk result (λ text. text.items ≡ decimal number) }
+{
+    let mut text = Vec::new(alloc);
+    push_number(&mut text, number)?;
+    Ok(text)
+}
+
+/// What RFC 3339 writes for milliseconds since 1970 in UTC; the milliseconds from the year 10000 on. `AllocError` where a
+/// growth was refused.
+fn utc_text(alloc: Global, milliseconds: u64) -> Result<Vec<u8>, AllocError>
+    ensures { IfOk result (λ text. IsTimeText milliseconds text.items) }
+{
+    match Reading::new(milliseconds) {
+        Ok(moment) => moment_text(alloc, moment),
+        Err(_) => digits_of(alloc, milliseconds),
+    }
+}
+
+/// The same as a value. `AllocError` where a growth was refused.
+fn utc_of(alloc: Global, milliseconds: u64) -> Result<Value, AllocError>
+    ensures { IfOk result (λ v. IsUtc milliseconds (view v)) }
+{
+    let text = utc_text(alloc, milliseconds)?;
+    text_of(alloc, &text)
+}
+
 /// A moment or a reading, in milliseconds since 1970: an object of these, and of what RFC 3339 writes for them in UTC.
 /// `AllocError` where a growth was refused.
 pub fn time_of(alloc: Global, milliseconds: u64) -> Result<Value, AllocError>
-    ensures { IfOk result (λ v. HasNumber (view v) (codes "ms") milliseconds) }
+    ensures { IfOk result (λ v. IsTime milliseconds (view v)) }
 {
-    let mut text = Vec::new(alloc);
-    match Reading::new(milliseconds) {
-        Ok(moment) => push_time(&mut text, moment)?,
-        Err(_) => push_number(&mut text, milliseconds)?,
-    }
     Object::new(alloc)
         .with("ms", milliseconds)
-        .with_made("utc", text_of(alloc, &text))
+        .with_made("utc", utc_of(alloc, milliseconds))
         .into_value()
 }
 
