@@ -1,0 +1,6 @@
+pub mod Contents
+pub mod Numbers
+pub mod Cuts
+pub mod Apart
+pub mod Names
+pub mod Showing
